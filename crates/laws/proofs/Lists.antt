@@ -1,0 +1,33 @@
+-- Laws of lists in the code's form: the code counts by + 1, the library's lemmas by suc.
+use mathlib.Core.Path.{_≡_, refl, sym, ap, _∙_}
+use Prim.Native.Nat.{ℕ, zero, suc, _+_, _≤_, _<_}
+use native.Mathlib.Omega.{arith}
+use native.Mathlib.Numerals.{add-one, add-two}
+use mathlib.Core.List.{List, [], _∷_, _++_}
+use lib.ListN.{length, getD, take, drop, set, drop-of-length-le}
+use lib.Seq.{drop-cons, sets, sets-eq}
+
+pub drop-next : (xs : List ℕ) (i : ℕ) → i < length xs → drop i xs ≡ getD xs i 0 ∷ drop (i + 1) xs
+drop-next xs i h = rw (add-one i) (drop-cons xs i 0 h)
+
+pub drop-two : (xs : List ℕ) (i : ℕ) → i + 1 < length xs → drop i xs ≡ getD xs i 0 ∷ getD xs (i + 1) 0 ∷ drop (i + 2) xs
+drop-two xs i h = rw (add-one i, add-two i) (drop-cons xs i 0 (omega arith) ∙ ap (λ (r : List ℕ). getD xs i 0 ∷ r) (drop-cons xs (suc i) 0 (omega arith)))
+
+pub drop-none : (xs : List ℕ) (i : ℕ) → length xs ≤ i → drop i xs ≡ []
+drop-none xs i h = drop-of-length-le xs h
+
+-- what a writer has still to write, one cell or two cells on
+pub sets-one : (out : List ℕ) (k v : ℕ) (vs : List ℕ) → sets out k (v ∷ vs) ≡ sets (set out k v) (k + 1) vs
+sets-one out k v vs = rw (add-one k)
+
+pub sets-two : (out : List ℕ) (k v w : ℕ) (vs : List ℕ) → sets out k (v ∷ w ∷ vs) ≡ sets (set (set out k v) (k + 1) w) (k + 2) vs
+sets-two out k v w vs = rw (add-one k, add-two k)
+
+-- all written from cell 0: the rest is as it was
+pub sets-front : (vs out : List ℕ) → length vs ≤ length out → sets out 0 vs ≡ vs ++ drop (length vs) out
+sets-front vs out h = let e : 0 + length vs ≡ length vs = omega arith in sets-eq vs out 0 (omega arith) ∙ rw e
+
+-- two parts written one after the other
+pub sets-append : (out : List ℕ) (k : ℕ) (vs ws : List ℕ) → sets out k (vs ++ ws) ≡ sets (sets out k vs) (k + length vs) ws
+sets-append out k [] ws = let e : k + 0 ≡ k = omega arith in rw e
+sets-append out k (v ∷ vs) ws = let e : k + suc (length vs) ≡ suc k + length vs = omega arith in rw e (sets-append (set out k v) (suc k) vs ws)
