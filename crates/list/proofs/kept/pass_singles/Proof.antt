@@ -1,0 +1,94 @@
+-- What is left of the pass is the same in each turn.
+use Prim.Native.Nat.{_-_, _/_}
+use mathlib.Core.Path.{_≡_, refl, sym, _∙_}
+use native.Mathlib.Omega.{arith}
+use lib.ListN.{length, drop}
+use denote.Ref.{now}
+use borrow.Author.Needs.{needs}
+use Rattle.list.specs.Cell.{numbersIn}
+use Rattle.list.specs.Passed.{passed}
+use Rattle.list.proofs.CellLaws.{numbersIn-length}
+use Rattle.list.proofs.PassedLaws.{passed-end, passed-stop, passed-bad, passed-on}
+use Rattle.list.proofs.kept.pass_singles.Statement.{statement}
+use Rattle.list.proofs.kept.pass_singles.Tie as tie
+
+abbrev Inv-loop : tie.InvT-loop
+Inv-loop singles bound least0 count i₀ least₀ i least =
+    (count ≡ length singles / 4) × (passed bound least₀ i₀ (drop i₀ (numbersIn singles)) ≡ passed bound least i (drop i (numbersIn singles)))
+
+abbrev μ-loop : tie.MeasureT-loop
+μ-loop singles bound least0 count i₀ least₀ i least = count - i
+
+loop-holds : tie.Need-loop-holds Inv-loop μ-loop
+loop-holds c = (refl, refl)
+
+number-at-requires : tie.Need-number-at-requires Inv-loop μ-loop
+number-at-requires c κs = search needs
+
+returns : tie.Need-returns Inv-loop μ-loop
+returns c =
+    let at = c .before .before .before in
+    let l = at .loop in
+    let a = at .before .before .args in
+    let xs = numbersIn (now (a .singles)) in
+    let n = numbersIn-length (now (a .singles)) in
+    let e = c .before .number-at .ensures in
+    sym (l .inv .1 ∙ passed-stop (a .bound) (l .least) xs (l .i) (omega arith) (omega (arith, c .if1 .taken)))
+
+returns-2 : tie.Need-returns-2 Inv-loop μ-loop
+returns-2 c =
+    let at = c .before .before .before .before in
+    let l = at .loop in
+    let a = at .before .before .args in
+    let xs = numbersIn (now (a .singles)) in
+    let n = numbersIn-length (now (a .singles)) in
+    let e = c .before .before .number-at .ensures in
+    sym (l .inv .1 ∙ passed-bad (a .bound) (l .least) xs (l .i) (omega arith) (omega (arith, c .before .if1 .left)) (omega (arith, c .if2 .taken)))
+
+add-least : tie.Need-add-least Inv-loop μ-loop
+add-least c = search needs
+
+add-i : tie.Need-add-i Inv-loop μ-loop
+add-i c = search needs
+
+loop-less : tie.Need-loop-less Inv-loop μ-loop
+loop-less c = search needs
+
+loop-again : tie.Need-loop-again Inv-loop μ-loop
+loop-again c =
+    let at = c .before .before .before .before in
+    let l = at .loop in
+    let a = at .before .before .args in
+    let xs = numbersIn (now (a .singles)) in
+    let n = numbersIn-length (now (a .singles)) in
+    let e = c .before .before .number-at .ensures in (
+      refl,
+      l .inv .1
+          ∙ passed-on (a .bound) (l .least) xs (l .i) (omega arith) (omega (arith, c .before .if1 .left)) (omega (arith, c .if2 .left))
+          ∙ rw e,
+    )
+
+returns-3 : tie.Need-returns-3 Inv-loop μ-loop
+returns-3 c =
+    let at = c .before in
+    let l = at .loop in
+    let a = at .before .before .args in
+    let xs = numbersIn (now (a .singles)) in
+    let n = numbersIn-length (now (a .singles)) in
+    sym (l .inv .1 ∙ passed-end (a .bound) (l .least) xs (l .i) (omega arith))
+
+pub pass-singles-spec : {M : Type 1} → statement M
+pass-singles-spec =
+    tie.close
+    (tie.spec
+    Inv-loop
+    μ-loop
+    loop-holds
+    number-at-requires
+    returns
+    returns-2
+    add-least
+    add-i
+    loop-less
+    loop-again
+    returns-3)

@@ -1,0 +1,40 @@
+-- Definitions 1 to 3 of Ginix, over lists of cells.
+use Prim.Native.Nat.{ℕ, _+_}
+use mathlib.Core.Bool.{Bool, true, false, _&&_, _||_}
+use mathlib.Core.List.{List, [], _∷_}
+use lib.Dec.{leb, ltb}
+use Rattle.list.specs.Interval.{top, names}
+use Rattle.list.specs.Stretches.{cellsOf}
+
+-- "Union of lists: records in at least one."
+unfoldable pub inSome : List (List ℕ) → ℕ → Bool
+inSome [] x = false
+inSome (c ∷ cs) x = names c x || inSome cs x
+
+unfoldable pub unionOf : List (List ℕ) → List ℕ
+unionOf cs = cellsOf (inSome cs) top
+
+-- "Intersection: records in all."
+unfoldable pub inEvery : List (List ℕ) → ℕ → Bool
+inEvery [] x = true
+inEvery (c ∷ cs) x = names c x && inEvery cs x
+
+unfoldable pub intersectionOf : List (List ℕ) → List ℕ
+intersectionOf cs = cellsOf (inEvery cs) top
+
+-- 1 where the test holds, else 0
+abbrev pub one : Bool → ℕ
+one true = 1
+one false = 0
+
+-- "Probing [a, b] in a list answers the number of its intervals wholly below a,
+unfoldable pub belowCount : ℕ → List ℕ → ℕ
+belowCount a [] = 0
+belowCount a (l ∷ []) = 0
+belowCount a (l ∷ u ∷ r) = one (ltb u a) + belowCount a r
+
+-- and how many overlap [a, b]."
+unfoldable pub overlapCount : ℕ → ℕ → List ℕ → ℕ
+overlapCount a b [] = 0
+overlapCount a b (l ∷ []) = 0
+overlapCount a b (l ∷ u ∷ r) = one (leb l b && leb a u) + overlapCount a b r

@@ -1,0 +1,51 @@
+-- "In the index a list is kept .. first the singles S, then the lower bounds L and upper bounds U of the intervals longer than one."
+use Prim.Native.Nat.{ℕ, zero, suc, _+_}
+use mathlib.Core.Bool.{Bool, true, false, cond, _&&_}
+use mathlib.Core.List.{List, [], _∷_}
+use lib.Dec.{ltb}
+use lib.ListN.{length, getD}
+use Rattle.list.specs.declared.Place.{Place}
+use Rattle.list.specs.Interval.{isProper}
+
+-- "Two positions walk it, one in S and one in L/U": from the start of both
+abbrev pub start : Place
+start = record { p = record { 0 = 0 }; q = record { 0 = 0 } }
+
+-- "The smaller of S[p] and L[q] is next; when one side is used up, the other is next.": whether a single is next at p and q
+abbrev pub singleNext : List ℕ → List ℕ → ℕ → ℕ → Bool
+singleNext S L p q = cond (ltb p (length S)) (cond (ltb q (length L)) (ltb (getD S p 0) (getD L q 0)) true) false
+
+-- the position of the side that was next moves on
+abbrev pub moved : Bool → Place → Place
+moved true at = record { p = record { 0 = at .p .0 + 1 }; q = record { 0 = at .q .0 } }
+moved false at = record { p = record { 0 = at .p .0 }; q = record { 0 = at .q .0 + 1 } }
+
+abbrev pub nextPlace : List ℕ → List ℕ → Place → Place
+nextPlace S L at = moved (singleNext S L (at .p .0) (at .q .0)) at
+
+-- the bounds of the interval that is next: a single is its own lower and upper bound
+abbrev pub lowerAt : List ℕ → List ℕ → Place → ℕ
+lowerAt S L at = cond (singleNext S L (at .p .0) (at .q .0)) (getD S (at .p .0) 0) (getD L (at .q .0) 0)
+
+abbrev pub upperAt : List ℕ → List ℕ → List ℕ → Place → ℕ
+upperAt S L U at = cond (singleNext S L (at .p .0) (at .q .0)) (getD S (at .p .0) 0) (getD U (at .q .0) 0)
+
+-- the cells of the k intervals from a place on
+unfoldable pub walkFrom : List ℕ → List ℕ → List ℕ → Place → ℕ → List ℕ
+walkFrom S L U at zero = []
+walkFrom S L U at (suc k) = lowerAt S L at ∷ upperAt S L U at ∷ walkFrom S L U (nextPlace S L at) k
+
+-- the list that the walk gives
+unfoldable pub walked : List ℕ → List ℕ → List ℕ → List ℕ
+walked S L U = walkFrom S L U start (length S + length L)
+
+-- whether L and U are equally long, with each L[q] < U[q]
+unfoldable pub areLonger : List ℕ → List ℕ → Bool
+areLonger [] [] = true
+areLonger [] (u ∷ us) = false
+areLonger (l ∷ ls) [] = false
+areLonger (l ∷ ls) (u ∷ us) = ltb l u && areLonger ls us
+
+-- "List rule: each list is proper, within 1 to N, with L[q] < U[q]."
+unfoldable pub isKept : ℕ → List ℕ → List ℕ → List ℕ → Bool
+isKept n S L U = areLonger L U && isProper n (walked S L U)

@@ -1,0 +1,79 @@
+// The list rule, in one pass over a kept list.
+ghost use mathlib.Core.Path.{_≡_};
+ghost use Prim.Native.Nat.{_+_, _≤_};
+ghost use lib.ListN.{length, drop};
+ghost use Rattle.list.specs.Interval.{top};
+ghost use Rattle.list.specs.Cell.{numbersIn};
+ghost use Rattle.list.specs.Kept.{isKept};
+ghost use Rattle.list.specs.Passed.{passed};
+use crate::END;
+use crate::SingleAt;
+use crate::cell::number_at;
+
+// Where a pass over singles ended, and the least that the next interval may begin with there.
+pub struct Pass {
+    pub p: SingleAt,
+    pub least: u32,
+}
+
+// Passes the singles below the bound, each of which has to be at least the one before plus 2: behind one that is not, nothing may begin.
+fn pass_singles(singles: &[u8], from: SingleAt, bound: u32, least0: u32) -> Pass
+    requires { ⌜ bound ≤ top + 1 ⌝ }
+    ensures { λ r. ⌜ r ≡ passed bound least0 (from .0) (drop (from .0) (numbersIn (now (singles .entry)))) ⌝ }
+{
+    let count = singles.len() / 4;
+    let mut i = from.0;
+    let mut least = least0;
+    while i < count {
+        let s = number_at(singles, i);
+        if bound <= s {
+            return Pass {
+                p: SingleAt(i),
+                least,
+            };
+        }
+        if s < least {
+            return Pass {
+                p: SingleAt(i),
+                least: END,
+            };
+        }
+        least = s + 2;
+        i += 1;
+    }
+    Pass {
+        p: SingleAt(i),
+        least,
+    }
+}
+
+// Whether the three regions are a list within 1 to n that keeps the list rule: by the pairs, with the singles before each passed on the way.
+pub fn is_kept(singles: &[u8], lower: &[u8], upper: &[u8], n: u32) -> bool
+    requires { ⌜ (length (now lower) ≡ length (now upper)) × (n ≤ top) ⌝ }
+    ensures { λ r. ⌜ r ≡ isKept n (numbersIn (now (singles .entry))) (numbersIn (now (lower .entry))) (numbersIn (now (upper .entry))) ⌝ }
+{
+    let count = lower.len() / 4;
+    let mut p = SingleAt(0);
+    let mut q = 0;
+    let mut least: u32 = 1;
+    while q < count {
+        let l = number_at(lower, q);
+        let u = number_at(upper, q);
+        if u <= l {
+            return false;
+        }
+        if n < u {
+            return false;
+        }
+        let pass = pass_singles(singles, p, l, least);
+        if l < pass.least {
+            return false;
+        }
+        p = pass.p;
+        least = u + 2;
+        q += 1;
+    }
+    let rest = pass_singles(singles, p, n + 1, least);
+    let end = rest.p;
+    end.0 == singles.len() / 4
+}

@@ -1,0 +1,31 @@
+// Interval lists: numbers to stretches and back, and the reader of one list as an index keeps it.
+
+pub mod answer;
+pub mod cell;
+pub mod convert;
+pub mod kept;
+pub mod probe;
+pub mod put;
+pub mod reading;
+pub mod seek;
+pub mod sense;
+
+// Above every record number.
+pub const END: u32 = 16_777_216;
+
+// The two positions that walk a kept list, the paper's p and q: one cannot be passed for the other.
+pub struct SingleAt(pub usize);
+
+pub struct PairAt(pub usize);
+
+// A reading place: the next single and the next pair.
+pub struct Place {
+    pub p: SingleAt,
+    pub q: PairAt,
+}
+
+// What a call that writes answers: how much it wrote, or why it did not.
+pub enum Written {
+    Wrote(usize),
+    Refused(refusal::Refusal),
+}

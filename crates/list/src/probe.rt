@@ -1,0 +1,29 @@
+// Probing a kept list.
+ghost use mathlib.Core.Path.{_≡_};
+ghost use Prim.Native.Nat.{_≤_};
+ghost use Rattle.list.specs.Interval.{top};
+ghost use Rattle.list.specs.Reading.{KeptIn, listIn};
+ghost use Rattle.list.specs.Ginix.{belowCount, overlapCount};
+use crate::seek::count_below;
+
+pub struct Probe {
+    pub below: usize,
+    pub overlapping: usize,
+}
+
+// How many intervals lie wholly below a, and how many overlap [a, b]: what ends before a, and what begins by b, counted on each side.
+pub fn probe_list(singles: &[u8], lower: &[u8], upper: &[u8], a: u32, b: u32) -> Probe
+    requires { ⌜ KeptIn top (now singles) (now lower) (now upper) × (a ≤ b) × (b ≤ top) ⌝ }
+    ensures below { λ r. ⌜ r .below ≡ belowCount a (listIn (now (singles .entry)) (now (lower .entry)) (now (upper .entry))) ⌝ }
+    ensures overlapping { λ r. ⌜ r .overlapping ≡ overlapCount a b (listIn (now (singles .entry)) (now (lower .entry)) (now (upper .entry))) ⌝ }
+{
+    let singles_ended = count_below(singles, 0, a);
+    let pairs_ended = count_below(upper, 0, a);
+    let singles_begun = count_below(singles, singles_ended, b + 1);
+    let pairs_begun = count_below(lower, pairs_ended, b + 1);
+    let below = singles_ended + pairs_ended;
+    Probe {
+        below,
+        overlapping: singles_begun + pairs_begun - below,
+    }
+}

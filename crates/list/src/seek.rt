@@ -1,0 +1,77 @@
+// How many numbers of an ascending region lie below x.
+ghost use mathlib.Core.Path.{_≡_};
+ghost use Prim.Native.Nat.{_+_, _/_, _≤_, min};
+ghost use lib.ListN.{length};
+ghost use Rattle.list.specs.Cell.{numbersIn};
+ghost use Rattle.list.specs.Seek.{countBelow, Ascends};
+use crate::cell::number_at;
+
+fn smaller(a: usize, b: usize) -> usize
+    ensures { λ r. ⌜ r ≡ min a b ⌝ }
+{
+    if a < b { a } else { b }
+}
+
+// The count, which lies from lo0 to hi0, by halves.
+fn halve(region: &[u8], lo0: usize, hi0: usize, x: u32) -> usize
+    requires { ⌜ Ascends (numbersIn (now region)) × (hi0 ≤ length (now region) / 4) ⌝ }
+    requires { ⌜ (lo0 ≤ countBelow x (numbersIn (now region))) × (countBelow x (numbersIn (now region)) ≤ hi0) ⌝ }
+    ensures { λ r. ⌜ r ≡ countBelow x (numbersIn (now (region .entry))) ⌝ }
+{
+    let mut lo = lo0;
+    let mut hi = hi0;
+    while lo < hi {
+        let mid = lo + (hi - lo) / 2;
+        if number_at(region, mid) < x {
+            lo = mid + 1;
+        } else {
+            hi = mid;
+        }
+    }
+    lo
+}
+
+// The count from a place that is not past it: by steps that double, then by halves.
+pub fn count_below(region: &[u8], from: usize, x: u32) -> usize
+    requires { ⌜ Ascends (numbersIn (now region)) × (from ≤ countBelow x (numbersIn (now region))) ⌝ }
+    ensures { λ r. ⌜ r ≡ countBelow x (numbersIn (now (region .entry))) ⌝ }
+{
+    let n = region.len() / 4;
+    let mut lo = from;
+    let mut hi = from;
+    let mut step: usize = 1;
+    while hi < n {
+        if x <= number_at(region, hi) {
+            return halve(region, lo, hi, x);
+        }
+        lo = hi + 1;
+        hi = lo + smaller(step, n - lo);
+        step = 2 * smaller(step, n);
+    }
+    halve(region, lo, hi, x)
+}
+
+// The hint, where one comparison tells that it is not past the count, or 0.
+fn not_past(region: &[u8], hint: usize, x: u32) -> usize
+    requires { ⌜ Ascends (numbersIn (now region)) ⌝ }
+    ensures { λ r. ⌜ r ≤ countBelow x (numbersIn (now (region .entry))) ⌝ }
+{
+    if hint == 0 {
+        return 0;
+    }
+    if region.len() / 4 < hint {
+        return 0;
+    }
+    if number_at(region, hint - 1) < x {
+        return hint;
+    }
+    0
+}
+
+// The count from any hint.
+pub fn seek(region: &[u8], hint: usize, x: u32) -> usize
+    requires { ⌜ Ascends (numbersIn (now region)) ⌝ }
+    ensures { λ r. ⌜ r ≡ countBelow x (numbersIn (now (region .entry))) ⌝ }
+{
+    count_below(region, not_past(region, hint, x), x)
+}
