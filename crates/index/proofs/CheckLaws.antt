@@ -1,0 +1,111 @@
+-- What a check answers, refusal by refusal, and that it answers Good exactly of a sound index.
+use Prim.Native.Nat.{ℕ, _≤_, _<_}
+use mathlib.Core.Path.{_≡_, refl, _∙_}
+use native.Mathlib.Omega.{arith}
+use mathlib.Core.Bool.{Bool, true, false, cond}
+use mathlib.Core.List.{List}
+use lib.ListN.{length}
+use borrow.Author.Tests.{lt-ltb, le-ltb, eq-eqb, ne-eqb}
+use Rattle.refusal.specs.declared.Found.{Found}
+use Rattle.refusal.specs.declared.Found.the-variants.{At, Nowhere}
+use Rattle.refusal.specs.declared.Refusal.{Refusal}
+use Rattle.refusal.specs.declared.Refusal.the-variants.{IndexLength, Edition, Trailer, Directory, KeptList}
+use Rattle.refusal.specs.First.{first}
+use Rattle.refusal.proofs.FirstLaws.{first-none, first-none-is}
+use Rattle.index.specs.declared.Checked.{Checked}
+use Rattle.index.specs.declared.Checked.the-variants.{Good, Refused}
+use Rattle.index.specs.Format.{wordCount, edition}
+use Rattle.index.specs.Sound.{badLength, badEdition, badTrailer, badEntry, badEnd, badList, Sound}
+use Rattle.index.specs.Check.{badPlace, badEntryOf, entriesAnswer, badListOf, listsAnswer, contentsOf, checkOf}
+
+-- ---- refusal by refusal
+
+module _ (index : List ℕ) where
+  pub length-good : 20 ≤ length index → length index ≤ 16777216 → badLength index ≡ false
+  unfolding badLength
+  length-good h k = rw (le-ltb (length index) 20 h, le-ltb 16777216 (length index) k)
+
+  pub edition-good : edition index ≡ 1 → badEdition index ≡ false
+  unfolding badEdition
+  edition-good e = rw (eq-eqb (edition index) 1 e)
+
+  pub check-short : length index < 20 → checkOf index ≡ Refused (IndexLength (length index))
+  unfolding checkOf badLength
+  check-short h = rw (lt-ltb (length index) 20 h)
+
+  pub check-long : 20 ≤ length index → 16777216 < length index → checkOf index ≡ Refused (IndexLength (length index))
+  unfolding checkOf badLength
+  check-long h k = rw (le-ltb (length index) 20 h, lt-ltb 16777216 (length index) k)
+
+  pub check-edition : badLength index ≡ false → (edition index ≡ 1 → ⊥) → checkOf index ≡ Refused (Edition (edition index))
+  unfolding checkOf badEdition
+  check-edition h n = rw (h, ne-eqb (edition index) 1 n)
+
+  pub check-trailer : badLength index ≡ false → badEdition index ≡ false → badTrailer index ≡ true → checkOf index ≡ Refused Trailer
+  unfolding checkOf
+  check-trailer h k e = rw (h, k, e)
+
+  pub check-contents : badLength index ≡ false → badEdition index ≡ false → badTrailer index ≡ false → checkOf index ≡ contentsOf index
+  unfolding checkOf
+  check-contents h k e = rw (h, k, e)
+
+  pub contents-directory : (i : ℕ) → badEntryOf index ≡ At i → contentsOf index ≡ Refused (Directory i)
+  unfolding contentsOf
+  contents-directory i e = rw e
+
+  pub contents-list : (i : ℕ) → badEntryOf index ≡ Nowhere → badListOf index ≡ At i → contentsOf index ≡ Refused (KeptList i)
+  unfolding contentsOf
+  contents-list i e f = rw (e, f)
+
+  pub contents-good : badEntryOf index ≡ Nowhere → badListOf index ≡ Nowhere → contentsOf index ≡ Good
+  unfolding contentsOf
+  contents-good e f = rw (e, f)
+
+-- ---- Good, exactly of a sound index
+
+pub not-good : {A : Type 0} (r : Refusal) → Refused r ≡ Good → A
+not-good r e = absurd (let z : _≡_ {A = ℕ} 0 1 = cc in omega arith)
+
+passed : (t : Bool) (r : Refusal) (next : Checked) → cond t (Refused r) next ≡ Good → (t ≡ false) × (next ≡ Good)
+passed true r next e = not-good r e
+passed false r next e = (refl, e)
+
+entries-passed : (f : Found) (next : Checked) → entriesAnswer f next ≡ Good → (f ≡ Nowhere) × (next ≡ Good)
+entries-passed (At i) next e = not-good (Directory i) e
+entries-passed Nowhere next e = (refl, e)
+
+lists-passed : (f : Found) → listsAnswer f ≡ Good → f ≡ Nowhere
+lists-passed (At i) e = not-good (KeptList i) e
+lists-passed Nowhere e = refl
+
+somewhere : {A : Type 0} (i : ℕ) → At i ≡ Nowhere → A
+somewhere i e = absurd (let z : _≡_ {A = ℕ} 0 1 = cc in omega arith)
+
+place-none : (f : Found) (ends : Bool) (n : ℕ) → badPlace f ends n ≡ Nowhere → (f ≡ Nowhere) × (ends ≡ false)
+place-none (At i) ends n e = somewhere i e
+place-none Nowhere true n e = somewhere n e
+place-none Nowhere false n e = (refl, refl)
+
+pub entries-good : (index : List ℕ) → badEntryOf index ≡ Nowhere → (i : ℕ) → i < wordCount index → badEntry index i ≡ false
+entries-good index e = first-none (badEntry index) (wordCount index) (place-none (first (badEntry index) (wordCount index)) (badEnd index) (wordCount index) e .0)
+
+pub good-sound : (index : List ℕ) → checkOf index ≡ Good → Sound index
+unfolding checkOf contentsOf
+good-sound index e =
+    let a = passed (badLength index) (IndexLength (length index)) _ e in
+    let b = passed (badEdition index) (Edition (edition index)) _ (a .1) in
+    let c = passed (badTrailer index) Trailer _ (b .1) in
+    let d = entries-passed (badEntryOf index) (listsAnswer (badListOf index)) (c .1) in
+    record {
+      size = a .0;
+      issue = b .0;
+      trailer = c .0;
+      entries = entries-good index (d .0);
+      ends = place-none (first (badEntry index) (wordCount index)) (badEnd index) (wordCount index) (d .0) .1;
+      lists = first-none (badList index) (wordCount index) (lists-passed (badListOf index) (d .1));
+    }
+
+pub sound-good : (index : List ℕ) → Sound index → checkOf index ≡ Good
+sound-good index s =
+    check-contents index (s .size) (s .issue) (s .trailer)
+    ∙ contents-good index (rw (first-none-is (badEntry index) (wordCount index) (s .entries), s .ends)) (first-none-is (badList index) (wordCount index) (s .lists))

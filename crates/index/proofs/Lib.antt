@@ -1,0 +1,8 @@
+pub mod EntryLaws
+pub mod SoundLaws
+pub mod FrameLaws
+pub mod RuleLaws
+pub mod GoingLaws
+pub mod CheckLaws
+pub mod HasLaws
+pub mod AnswerLaws

@@ -1,0 +1,77 @@
+-- The invariant: the first bad list is the first from entry i on.
+use Prim.Native.Nat.{_-_, _≤_}
+use mathlib.Core.Path.{_≡_, sym, _∙_}
+use native.Mathlib.Omega.{arith}
+use denote.Ref.{now}
+use Rattle.refusal.specs.First.{first, firstFrom}
+use Rattle.refusal.proofs.FirstLaws.{first-start, first-hit, first-miss, first-end}
+use Rattle.index.specs.Format.{wordCount}
+use Rattle.index.specs.Sound.{badList}
+use Rattle.index.proofs.RuleLaws.{told-bad, told-good, list-room}
+use borrow.Author.Needs.{needs}
+use Rattle.index.proofs.check.first_bad_list.Statement.{statement}
+use Rattle.index.proofs.check.first_bad_list.Tie as tie
+
+abbrev Inv-loop : tie.InvT-loop
+Inv-loop index trailer i₀ i = (i ≤ wordCount index) × (first (badList index) (wordCount index) ≡ firstFrom (badList index) i (wordCount index - i))
+
+abbrev μ-loop : tie.MeasureT-loop
+μ-loop index trailer i₀ i = trailer .count - i
+
+loop-holds : tie.Need-loop-holds Inv-loop μ-loop
+loop-holds c =
+    (omega arith, let index = now (c .before .args .index) in first-start (badList index) (wordCount index))
+
+entry-at-requires : tie.Need-entry-at-requires Inv-loop μ-loop
+entry-at-requires c κs = search needs
+
+list-good-requires : tie.Need-list-good-requires Inv-loop μ-loop
+list-good-requires c κs =
+    let start = c .before .before .before .before .before in
+    let at = c .before .before .before .loop in
+    let index = now (start .args .index) in
+    let room = list-room index (start .args .trailer) (at .i) (c .entry-at .result) (start .pre .0) (c .entry-at .ensures) (start .pre .1 (at .i) (omega arith)) in
+    search needs
+
+returns : tie.Need-returns Inv-loop μ-loop
+returns c =
+    let start = c .before .before .before .before .before .before .before in
+    let at = c .before .before .before .before .before .loop in
+    let index = now (start .args .index) in
+    let rule = c .before .list-good .ensures (at .i) (c .before .before .entry-at .ensures) (start .pre .0 .is .highest) in
+    sym (at .inv .1 ∙ first-hit (badList index) (at .i) (wordCount index) (omega arith) (told-bad _ _ rule (c .if2 .taken)))
+
+add-i : tie.Need-add-i Inv-loop μ-loop
+add-i c = search needs
+
+loop-less : tie.Need-loop-less Inv-loop μ-loop
+loop-less c = search needs
+
+loop-again : tie.Need-loop-again Inv-loop μ-loop
+loop-again c =
+    let start = c .before .before .before .before .before .before .before in
+    let at = c .before .before .before .before .before .loop in
+    let index = now (start .args .index) in
+    let rule = c .before .list-good .ensures (at .i) (c .before .before .entry-at .ensures) (start .pre .0 .is .highest) in
+    (omega arith, at .inv .1 ∙ first-miss (badList index) (at .i) (wordCount index) (omega arith) (told-good _ _ rule (c .if2 .left)))
+
+returns-2 : tie.Need-returns-2 Inv-loop μ-loop
+returns-2 c =
+    let index = now (c .before .before .before .before .args .index) in
+    let at = c .before .before .loop in
+    sym (at .inv .1 ∙ first-end (badList index) (at .i) (wordCount index) (omega arith))
+
+pub first-bad-list-spec : {M : Type 1} → statement M
+first-bad-list-spec =
+    tie.close
+    (tie.spec
+    Inv-loop
+    μ-loop
+    loop-holds
+    entry-at-requires
+    list-good-requires
+    returns
+    add-i
+    loop-less
+    loop-again
+    returns-2)

@@ -1,0 +1,36 @@
+-- What the entry says of its place, in the code's form of a part.
+use Rattle.index.specs.Format.{wordStart, wordLength, wordOf}
+use Rattle.index.proofs.SoundLaws.{part-is}
+use borrow.Author.Needs.{needs}
+use Rattle.index.proofs.parts.word_of.Statement.{statement}
+use Rattle.index.proofs.parts.word_of.Tie as tie
+
+sound-entry-requires : tie.Need-sound-entry-requires
+sound-entry-requires c κs = search needs
+
+add-end : tie.Need-add-end
+add-end c = search needs
+
+sub-result : tie.Need-sub-result
+sub-result c = search needs
+
+part-result-start : tie.Need-part-result-start
+part-result-start c = search needs
+
+part-result-end : tie.Need-part-result-end
+part-result-end c = search needs
+
+returns : tie.Need-returns
+unfolding wordOf
+returns c =
+    let start = c .before .before .before .before in
+    let index = start .args .index .now in
+    let i = start .args .i in
+    let r = c .before .before .sound-entry .result in
+    let e = c .before .before .sound-entry .ensures .0 in
+    part-is index (r .«word_start») (r .«word_length») (wordStart index i) (wordLength index i) (e .word-start) (e .word-length)
+
+pub word-of-spec : {M : Type 1} → statement M
+word-of-spec =
+    tie.close
+    (tie.spec sound-entry-requires add-end sub-result part-result-start part-result-end returns)

@@ -1,0 +1,45 @@
+-- What the other call answers decides: the entry's word, or nothing.
+use mathlib.Core.Path.{sym, _∙_}
+use Rattle.index.proofs.AnswerLaws.{entry-good, word-answered, word-refused}
+use borrow.Author.Needs.{needs}
+use Rattle.index.proofs.word_call.entry_word.Statement.{statement}
+use Rattle.index.proofs.word_call.entry_word.Tie as tie
+
+entry-refusal-requires : tie.Need-entry-refusal-requires
+entry-refusal-requires c κs = search needs
+
+enum-told : tie.Need-enum-told
+enum-told c = search needs
+
+word-of-requires : tie.Need-word-of-requires
+word-of-requires c κs =
+    let a = c .before .before .before .before .args in
+    entry-good (a .index .now) (a .entry) (sym (c .before .before .entry-refusal .ensures) ∙ c .enum-told .given .1)
+
+enum-told-2 : tie.Need-enum-told-2
+enum-told-2 c = search needs
+
+slice-aggregate-result : tie.Need-slice-aggregate-result
+slice-aggregate-result c = search needs
+
+returns : tie.Need-returns
+returns c =
+    let a = c .before .before .before .before .before .args in
+    c .word-of .ensures ∙ sym (word-answered (a .index .now) (a .entry) (sym (c .before .before .before .entry-refusal .ensures) ∙ c .before .enum-told .given .1))
+
+returns-2 : tie.Need-returns-2
+returns-2 c =
+    let a = c .before .before .before .before .before .args in
+    sym (word-refused (a .index .now) (a .entry) (c .before .enum-told2 .given .0 .0) (sym (c .before .before .before .entry-refusal .ensures) ∙ c .before .enum-told2 .given .1))
+
+pub entry-word-spec : {M : Type 1} → statement M
+entry-word-spec =
+    tie.close
+    (tie.spec
+    entry-refusal-requires
+    enum-told
+    word-of-requires
+    enum-told-2
+    slice-aggregate-result
+    returns
+    returns-2)

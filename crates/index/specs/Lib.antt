@@ -1,0 +1,6 @@
+pub mod Format
+pub mod Sound
+pub mod Has
+pub mod Check
+pub mod Entry
+pub mod Read

@@ -1,0 +1,170 @@
+// The check of an index: refusals 1 to 5.
+ghost use mathlib.Core.Path.{_≡_};
+ghost use mathlib.Core.Bool.{not, false, _&&_};
+ghost use mathlib.Core.List.{List};
+ghost use Prim.Native.Nat.{ℕ, _+_, _*_, _≤_, _<_};
+ghost use lib.ListN.{length};
+ghost use Rattle.word.specs.Word.{isWord, before};
+ghost use Rattle.index.specs.Format.{wordCount, highest, wordsEnd, listsEnd};
+ghost use Rattle.index.specs.Read.{TrailerOf, Framed, EntryOf, Small};
+ghost use Rattle.index.specs.Sound.{badTrailer, badDirectory, badEntry, badList};
+ghost use Rattle.index.specs.Check.{badEntryOf, badListOf, contentsOf, checkOf};
+use crate::Checked;
+use crate::entry::Entry;
+use crate::entry::entry_at;
+use crate::entry::place_of;
+use crate::trailer::Trailer;
+use crate::trailer::read_trailer;
+use refusal::Found;
+use refusal::Refusal;
+
+// Whether N and n are within their limits, W is not past D, and the parts add up to the index's length.
+fn trailer_good(index: &[u8], trailer: Trailer) -> bool
+    requires { ⌜ TrailerOf (now index) trailer ⌝ }
+    ensures { λ r. ⌜ r ≡ not (badTrailer (now (index .entry))) ⌝ }
+{
+    if trailer.highest > 16777215 {
+        return false;
+    }
+    if trailer.count > 65535 {
+        return false;
+    }
+    if trailer.directory < trailer.words {
+        return false;
+    }
+    place_of(trailer, trailer.count) + 20 == index.len()
+}
+
+// How many bytes an entry's list takes.
+fn list_length(entry: Entry) -> usize
+    requires { ⌜ (entry .singles < 4294967296) × (entry .pairs < 4294967296) ⌝ }
+    ensures { λ r. ⌜ r ≡ 4 * (entry .singles + 2 * entry .pairs) ⌝ }
+{
+    4 * (entry.singles + 2 * entry.pairs)
+}
+
+// Whether an entry keeps the directory rule, where the entries before it add up to `words` and `lists`.
+fn directory_good(trailer: Trailer, entry: Entry, words: usize, lists: usize) -> bool
+    requires { ⌜ (words < 4294967296) × (lists < 4294967296) × Small entry ⌝ }
+    ensures { λ r. ⌜ ((index : List ℕ) (i : ℕ) → TrailerOf index trailer → EntryOf index i entry → words ≡ wordsEnd index i → lists ≡ listsEnd index i → r ≡ not (badDirectory index i)) ⌝ }
+{
+    (entry.word_start == words)
+        & (entry.list_start == lists)
+        & (entry.singles + entry.pairs != 0)
+        & (words + entry.word_length <= trailer.directory)
+        & (lists + list_length(entry) <= trailer.words)
+}
+
+// Whether a word keeps the word rule behind the word before it.
+pub fn word_good(prior: &[u8], word: &[u8]) -> bool
+    ensures { λ r. ⌜ r ≡ (isWord (now (word .entry)) && before (now (prior .entry)) (now (word .entry))) ⌝ }
+{
+    if !word::is_word(word) {
+        return false;
+    }
+    match word::compare(prior, word) {
+        word::Order::Before => true,
+        word::Order::Same => false,
+        word::Order::Behind => false,
+    }
+}
+
+// The first bad entry, or n where only an end is wrong: in one pass, with the sums of what is passed.
+fn first_bad_entry(index: &[u8], trailer: Trailer) -> Found
+    requires { ⌜ Framed (now index) trailer ⌝ }
+    ensures { λ r. ⌜ r ≡ badEntryOf (now (index .entry)) ⌝ }
+{
+    let mut prior = trailer.words;
+    let mut words = trailer.words;
+    let mut lists: usize = 0;
+    let mut i = 0;
+    while i < trailer.count {
+        let entry = entry_at(index, trailer, i);
+        if !directory_good(trailer, entry, words, lists) {
+            return Found::At(i);
+        }
+        let next = words + entry.word_length;
+        if !word_good(&index[prior..words], &index[words..next]) {
+            return Found::At(i);
+        }
+        prior = words;
+        words = next;
+        lists += list_length(entry);
+        i += 1;
+    }
+    if lists != trailer.words {
+        return Found::At(i);
+    }
+    if words != trailer.directory {
+        return Found::At(i);
+    }
+    Found::Nowhere
+}
+
+// Whether an entry's list keeps the list rule: its three regions are handed on as parts of the index.
+fn list_good(index: &[u8], entry: Entry, limit: u32) -> bool
+    requires { ⌜ (entry .«list_start» + 4 * entry .singles + 8 * entry .pairs ≤ length (now index)) × (length (now index) ≤ 16777216) × (limit ≤ 16777215) ⌝ }
+    ensures { λ r. ⌜ ((i : ℕ) → EntryOf (now (index .entry)) i entry → limit ≡ highest (now (index .entry)) → r ≡ not (badList (now (index .entry)) i)) ⌝ }
+{
+    let start = entry.list_start;
+    let lower = start + 4 * entry.singles;
+    let upper = lower + 4 * entry.pairs;
+    let end = upper + 4 * entry.pairs;
+    list::kept::is_kept(
+        &index[start..lower],
+        &index[lower..upper],
+        &index[upper..end],
+        limit,
+    )
+}
+
+// The first bad list, where every entry is good.
+fn first_bad_list(index: &[u8], trailer: Trailer) -> Found
+    requires { ⌜ Framed (now index) trailer × ((i : ℕ) → i < wordCount (now index) → badEntry (now index) i ≡ false) ⌝ }
+    ensures { λ r. ⌜ r ≡ badListOf (now (index .entry)) ⌝ }
+{
+    let mut i = 0;
+    while i < trailer.count {
+        let entry = entry_at(index, trailer, i);
+        if !list_good(index, entry, trailer.highest) {
+            return Found::At(i);
+        }
+        i += 1;
+    }
+    Found::Nowhere
+}
+
+// What is left to refuse once the trailer is good.
+fn check_entries(index: &[u8], trailer: Trailer) -> Checked
+    requires { ⌜ Framed (now index) trailer ⌝ }
+    ensures { λ r. ⌜ r ≡ contentsOf (now (index .entry)) ⌝ }
+{
+    match first_bad_entry(index, trailer) {
+        Found::At(i) => Checked::Refused(Refusal::Directory(i)),
+        Found::Nowhere => match first_bad_list(index, trailer) {
+            Found::At(i) => Checked::Refused(Refusal::KeptList(i)),
+            Found::Nowhere => Checked::Good,
+        },
+    }
+}
+
+// Whether an index is sound, or the first refusal that holds.
+pub fn check_index(index: &[u8]) -> Checked
+    ensures { λ r. ⌜ r ≡ checkOf (now (index .entry)) ⌝ }
+{
+    let length = index.len();
+    if length < 20 {
+        return Checked::Refused(Refusal::IndexLength(length));
+    }
+    if length > 16777216 {
+        return Checked::Refused(Refusal::IndexLength(length));
+    }
+    let trailer = read_trailer(index);
+    if trailer.edition != 1 {
+        return Checked::Refused(Refusal::Edition(trailer.edition));
+    }
+    if !trailer_good(index, trailer) {
+        return Checked::Refused(Refusal::Trailer);
+    }
+    check_entries(index, trailer)
+}

@@ -1,0 +1,42 @@
+// One entry of the directory.
+ghost use mathlib.Core.Path.{_≡_};
+ghost use Prim.Native.Nat.{_+_, _*_, _<_};
+ghost use Rattle.index.specs.Format.{entrySize};
+ghost use Rattle.index.specs.Read.{Framed, EntryOf};
+
+pub struct Entry {
+    pub word_start: usize,
+    pub word_length: usize,
+    pub list_start: usize,
+    pub singles: usize,
+    pub pairs: usize,
+}
+
+// How many bytes an entry takes.
+pub fn entry_size(edition: u32) -> usize
+    ensures { λ r. ⌜ r ≡ entrySize edition ⌝ }
+{
+    20
+}
+
+// Where entry i starts.
+pub fn place_of(trailer: crate::trailer::Trailer, i: usize) -> usize
+    requires { ⌜ (trailer .directory < 4294967296) × (i < 4294967296) ⌝ }
+    ensures { λ r. ⌜ r ≡ trailer .directory + entrySize (trailer .edition) * i ⌝ }
+{
+    trailer.directory + entry_size(trailer.edition) * i
+}
+
+pub fn entry_at(index: &[u8], trailer: crate::trailer::Trailer, i: usize) -> Entry
+    requires { ⌜ Framed (now index) trailer × (i < trailer .count) ⌝ }
+    ensures { λ r. ⌜ EntryOf (now (index .entry)) i r ⌝ }
+{
+    let at = place_of(trailer, i);
+    Entry {
+        word_start: list::cell::cell_at(index, at) as usize,
+        word_length: list::cell::cell_at(index, at + 4) as usize,
+        list_start: list::cell::cell_at(index, at + 8) as usize,
+        singles: list::cell::cell_at(index, at + 12) as usize,
+        pairs: list::cell::cell_at(index, at + 16) as usize,
+    }
+}

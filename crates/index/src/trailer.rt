@@ -1,0 +1,27 @@
+// The trailer: the last 20 bytes of an index.
+ghost use Prim.Native.Nat.{_≤_};
+ghost use lib.ListN.{length};
+ghost use Rattle.index.specs.Read.{TrailerOf};
+
+// Where the words and the directory start, how many words there are, the highest record, and the edition.
+pub struct Trailer {
+    pub words: usize,
+    pub directory: usize,
+    pub count: usize,
+    pub highest: u32,
+    pub edition: u32,
+}
+
+pub fn read_trailer(index: &[u8]) -> Trailer
+    requires { ⌜ 20 ≤ length (now index) ⌝ }
+    ensures { λ r. ⌜ TrailerOf (now (index .entry)) r ⌝ }
+{
+    let end = index.len();
+    Trailer {
+        words: list::cell::cell_at(index, end - 20) as usize,
+        directory: list::cell::cell_at(index, end - 16) as usize,
+        count: list::cell::cell_at(index, end - 12) as usize,
+        highest: list::cell::cell_at(index, end - 8),
+        edition: list::cell::cell_at(index, end - 4),
+    }
+}

@@ -1,0 +1,31 @@
+// An entry's word, by two calls on the same arguments.
+ghost use mathlib.Core.Path.{_≡_};
+ghost use Rattle.index.specs.Entry.{entryOf, entryWord};
+use crate::Checked;
+use refusal::Refusal;
+
+// Whether the index has the entry, or the first refusal that holds.
+pub fn entry_refusal(index: &[u8], entry: u32) -> Checked
+    ensures { λ r. ⌜ r ≡ entryOf (now (index .entry)) entry ⌝ }
+{
+    match crate::check::check_index(index) {
+        Checked::Refused(refusal) => Checked::Refused(refusal),
+        Checked::Good => {
+            if (entry as usize) < crate::find::word_count(index) {
+                Checked::Good
+            } else {
+                Checked::Refused(Refusal::EntryNumber(0))
+            }
+        }
+    }
+}
+
+// The word as a part of the index, or an empty part when refused.
+pub fn entry_word<'a>(index: &'a [u8], entry: u32) -> &'a [u8]
+    ensures { λ r. ⌜ now r ≡ entryWord (now (index .entry)) entry ⌝ }
+{
+    match entry_refusal(index, entry) {
+        Checked::Good => crate::parts::word_of(index, entry as usize),
+        Checked::Refused(_) => &index[..0],
+    }
+}
