@@ -1,0 +1,81 @@
+-- The sum is what is passed and what is left; each list adds no more than the index has room for.
+use Prim.Native.Nat.{_+_, _-_, _*_, _≤_}
+use mathlib.Core.Path.{_≡_}
+use native.Mathlib.Omega.{arith}
+use denote.Ref.{now}
+use lib.ListN.{length, drop}
+use borrow.Author.Needs.{needs}
+use Rattle.join.specs.Join.{listsOf}
+use Rattle.join.specs.Asked.{intervalSum}
+use Rattle.join.proofs.ListsLaws.{sum-next, sum-end}
+use Rattle.join.proofs.request.interval_sum.Statement.{statement}
+use Rattle.join.proofs.request.interval_sum.Tie as tie
+
+abbrev Inv-loop : tie.InvT-loop
+Inv-loop index entries sum₀ j₀ sum j =
+    (j ≤ length entries) × (sum ≤ 4194304 * j) × (intervalSum (listsOf index entries) ≡ sum + intervalSum (listsOf index (drop j entries)))
+
+abbrev μ-loop : tie.MeasureT-loop
+μ-loop index entries sum₀ j₀ sum j = length entries - j
+
+loop-holds : tie.Need-loop-holds Inv-loop μ-loop
+loop-holds c = (omega arith, omega arith, omega arith)
+
+mul-interval-count : tie.Need-mul-interval-count Inv-loop μ-loop
+mul-interval-count c = search needs
+
+shared-slice-read-interval-count : tie.Need-shared-slice-read-interval-count Inv-loop μ-loop
+shared-slice-read-interval-count c = omega arith
+
+cast-interval-count : tie.Need-cast-interval-count Inv-loop μ-loop
+cast-interval-count c = omega (arith, c .shared-slice-known3 .given (c .before .before .loop .j))
+
+interval-count-requires : tie.Need-interval-count-requires Inv-loop μ-loop
+interval-count-requires c κs =
+    let pre = c .before .before .before .before .before .pre in
+    (pre .sound, pre .below (c .before .before .loop .j) (c .before .loop-test .taken))
+
+add-sum : tie.Need-add-sum Inv-loop μ-loop
+add-sum c = let few = c .before .before .before .before .before .before .pre .few in omega arith
+
+add-j : tie.Need-add-j Inv-loop μ-loop
+add-j c = omega arith
+
+loop-less : tie.Need-loop-less Inv-loop μ-loop
+loop-less c = omega arith
+
+loop-again : tie.Need-loop-again Inv-loop μ-loop
+loop-again c =
+    let start = c .before .before .before .before .before .before in
+    let index = now (start .args .index) in
+    let entries = now (start .args .entries) in
+    let n = sum-next index entries (c .before .before .before .loop .j) (c .before .before .loop-test .taken) in
+    let i = c .before .before .before .loop .inv in
+    let e = c .interval-count .ensures in
+    (omega arith, omega arith, omega arith)
+
+returns : tie.Need-returns Inv-loop μ-loop
+returns c =
+    let start = c .before .before .before .before in
+    let index = now (start .args .index) in
+    let entries = now (start .args .entries) in
+    let n = sum-end index entries (c .before .loop .j) (c .loop-test .left) in
+    let few = start .pre .few in
+    (omega arith, omega arith)
+
+pub interval-sum-spec : {M : Type 1} → statement M
+interval-sum-spec =
+    tie.close
+    (tie.spec
+    Inv-loop
+    μ-loop
+    loop-holds
+    mul-interval-count
+    shared-slice-read-interval-count
+    cast-interval-count
+    interval-count-requires
+    add-sum
+    add-j
+    loop-less
+    loop-again
+    returns)

@@ -1,0 +1,61 @@
+-- "Join: 13, 14, 12.", after the index's own refusals.
+use Prim.Native.Nat.{ℕ, _/_}
+use mathlib.Core.Path.{_≡_}
+use mathlib.Core.Bool.{Bool, cond, _||_}
+use mathlib.Core.List.{List, [], _∷_}
+use lib.Dec.{eqb, leb, ltb}
+use lib.ListN.{length, getD}
+use Rattle.refusal.specs.declared.Found.{Found}
+use Rattle.refusal.specs.declared.Found.the-variants.{At, Nowhere}
+use Rattle.refusal.specs.declared.Refusal.the-variants.{ListCount, EntryNumber}
+use Rattle.refusal.specs.First.{first}
+use Rattle.list.specs.declared.answer.Answer.{Answer}
+use Rattle.list.specs.declared.answer.Answer.the-variants as answer
+use Rattle.list.specs.Answer.{listAnswer, listCells}
+use Rattle.index.specs.declared.Checked.{Checked}
+use Rattle.index.specs.declared.Checked.the-variants.{Good, Refused}
+use Rattle.index.specs.Format.{wordCount, listOf}
+use Rattle.index.specs.Check.{checkOf}
+
+-- 13: "lists to join: none, or over 16"
+unfoldable pub badListCount : List ℕ → Bool
+badListCount entries = eqb (length entries) 0 || ltb 16 (length entries)
+
+-- 14: "entry number not below n": "its place in the request"
+unfoldable pub badEntryNumber : List ℕ → List ℕ → ℕ → Bool
+badEntryNumber index entries i = leb (wordCount index) (getD entries i 0)
+
+abbrev pub entriesAfter : Found → Checked
+entriesAfter (At i) = Refused (EntryNumber i)
+entriesAfter Nowhere = Good
+
+-- 13, then 14
+unfoldable pub entriesOf : List ℕ → List ℕ → Checked
+entriesOf index entries =
+    cond (badListCount entries) (Refused (ListCount (length entries))) (entriesAfter (first (badEntryNumber index entries) (length entries)))
+
+abbrev pub requestAfter : Checked → Checked → Checked
+requestAfter (Refused r) next = Refused r
+requestAfter Good next = next
+
+-- whether the request may be answered: 1 to 5, 13, 14
+unfoldable pub requestOf : List ℕ → List ℕ → Checked
+requestOf index entries = requestAfter (checkOf index) (entriesOf index entries)
+
+-- the lists of the entries asked for
+unfoldable pub listsOf : List ℕ → List ℕ → List (List ℕ)
+listsOf index [] = []
+listsOf index (e ∷ es) = listOf index e ∷ listsOf index es
+
+abbrev pub joinAnswer : Checked → List ℕ → ℕ → Answer
+joinAnswer (Refused r) c room = answer.Refused r
+joinAnswer Good c room = listAnswer c room
+
+abbrev pub joinCells : Checked → List ℕ → ℕ → List ℕ → List ℕ
+joinCells (Refused r) c room out = out
+joinCells Good c room out = listCells c room out
+
+-- the promise of a join: `method` is the union of Definition 1 or the intersection of Definition 2
+pub record Joins (method : List (List ℕ) → List ℕ) (index entries out out′ : List ℕ) (r : Answer) : Type 0 where
+  pub answer : r ≡ joinAnswer (requestOf index entries) (method (listsOf index entries)) (length out / 2)
+  pub cells : out′ ≡ joinCells (requestOf index entries) (method (listsOf index entries)) (length out / 2) out

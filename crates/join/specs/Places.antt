@@ -1,0 +1,28 @@
+-- "Where these methods merge, each of up to 16 lists has its own reading place."
+use Prim.Native.Nat.{ℕ, _+_, _<_}
+use mathlib.Core.Bool.{Bool}
+use mathlib.Core.List.{List}
+use lib.Dec.{leb}
+use lib.ListN.{length}
+use Rattle.list.specs.declared.Place.{Place}
+use Rattle.list.specs.Cell.{numbersIn}
+use Rattle.index.specs.Format.{wordCount, singlesOf, lowerOf, upperOf}
+use Rattle.index.specs.Sound.{Sound}
+
+-- the numbers of the three regions of entry i
+abbrev pub singlesIn : List ℕ → ℕ → List ℕ
+singlesIn index i = numbersIn (singlesOf index i)
+
+abbrev pub lowerIn : List ℕ → ℕ → List ℕ
+lowerIn index i = numbersIn (lowerOf index i)
+
+abbrev pub upperIn : List ℕ → ℕ → List ℕ
+upperIn index i = numbersIn (upperOf index i)
+
+-- an entry of a sound index
+abbrev pub EntryIn : List ℕ → ℕ → Type 0
+EntryIn index i = Sound index × (i < wordCount index)
+
+-- the list of entry i is used up at a place
+abbrev pub usedUp : List ℕ → ℕ → Place → Bool
+usedUp index i at = leb (length (singlesIn index i) + length (lowerIn index i)) (at .p .0 + at .q .0)

@@ -1,0 +1,23 @@
+-- One interval more of a join: counted, and written where the list is.
+use Prim.Native.Nat.{ℕ, _+_, _-_, _*_, _≤_}
+use mathlib.Core.Path.{_≡_}
+use mathlib.Core.Bool.{Bool, true, cond}
+use mathlib.Core.List.{List}
+use lib.ListN.{length, set}
+use Rattle.list.specs.declared.answer.Tally.{Tally}
+use Rattle.list.specs.declared.reading.Interval.{Interval}
+use Rattle.list.specs.Interval.{top}
+
+-- an interval can be counted, and where the list is written it has room
+pub record Fitting (writing : Bool) (out : List ℕ) (t : Tally) (i : Interval) : Type 0 where
+  pub room : writing ≡ true → 2 * t .intervals + 2 ≤ length out
+  pub few : t .intervals ≤ top
+  pub small : t .records ≤ top
+  pub order : i .lower ≤ i .upper
+  pub high : i .upper ≤ top
+
+-- it is counted, and written where the list is
+pub record Put (writing : Bool) (out out′ : List ℕ) (t : Tally) (i : Interval) (r : Tally) : Type 0 where
+  pub intervals-more : r .intervals ≡ t .intervals + 1
+  pub records-more : r .records ≡ t .records + (i .upper + 1 - i .lower)
+  pub cells : out′ ≡ cond writing (set (set out (2 * t .intervals) (i .lower)) (2 * t .intervals + 1) (i .upper)) out

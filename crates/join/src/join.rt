@@ -1,0 +1,89 @@
+// The joins, and the frame that they share: check, count where the room may not do, write.
+ghost use mathlib.Core.Path.{_≡_};
+ghost use mathlib.Core.Bool.{true};
+ghost use Prim.Native.Nat.{_/_, _≤_};
+ghost use lib.ListN.{length};
+ghost use Rattle.list.specs.Answer.{listAnswer, listCells};
+ghost use Rattle.list.specs.Ginix.{unionOf, intersectionOf};
+ghost use Rattle.join.specs.Asked.{Asked};
+ghost use Rattle.join.specs.Join.{listsOf, Joins};
+ghost use Rattle.join.specs.Method.{joinOf};
+ghost use Rattle.join.specs.Sweep.{Sweeps};
+use crate::Method;
+use crate::active::sweep_active;
+use crate::probing::sweep_probing;
+use crate::request::check_request;
+use crate::request::interval_sum;
+use crate::scan::sweep_scan;
+use crate::twin::sweep_twin;
+use index::Checked;
+use list::answer::Answer;
+use list::answer::Tally;
+use refusal::Refusal;
+
+// Counts, and writes where asked, the join of a request by a method.
+fn sweep(index: &[u8], entries: &[u32], writing: bool, out: &mut [u32], method: Method) -> Tally
+    requires { ⌜ Asked (now index) (now entries) × (writing ≡ true → length (joinOf method (listsOf (now index) (now entries))) ≤ length (now out)) ⌝ }
+    ensures { λ r. ⌜ Sweeps (joinOf method (listsOf (now (index .entry)) (now (entries .entry)))) writing (now (out .entry)) (now (out .exit)) r ⌝ }
+{
+    match method {
+        Method::ScanLine => sweep_scan(index, entries, writing, out),
+        Method::ActiveInterval => sweep_active(index, entries, writing, out),
+        Method::TwinHeap => sweep_twin(index, entries, writing, out),
+        Method::Probing => sweep_probing(index, entries, writing, out),
+    }
+}
+
+// The join of a request that is not refused. Nothing is written before refusal 12 is excluded: a join has no more intervals than its lists
+// together, and where those may be too many it is counted first.
+fn join_asked(index: &[u8], entries: &[u32], out: &mut [u32], method: Method) -> Answer
+    requires { ⌜ Asked (now index) (now entries) ⌝ }
+    ensures { λ r. ⌜ (r ≡ listAnswer (joinOf method (listsOf (now (index .entry)) (now (entries .entry)))) (length (now (out .entry)) / 2)) × (now (out .exit) ≡ listCells (joinOf method (listsOf (now (index .entry)) (now (entries .entry)))) (length (now (out .entry)) / 2) (now (out .entry))) ⌝ }
+{
+    let room = out.len() / 2;
+    if interval_sum(index, entries) <= room {
+        return Answer::Listed(sweep(index, entries, true, out, method));
+    }
+    let needed = sweep(index, entries, false, out, method);
+    if room < needed.intervals {
+        return Answer::Refused(Refusal::Room(needed.intervals));
+    }
+    Answer::Listed(sweep(index, entries, true, out, method))
+}
+
+fn join(index: &[u8], entries: &[u32], out: &mut [u32], method: Method) -> Answer
+    ensures { λ r. ⌜ Joins (joinOf method) (now (index .entry)) (now (entries .entry)) (now (out .entry)) (now (out .exit)) r ⌝ }
+{
+    match check_request(index, entries) {
+        Checked::Refused(refusal) => Answer::Refused(refusal),
+        Checked::Good => join_asked(index, entries, out, method),
+    }
+}
+
+// The records in at least one list of the request, by a counter over all bounds in ascending order.
+pub fn union_scan_line(index: &[u8], entries: &[u32], out: &mut [u32]) -> Answer
+    ensures { λ r. ⌜ Joins unionOf (now (index .entry)) (now (entries .entry)) (now (out .entry)) (now (out .exit)) r ⌝ }
+{
+    join(index, entries, out, Method::ScanLine)
+}
+
+// The same, by an active interval that the lower bounds in ascending order extend.
+pub fn union_active_interval(index: &[u8], entries: &[u32], out: &mut [u32]) -> Answer
+    ensures { λ r. ⌜ Joins unionOf (now (index .entry)) (now (entries .entry)) (now (out .entry)) (now (out .exit)) r ⌝ }
+{
+    join(index, entries, out, Method::ActiveInterval)
+}
+
+// The records in every list of the request, by the largest lower and the least upper bound of the intervals that are next.
+pub fn intersection_twin_heap(index: &[u8], entries: &[u32], out: &mut [u32]) -> Answer
+    ensures { λ r. ⌜ Joins intersectionOf (now (index .entry)) (now (entries .entry)) (now (out .entry)) (now (out .exit)) r ⌝ }
+{
+    join(index, entries, out, Method::TwinHeap)
+}
+
+// The same, by probes from the shortest list.
+pub fn intersection_probing(index: &[u8], entries: &[u32], out: &mut [u32]) -> Answer
+    ensures { λ r. ⌜ Joins intersectionOf (now (index .entry)) (now (entries .entry)) (now (out .entry)) (now (out .exit)) r ⌝ }
+{
+    join(index, entries, out, Method::Probing)
+}
