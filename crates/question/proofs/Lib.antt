@@ -1,0 +1,15 @@
+pub mod RunLaws
+pub mod TokenLaws
+pub mod ReaderLaws
+pub mod FaultLaws
+pub mod Lockstep
+pub mod LimitLaws
+pub mod AskedLaws
+pub mod SplitLaws
+pub mod RuleLaws
+pub mod Exchange
+pub mod PlaceLaws
+pub mod TreeWords
+pub mod MeaningLaws
+pub mod LevelLaws
+pub mod Examples

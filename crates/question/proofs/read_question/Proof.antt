@@ -1,0 +1,56 @@
+-- Refusal by refusal, in the order of document 01.
+use mathlib.Core.Path.{sym, _∙_}
+use Rattle.question.specs.Grammar.{fromLeft}
+use Rattle.question.proofs.FaultLaws.{reading-length, reading-foreign, reading-long, reading-else}
+use borrow.Author.Needs.{needs}
+use Rattle.question.proofs.read_question.Statement.{statement}
+use Rattle.question.proofs.read_question.Tie as tie
+
+returns : tie.Need-returns
+returns c = sym (reading-length (c .before .before .args .question .now) (c .if1 .taken))
+
+first-foreign-requires : tie.Need-first-foreign-requires
+first-foreign-requires c κs = search needs
+
+enum-known-place : tie.Need-enum-known-place
+enum-known-place c = search needs
+
+enum-told : tie.Need-enum-told
+enum-told c = search needs
+
+first-long-requires : tie.Need-first-long-requires
+first-long-requires c κs = search needs
+
+enum-known-place-2 : tie.Need-enum-known-place-2
+enum-known-place-2 c = search needs
+
+enum-told-2 : tie.Need-enum-told-2
+enum-told-2 c = search needs
+
+read-whole-requires : tie.Need-read-whole-requires
+read-whole-requires c κs = search needs
+
+returns-2 : tie.Need-returns-2
+returns-2 c = sym (reading-foreign (c .before .before .before .before .before .before .args .question .now) (c .before .before .before .before .if1 .left) (c .before .place .given .0 .0) (sym (c .before .before .before .first-foreign .ensures) ∙ c .before .place .given .1))
+
+returns-3 : tie.Need-returns-3
+returns-3 c = sym (reading-long (c .before .before .before .before .before .before .before .before .before .args .question .now) (c .before .before .before .before .before .before .before .if1 .left) (sym (c .before .before .before .before .before .before .first-foreign .ensures) ∙ c .before .before .before .before .enum-told .given .1) (c .before .place2 .given .0 .0) (sym (c .before .before .before .first-long .ensures) ∙ c .before .place2 .given .1))
+
+returns-4 : tie.Need-returns-4
+returns-4 c = c .read-whole .ensures fromLeft ∙ sym (reading-else (c .before .before .before .before .before .before .before .before .before .args .question .now) (c .before .before .before .before .before .before .before .if1 .left) (sym (c .before .before .before .before .before .before .first-foreign .ensures) ∙ c .before .before .before .before .enum-told .given .1) (sym (c .before .before .before .first-long .ensures) ∙ c .before .enum-told2 .given .1))
+
+pub read-question-spec : {M : Type 1} → statement M
+read-question-spec =
+    tie.close
+    (tie.spec
+    returns
+    first-foreign-requires
+    enum-known-place
+    enum-told
+    first-long-requires
+    enum-known-place-2
+    enum-told-2
+    read-whole-requires
+    returns-2
+    returns-3
+    returns-4)

@@ -1,0 +1,54 @@
+-- By what the question's reader answers, and by the token behind it.
+use native.Mathlib.Omega.{arith}
+use lib.ListN.{length}
+use Rattle.question.proofs.ReaderLaws as laws
+use borrow.Author.Needs.{needs}
+use Rattle.question.proofs.reader.read_whole.Statement.{statement}
+use Rattle.question.proofs.reader.read_whole.Tie as tie
+
+question-requires : tie.Need-question-requires
+question-requires c κs = search needs
+
+enum-known-next : tie.Need-enum-known-next
+enum-known-next c = search needs
+
+next-token-requires : tie.Need-next-token-requires
+next-token-requires c κs =
+    let a = laws.ahead 0 (length (c .before .before .before .before .before .args .s .now)) 0 (c .before .next .given .0 .0) (c .before .next .given .0 .1 .0) (c .before .next .given .1) (c .before .before .before .question .ensures .ahead) in
+    omega arith
+
+enum-told : tie.Need-enum-told
+enum-told c = search needs
+
+token-start-requires : tie.Need-token-start-requires
+token-start-requires c κs = search needs
+
+enum-known-refusal : tie.Need-enum-known-refusal
+enum-known-refusal c = search needs
+
+returns : tie.Need-returns
+returns c =
+    let next = c .before .before .before .before .next .given in
+    laws.whole-ended (c .before .before .before .before .before .before .before .before .args .s .now) (c .before .before .before .before .before .before .question .result) (c .before .before .before .before .before .before .question .ensures) (next .0 .0) (next .0 .1 .0) (next .1) (c .before .before .next-token .result) (c .before .before .next-token .ensures) (c .before .match2 .keys1)
+
+returns-2 : tie.Need-returns-2
+returns-2 c =
+    let next = c .before .before .before .before .next .given in
+    laws.whole-more (c .before .before .before .before .before .before .before .before .args .s .now) (c .before .before .before .before .before .before .question .result) (c .before .before .before .before .before .before .question .ensures) (next .0 .0) (next .0 .1 .0) (next .1) (c .before .before .next-token .result) (c .before .before .next-token .ensures) (c .before .match2 .keys2) (c .token-start .result) (c .token-start .ensures)
+
+returns-3 : tie.Need-returns-3
+returns-3 c = laws.whole-bad (c .before .before .before .before .before .args .s .now) (c .before .before .before .question .result) (c .before .before .before .question .ensures) (c .before .refusal .given .0 .0) (c .before .refusal .given .1)
+
+pub read-whole-spec : {M : Type 1} → statement M
+read-whole-spec =
+    tie.close
+    (tie.spec
+    question-requires
+    enum-known-next
+    next-token-requires
+    enum-told
+    token-start-requires
+    enum-known-refusal
+    returns
+    returns-2
+    returns-3)

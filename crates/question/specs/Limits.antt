@@ -1,0 +1,29 @@
+-- What the limits of a question count: its bytes, its words, and the brackets that are open at once.
+use Prim.Native.Nat.{ℕ, _+_, _-_, _≤_, max}
+use mathlib.Core.List.{List, [], _∷_}
+use lib.ListN.{length}
+use Rattle.question.specs.Token.{Tok, wordT, opT, openT, closeT, otherT, tokens}
+
+-- the words, in order
+unfoldable pub wordsIn : List Tok → List (List ℕ)
+wordsIn [] = []
+wordsIn (wordT w p ∷ r) = w ∷ wordsIn r
+wordsIn (opT o p ∷ r) = wordsIn r
+wordsIn (openT p ∷ r) = wordsIn r
+wordsIn (closeT p ∷ r) = wordsIn r
+wordsIn (otherT p ∷ r) = wordsIn r
+
+-- how many brackets are open at once, where n are open
+unfoldable pub deepest : ℕ → List Tok → ℕ
+deepest n [] = n
+deepest n (wordT w p ∷ r) = deepest n r
+deepest n (opT o p ∷ r) = deepest n r
+deepest n (openT p ∷ r) = deepest (n + 1) r
+deepest n (closeT p ∷ r) = max n (deepest (n - 1) r)
+deepest n (otherT p ∷ r) = deepest n r
+
+-- "question, bytes: 256; words in a question, repeats counted: 16; brackets open at once: 8"
+pub record WithinLimits (s : List ℕ) : Type 0 where
+  pub bytes : length s ≤ 256
+  pub words : length (wordsIn (tokens s)) ≤ 16
+  pub brackets : deepest 0 (tokens s) ≤ 8

@@ -1,0 +1,33 @@
+-- Which records fit a question.
+use Prim.Native.Nat.{ℕ}
+use mathlib.Core.Path.{_≡_}
+use mathlib.Core.Bool.{Bool, not, _&&_, _||_}
+use mathlib.Core.List.{List, [], _∷_}
+use Rattle.question.specs.declared.token.Op.{Op}
+use Rattle.question.specs.declared.token.Op.the-variants.{And, Or, Not}
+use Rattle.question.specs.Grammar.{Tree, word, pair, part, Link, link, Rule}
+
+-- "`not` takes two sides (left but not right)"
+abbrev pub combine : Op → Bool → Bool → Bool
+combine And left right = left && right
+combine Or left right = left || right
+combine Not left right = left && not right
+
+-- `has w x`: whether the record x has the word w
+unfoldable pub fits : (List ℕ → ℕ → Bool) → Tree → ℕ → Bool
+fits has (word w) x = has w x
+fits has (pair o a b) x = combine o (fits has a x) (fits has b x)
+fits has (part t) x = fits has t x
+
+-- two trees that the same records fit
+abbrev pub Same : (List ℕ → ℕ → Bool) → Tree → Tree → Type 0
+Same has a b = (x : ℕ) → fits has a x ≡ fits has b x
+
+pub data SameLinks (has : List ℕ → ℕ → Bool) : List Link → List Link → Type 0 where
+  none : SameLinks has [] []
+  more : (o : Op) (a b : Tree) (ls ms : List Link) → Same has a b → SameLinks has ls ms → SameLinks has (link o a ∷ ls) (link o b ∷ ms)
+
+-- what is asked of a rule: operands that the same records fit may be exchanged
+abbrev pub Respects : Rule → Type 0
+Respects rule =
+    (has : List ℕ → ℕ → Bool) (a b : Tree) (ls ms : List Link) → Same has a b → SameLinks has ls ms → Same has (rule a ls) (rule b ms)

@@ -1,0 +1,69 @@
+-- The whole call: the refusals 6 to 11 in their order, or the question's tree.
+use Prim.Native.Nat.{ℕ}
+use mathlib.Core.List.{List, [], _∷_}
+use mathlib.Core.Bool.{Bool, not, cond, _||_}
+use lib.ListN.{length, getD, drop}
+use lib.Dec.{ltb, eqb}
+use Rattle.word.specs.Word.{isWordByte}
+use Rattle.refusal.specs.First.{first}
+use Rattle.refusal.specs.declared.Found.{Found}
+use Rattle.refusal.specs.declared.Found.the-variants.{At, Nowhere}
+use Rattle.refusal.specs.declared.Refusal.{Refusal}
+use Rattle.refusal.specs.declared.Refusal.the-variants.{QuestionLength, QuestionByte, LongWord, Grammar, WordLimit, BracketLimit}
+use Rattle.question.specs.declared.reader.Reading.{Reading}
+use Rattle.question.specs.declared.reader.Reading.the-variants.{Accepted, Refused}
+use Rattle.question.specs.Token.{choose, run, Tok, wordT, opT, openT, closeT, otherT}
+use Rattle.question.specs.Grammar.{Tree, Rule, fromLeft, Out, good, bad, whole}
+
+-- accepted, with the tree and the number of words; or refused
+pub data Asked : Type 0 where
+  asks : Tree → ℕ → Asked
+  refuses : Refusal → Asked
+
+-- 7: "byte other than word bytes, space, brackets | first place"
+unfoldable pub isForeign : ℕ → Bool
+isForeign b = not (isWordByte b || eqb b 32 || eqb b 40 || eqb b 41)
+
+abbrev pub foreignAt : List ℕ → ℕ → Bool
+foreignAt s i = isForeign (getD s i 0)
+
+-- 8: "word over 32 bytes | its start". At the first such place a run starts: from a word byte before it, the run would be longer still.
+abbrev pub longAt : List ℕ → ℕ → Bool
+longAt s i = ltb 32 (run (drop i s))
+
+-- 9: "its start, or the length"; 10: "its start"; 11: "its place"
+abbrev pub placeOf : ℕ → List Tok → ℕ
+placeOf len [] = len
+placeOf len (wordT w p ∷ r) = p
+placeOf len (opT o p ∷ r) = p
+placeOf len (openT p ∷ r) = p
+placeOf len (closeT p ∷ r) = p
+placeOf len (otherT p ∷ r) = p
+
+unfoldable pub refusalOf : ℕ → ℕ → Refusal
+refusalOf number place = cond (eqb number 10) (WordLimit place) (cond (eqb number 11) (BracketLimit place) (Grammar place))
+
+abbrev pub outcome : ℕ → Out Tree → Asked
+outcome len (good t r k) = asks t k
+outcome len (bad number r) = refuses (refusalOf number (placeOf len r))
+
+-- the refusal where there is a place for it, else what comes next
+abbrev pub unless : Found → (ℕ → Refusal) → (Unit {0} → Asked) → Asked
+unless (At i) fault next = refuses (fault i)
+unless Nowhere fault next = next tt
+
+-- "Then a question: 6, 7, 8, then 9, 10, 11 as met from the left"
+unfoldable pub asked : Rule → List ℕ → Asked
+asked rule s =
+    choose (ltb 256 (length s)) (λ _. refuses (QuestionLength (length s)))
+    (λ _. unless (first (foreignAt s) (length s)) QuestionByte
+    (λ _. unless (first (longAt s) (length s)) LongWord
+    (λ _. outcome (length s) (whole rule s))))
+
+-- what the call answers
+abbrev pub answer : Asked → Reading
+answer (asks t k) = Accepted k
+answer (refuses refusal) = Refused refusal
+
+unfoldable pub readingOf : List ℕ → Reading
+readingOf s = answer (asked fromLeft s)

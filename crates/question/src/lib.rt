@@ -1,0 +1,30 @@
+// Questions: their tokens, the readers, the refusals 6 to 11, and where their words stand.
+ghost use mathlib.Core.Path.{_≡_};
+ghost use Rattle.question.specs.Reading.{readingOf};
+use refusal::Found;
+use refusal::Refusal;
+
+pub mod faults;
+pub mod reader;
+pub mod token;
+pub mod words;
+
+pub use reader::Reading;
+pub use words::WordPlaces;
+pub use words::word_places;
+
+// Whether the question is accepted, and with how many words; or the first refusal of 6 to 11 that holds.
+pub fn read_question(question: &[u8]) -> Reading
+    ensures { λ r. ⌜ r ≡ readingOf (now (question .entry)) ⌝ }
+{
+    if question.len() > 256 {
+        return Reading::Refused(Refusal::QuestionLength(question.len()));
+    }
+    match faults::first_foreign(question) {
+        Found::At(place) => Reading::Refused(Refusal::QuestionByte(place)),
+        Found::Nowhere => match faults::first_long(question) {
+            Found::At(place) => Reading::Refused(Refusal::LongWord(place)),
+            Found::Nowhere => reader::read_whole(question),
+        },
+    }
+}

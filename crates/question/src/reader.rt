@@ -1,0 +1,98 @@
+// The readers of a question: operands and the links between them, from the left.
+ghost use Prim.Native.Nat.{_≤_};
+ghost use lib.ListN.{length};
+ghost use Rattle.question.specs.Readers.{
+  ReadsQuestion,
+  ReadsOperand,
+  ReadsLinks,
+  ReadsWhole,
+};
+use super::token::Token;
+use super::token::next_token;
+use super::token::token_start;
+use refusal::Refusal;
+
+// Accepted, with the number of words, repeats counted; or refused.
+pub enum Reading {
+    Accepted(usize),
+    Refused(Refusal),
+}
+
+// The place behind what was read, and the words read so far; or why not.
+pub enum Read {
+    At(usize, usize),
+    Bad(Refusal),
+}
+
+// An operand, then any number of links: `room` brackets may still open, and `words` words were read before.
+fn question(s: &[u8], room: usize, words: usize, at: usize) -> Read
+    requires { ⌜ (at ≤ length (now s)) × (words ≤ 16) ⌝ }
+    ensures { λ r. ⌜ ReadsQuestion (now (s .entry)) room words at r ⌝ }
+{
+    match operand(s, room, words, at) {
+        Read::At(next, read) => links(s, room, read, next),
+        Read::Bad(refusal) => Read::Bad(refusal),
+    }
+}
+
+fn operand(s: &[u8], room: usize, words: usize, at: usize) -> Read
+    requires { ⌜ (at ≤ length (now s)) × (words ≤ 16) ⌝ }
+    ensures { λ r. ⌜ ReadsOperand (now (s .entry)) room words at r ⌝ }
+{
+    let token = next_token(s, at);
+    match token {
+        Token::Word(start, end) => {
+            if words < 16 {
+                Read::At(end, words + 1)
+            } else {
+                Read::Bad(Refusal::WordLimit(start))
+            }
+        }
+        Token::Open(place) => {
+            if room == 0 {
+                return Read::Bad(Refusal::BracketLimit(place));
+            }
+            match question(s, room - 1, words, place + 1) {
+                Read::At(next, read) => {
+                    let close = next_token(s, next);
+                    match close {
+                        Token::Close(end) => Read::At(end + 1, read),
+                        _ => Read::Bad(Refusal::Grammar(token_start(close))),
+                    }
+                }
+                Read::Bad(refusal) => Read::Bad(refusal),
+            }
+        }
+        _ => Read::Bad(Refusal::Grammar(token_start(token))),
+    }
+}
+
+fn links(s: &[u8], room: usize, words: usize, at: usize) -> Read
+    requires { ⌜ (at ≤ length (now s)) × (words ≤ 16) ⌝ }
+    ensures { λ r. ⌜ ReadsLinks (now (s .entry)) room words at r ⌝ }
+{
+    let token = next_token(s, at);
+    match token {
+        Token::Op(_, _, end) => match operand(s, room, words, end) {
+            Read::At(next, read) => links(s, room, read, next),
+            Read::Bad(refusal) => Read::Bad(refusal),
+        },
+        _ => Read::At(at, words),
+    }
+}
+
+// The refusals 9, 10 and 11, as met from the left.
+pub fn read_whole(s: &[u8]) -> Reading
+    ensures { λ r. ⌜ ReadsWhole (now (s .entry)) r ⌝ }
+{
+    match question(s, 8, 0, 0) {
+        Read::At(next, words) => {
+            let rest = next_token(s, next);
+            match rest {
+                Token::End(_) => Reading::Accepted(words),
+                _ => Reading::Refused(Refusal::Grammar(token_start(rest))),
+            }
+        }
+        Read::Bad(refusal) => Reading::Refused(refusal),
+    }
+}
