@@ -1,0 +1,12 @@
+pub mod TruthLaws
+pub mod ListLaws
+pub mod BitLaws
+pub mod MarkLaws
+pub mod FlipLaws
+pub mod WordFlips
+pub mod CombineLaws
+pub mod FillLaws
+pub mod HoldLaws
+pub mod EmptyLaws
+pub mod MemberLaws
+pub mod SweepLaws

@@ -1,0 +1,78 @@
+-- The words below i are combined, the others as they were (Upto); its bits follow by `combined-and`.
+use Prim.Native.Nat.{_≤_, _-_}
+use mathlib.Core.Path.{_≡_, refl}
+use native.Mathlib.Omega.{arith}
+use lib.ListN.{length}
+use lib.Bits.{bitAnd}
+use Rattle.window.proofs.CombineLaws.{Upto, upto-none, upto-more, combined-and}
+use borrow.Author.Needs.{needs}
+use Rattle.window.proofs.combine.and_into.Statement.{statement}
+use Rattle.window.proofs.combine.and_into.Tie as tie
+
+abbrev Inv-loop : tie.InvT-loop
+Inv-loop a₀ b i₀ a i = (i ≤ length a₀) × (length b ≡ length a₀) × Upto bitAnd a₀ b i a
+
+abbrev μ-loop : tie.MeasureT-loop
+μ-loop a₀ b i₀ a i = length b - i
+
+loop-holds : tie.Need-loop-holds Inv-loop μ-loop
+loop-holds c = (search needs, search needs, upto-none bitAnd _ _)
+
+mul-a : tie.Need-mul-a Inv-loop μ-loop
+mul-a c = search needs
+
+slice-read-a : tie.Need-slice-read-a Inv-loop μ-loop
+slice-read-a c = search needs
+
+mul-a-2 : tie.Need-mul-a-2 Inv-loop μ-loop
+mul-a-2 c = search needs
+
+shared-slice-read-a : tie.Need-shared-slice-read-a Inv-loop μ-loop
+shared-slice-read-a c = search needs
+
+mul-a-3 : tie.Need-mul-a-3 Inv-loop μ-loop
+mul-a-3 c = search needs
+
+slice-write-a : tie.Need-slice-write-a Inv-loop μ-loop
+slice-write-a c = search needs
+
+add-i : tie.Need-add-i Inv-loop μ-loop
+add-i c = search needs
+
+loop-less : tie.Need-loop-less Inv-loop μ-loop
+loop-less c = search needs
+
+loop-again : tie.Need-loop-again Inv-loop μ-loop
+loop-again c =
+    let at = c .before .before .before in
+    let a = at .before .args in
+    (search needs, search needs, upto-more bitAnd (a .a .now) (a .b .now) (at .loop .a) (at .loop .i) _ (omega arith) (at .loop .inv .2) refl)
+
+same-length : tie.Need-same-length Inv-loop μ-loop
+same-length c = c .before .loop .inv .2 .long
+
+returns : tie.Need-returns Inv-loop μ-loop
+returns c =
+    let at = c .before in
+    let a = at .before .args in
+    let e : at .loop .i ≡ length (a .a .now) = omega arith in
+    combined-and (a .a .now) (a .b .now) (at .loop .a) (rw (← e) (at .loop .inv .2))
+
+pub and-into-spec : {M : Type 1} → statement M
+and-into-spec =
+    tie.close
+    (tie.spec
+    Inv-loop
+    μ-loop
+    loop-holds
+    mul-a
+    slice-read-a
+    mul-a-2
+    shared-slice-read-a
+    mul-a-3
+    slice-write-a
+    add-i
+    loop-less
+    loop-again
+    same-length
+    returns)

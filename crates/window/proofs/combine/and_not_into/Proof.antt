@@ -1,0 +1,77 @@
+-- The words below i are combined, the others as they were (Upto); its bits follow by `combined-without`.
+use Prim.Native.Nat.{_≤_, _-_}
+use mathlib.Core.Path.{_≡_, refl}
+use native.Mathlib.Omega.{arith}
+use lib.ListN.{length}
+use Rattle.window.proofs.CombineLaws.{Upto, upto-none, upto-more, butNot, combined-without}
+use borrow.Author.Needs.{needs}
+use Rattle.window.proofs.combine.and_not_into.Statement.{statement}
+use Rattle.window.proofs.combine.and_not_into.Tie as tie
+
+abbrev Inv-loop : tie.InvT-loop
+Inv-loop a₀ b i₀ a i = (i ≤ length a₀) × (length b ≡ length a₀) × Upto butNot a₀ b i a
+
+abbrev μ-loop : tie.MeasureT-loop
+μ-loop a₀ b i₀ a i = length b - i
+
+loop-holds : tie.Need-loop-holds Inv-loop μ-loop
+loop-holds c = (search needs, search needs, upto-none butNot _ _)
+
+mul-v : tie.Need-mul-v Inv-loop μ-loop
+mul-v c = search needs
+
+slice-read-v : tie.Need-slice-read-v Inv-loop μ-loop
+slice-read-v c = search needs
+
+mul-a : tie.Need-mul-a Inv-loop μ-loop
+mul-a c = search needs
+
+shared-slice-read-a : tie.Need-shared-slice-read-a Inv-loop μ-loop
+shared-slice-read-a c = search needs
+
+mul-a-2 : tie.Need-mul-a-2 Inv-loop μ-loop
+mul-a-2 c = search needs
+
+slice-write-a : tie.Need-slice-write-a Inv-loop μ-loop
+slice-write-a c = search needs
+
+add-i : tie.Need-add-i Inv-loop μ-loop
+add-i c = search needs
+
+loop-less : tie.Need-loop-less Inv-loop μ-loop
+loop-less c = search needs
+
+loop-again : tie.Need-loop-again Inv-loop μ-loop
+loop-again c =
+    let at = c .before .before .before in
+    let a = at .before .args in
+    (search needs, search needs, upto-more butNot (a .a .now) (a .b .now) (at .loop .a) (at .loop .i) _ (omega arith) (at .loop .inv .2) refl)
+
+same-length : tie.Need-same-length Inv-loop μ-loop
+same-length c = c .before .loop .inv .2 .long
+
+returns : tie.Need-returns Inv-loop μ-loop
+returns c =
+    let at = c .before in
+    let a = at .before .args in
+    let e : at .loop .i ≡ length (a .a .now) = omega arith in
+    combined-without (a .a .now) (a .b .now) (at .loop .a) (rw (← e) (at .loop .inv .2))
+
+pub and-not-into-spec : {M : Type 1} → statement M
+and-not-into-spec =
+    tie.close
+    (tie.spec
+    Inv-loop
+    μ-loop
+    loop-holds
+    mul-v
+    slice-read-v
+    mul-a
+    shared-slice-read-a
+    mul-a-2
+    slice-write-a
+    add-i
+    loop-less
+    loop-again
+    same-length
+    returns)

@@ -1,0 +1,4 @@
+pub mod Bit
+pub mod Window
+pub mod Filled
+pub mod Flips
