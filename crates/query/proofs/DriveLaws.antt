@@ -1,0 +1,109 @@
+-- The driver's steps on a question: what a look and an evaluation of its codes say of its test, and what the loop keeps from step to step.
+use mathlib.Core.Path.{_≡_, refl, sym, ap, _∙_}
+use Prim.Native.Nat.{ℕ, _+_, _-_, _*_, _/_, _≤_, _<_}
+use native.Mathlib.Omega.{arith}
+use mathlib.Core.Bool.{Bool, true, false, cond}
+use mathlib.Core.List.{List, []}
+use lib.Dec.{ltb}
+use lib.ListN.{length, getD, replicate, length-replicate}
+use lib.Seq.{sets, length-sets}
+use borrow.Author.Tests.{ltb-true}
+use borrow.Rule.Slice.PartMut.{midOf, mid-len}
+use Rattle.laws.proofs.Tests.{by-test}
+use Rattle.list.specs.declared.answer.Tally.{Tally}
+use Rattle.list.specs.Interval.{records}
+use Rattle.list.specs.Sense.{Steady}
+use Rattle.list.specs.Stretches.{turned, cellsOf, recordsFrom}
+use Rattle.list.proofs.NamesLaws.{proper-names-above}
+use Rattle.list.proofs.RecordLaws.{recordsFrom-length}
+use Rattle.list.proofs.SweepLaws.{Swept, swept-count, swept-records, swept-written}
+use Rattle.index.specs.Format.{wordCount, highest, listOf}
+use Rattle.index.specs.Sound.{Sound}
+use Rattle.index.proofs.HasLaws.{list-proper}
+use Rattle.question.specs.Grammar.{Tree, word, pair, part, fromLeft, question, wordsOf}
+use Rattle.window.specs.Window.{member, Holds}
+use Rattle.window.specs.Flips.{odd, flips}
+use Rattle.window.proofs.SweepLaws.{window-part, jump-part}
+use Rattle.query.specs.declared.look.Look.{Look}
+use Rattle.query.specs.declared.eval.Step.{Step}
+use Rattle.query.specs.Slots.{slotHas, slotFits}
+use Rattle.query.specs.Engine.{Evaluated}
+use Rattle.query.specs.Look.{Looks}
+use Rattle.query.specs.Drive.{Constant, TreeOf, testOf, Tallied}
+use Rattle.query.proofs.SatisfyLaws.{combine-none}
+
+-- ---- the codes read as t
+
+module _ (codes index entries : List ℕ) (t : Tree) (o : TreeOf codes t) where
+  pub tree-holds : (x : ℕ) (ps qs ws ps′ qs′ ws′ : List ℕ) (r : Step) →
+      Evaluated (λ f. question fromLeft f 8 0) codes 0 0 index entries x ps qs ws ps′ qs′ ws′ r → Holds (testOf index entries t) x ws′
+  tree-holds x ps qs ws ps′ qs′ ws′ r e = e .reads (o .fuel) (o .toks) t [] (o .words) (o .are) (o .reads) .4
+
+  pub tree-steady : (x : ℕ) (ps qs ps′ qs′ : List ℕ) (r : Look) →
+      Looks (λ f. question fromLeft f 8 0) codes 0 0 index entries x ps qs ps′ qs′ r → Steady (testOf index entries t) x (r .inside) (r .until)
+  tree-steady x ps qs ps′ qs′ r e = e .reads (o .fuel) (o .toks) t [] (o .words) (o .are) (o .reads) .4
+
+-- ---- no record above N satisfies a question
+
+slot-above : (index entries : List ℕ) → Sound index → (k x : ℕ) → highest index < x → slotHas index entries k x ≡ false
+unfolding slotHas
+slot-above index entries s k x h =
+    by-test (ltb (getD entries k 0) (wordCount index))
+    (λ e. rw e (proper-names-above (highest index) x (listOf index (getD entries k 0)) (list-proper index s (getD entries k 0) (ltb-true (getD entries k 0) (wordCount index) e)) h))
+    (λ e. rw e)
+
+slots-none : (v : ℕ → ℕ → Bool) (x : ℕ) → ((k : ℕ) → v k x ≡ false) → (t : Tree) (k : ℕ) → slotFits v t k x ≡ false
+unfolding slotFits
+slots-none v x h (word w) k = h k
+slots-none v x h (pair o a b) k = rw (slots-none v x h a k) (combine-none o (slotFits v b (k + length (wordsOf a)) x) (slots-none v x h b (k + length (wordsOf a))))
+slots-none v x h (part t) k = slots-none v x h t k
+
+pub test-above : (index entries : List ℕ) → Sound index → (t : Tree) (x : ℕ) → highest index < x → testOf index entries t x ≡ false
+test-above index entries s t x h = slots-none (slotHas index entries) x (λ k. slot-above index entries s k x h) t 0
+
+-- ---- a window
+
+pub blank-length : (ws ws₀ : List ℕ) → ws ≡ replicate (length ws₀) 0 → length ws ≡ length ws₀
+blank-length ws ws₀ e = ap length e ∙ length-replicate (length ws₀) 0
+
+pub blank-again : (ws ws₀ : List ℕ) → ws ≡ replicate (length ws₀) 0 → ws ≡ replicate (length ws) 0
+blank-again ws ws₀ e = e ∙ ap (λ (m : ℕ). replicate m 0) (sym (blank-length ws ws₀ e))
+
+pub window-room : (p : ℕ → Bool) (x k : ℕ) (ws out : List ℕ) → Holds p x ws → k + length (flips p (odd k) x (64 * length ws)) ≤ length out →
+    k + length (flips (member ws x) (odd k) x (64 * length ws)) ≤ length out
+window-room p x k ws out h room = rw (window-part p x k (64 * length ws) ws refl h) room
+
+pub members-few : (ws : List ℕ) (r : ℕ) → ((x : ℕ) → r ≡ length (recordsFrom (member ws x) x (64 * length ws))) → r ≤ 64 * length ws
+members-few ws r e = omega (arith, e 1, recordsFrom-length (member ws 1) 1 (64 * length ws))
+
+-- ---- a jump
+
+pub steady-constant : (p : ℕ → Bool) (x y : ℕ) (v : Bool) (until : ℕ) → Steady p x v until → y ≤ until → Constant p x y v
+steady-constant p x y v until s h z a b = s .same z a (omega arith)
+
+pub jump-room : (p : ℕ → Bool) (x y : ℕ) (v : Bool) (k : ℕ) (out : List ℕ) → x < y → Constant p x y v → k + length (flips p (odd k) x (y - x)) ≤ length out →
+    k + length (turned (odd k) v x []) ≤ length out
+jump-room p x y v k out h c room = rw (jump-part p v x k (y - x) (omega arith) (λ i l. c (x + i) (omega arith) (omega arith))) room
+
+-- the part of the window's words that is lent
+pub part-words : (words : ℕ) (ws : List ℕ) → words ≤ length ws → length (midOf 0 (words - 0) ws) ≡ words
+part-words words ws h = omega (arith, mid-len 0 words ws h)
+
+-- ---- the whole sweep
+
+pub swept-length : (p : ℕ → Bool) (n : ℕ) (writing : Bool) (out₀ out : List ℕ) (b : Bool) (x k recs : ℕ) → Swept p n writing out₀ out b x k recs → length out ≡ length out₀
+swept-length p n writing out₀ out b x k recs s = ap length (s .written) ∙ go writing
+  where
+    go : (w : Bool) → length (cond w (sets out₀ 0 (s .done)) out₀) ≡ length out₀
+    go true = length-sets out₀ 0 (s .done)
+    go false = refl
+
+same-tally : (i j r q : ℕ) → i ≡ j → r ≡ q → _≡_ {A = Tally} (record { intervals = i; records = r }) (record { intervals = j; records = q })
+same-tally i j r q e f = rw (e, f)
+
+pub swept-tallied : (p : ℕ → Bool) (n : ℕ) (writing : Bool) (out₀ out : List ℕ) (k recs : ℕ) → Swept p n writing out₀ out false (n + 1) k recs →
+    (writing ≡ true → length (cellsOf p n) ≤ length out₀) → Tallied p n writing out₀ out (record { intervals = k / 2; records = recs })
+swept-tallied p n writing out₀ out k recs s room = record {
+  tally = same-tally (k / 2) (length (cellsOf p n) / 2) recs (records (cellsOf p n)) (ap (λ (m : ℕ). m / 2) (swept-count p n writing out₀ out k recs s)) (swept-records p n writing out₀ out k recs s);
+  cells = swept-written p n writing out₀ out k recs s room;
+}

@@ -1,0 +1,16 @@
+pub mod CodeLaws
+pub mod ReadsLaws
+pub mod CompileLaws
+pub mod EntryLaws
+pub mod SlotLaws
+pub mod AddedLaws
+pub mod FillingLaws
+pub mod SatisfyLaws
+pub mod Demand3
+pub mod DriverLaws
+pub mod DriveLaws
+pub mod EvalLaws
+pub mod SenseLaws
+pub mod WholeLaws
+pub mod QuestionBound
+pub mod AskLaws

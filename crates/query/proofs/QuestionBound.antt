@@ -1,0 +1,171 @@
+-- The list of a question has no more intervals than the lists of its words together: it can only change where one of them does.
+use Prim.Native.Nat.{ℕ, zero, suc, _+_, _*_, _-_, _/_, _≤_, _<_}
+use native.Mathlib.Omega.{arith}
+use mathlib.Core.Path.{_≡_, refl, sym, ap, ap₂, _∙_}
+use mathlib.Core.Bool.{Bool, false}
+use mathlib.Core.List.{List, [], _∷_}
+use lib.Dec.{ltb}
+use lib.ListN.{length, getD, length-append}
+use borrow.Author.Tests.{ltb-true, lt-ltb, le-ltb}
+use Rattle.laws.proofs.Tests.{by-test, leb-cases}
+use Rattle.list.specs.Interval.{properFrom, isProper, names, intervals}
+use Rattle.list.specs.Cell.{numbersIn}
+use Rattle.list.specs.Stretches.{cellsOf}
+use Rattle.list.proofs.CellLaws.{numbersIn-length}
+use Rattle.list.proofs.WalkLaws.{walked-length}
+use Rattle.list.proofs.KeptLaws.{kept-facts}
+use Rattle.list.proofs.NamesLaws.{proper-names-zero}
+use Rattle.list.proofs.StretchLaws.{cells-same, proper-cells, is-cells}
+use Rattle.list.proofs.BoundLaws.{Still, AllOut, together, cells-bound}
+use Rattle.index.specs.Format.{wordCount, highest, listStart, singleCount, pairCount, singlesOf, lowerOf, upperOf, listOf}
+use Rattle.index.specs.Sound.{Sound}
+use Rattle.index.specs.Has.{has}
+use Rattle.index.proofs.SoundLaws.{sound-length, sound-list, sound-list-room, singles-length, lower-length}
+use Rattle.index.proofs.HasLaws.{list-proper}
+use Rattle.question.specs.declared.token.Op.{Op}
+use Rattle.question.specs.declared.token.Op.the-variants.{And, Or, Not}
+use Rattle.question.specs.Grammar.{Tree, word, pair, part, fromLeft, wordsOf}
+use Rattle.question.specs.Meaning.{combine, fits}
+use Rattle.question.specs.Reading.{asks, asked}
+use Rattle.query.specs.Ask.{satisfying}
+use Rattle.query.specs.Slots.{slotHas, slotFits}
+use Rattle.query.specs.Compile.{Slots}
+use Rattle.query.specs.Bound.{slotIntervals, slotsIntervals}
+use Rattle.query.proofs.WholeLaws.{slot-fits}
+
+-- ---- one list
+
+module _ (index : List ℕ) (s : Sound index) (i : ℕ) (h : i < wordCount index) where
+  pub entry-intervals : intervals (listOf index i) ≡ length (singlesOf index i) / 4 + length (lowerOf index i) / 4
+  unfolding listOf
+  entry-intervals =
+      let S = numbersIn (singlesOf index i) in
+      let L = numbersIn (lowerOf index i) in
+      let U = numbersIn (upperOf index i) in
+      let w = walked-length S L U (kept-facts (highest index) S L U (sound-list index s i h) .long) in
+      omega (arith, numbersIn-length (singlesOf index i), numbersIn-length (lowerOf index i))
+
+  -- four bytes an interval at least
+  pub entry-few : intervals (listOf index i) ≤ 4194304
+  entry-few =
+      few (listStart index i) (singleCount index i) (pairCount index i) (length index) (intervals (listOf index i)) (length (singlesOf index i)) (length (lowerOf index i))
+      (sound-list-room index s i h) (sound-length index s .1) (singles-length index s i h) (lower-length index s i h) entry-intervals
+    where
+      few : (x a b size n l m : ℕ) → x + 4 * a + 8 * b ≤ size → size ≤ 16777216 → l ≡ 4 * a → m ≡ 4 * b → n ≡ l / 4 + m / 4 → n ≤ 4194304
+      few x a b size n l m r z e f g = omega arith
+
+-- ---- one slot
+
+module _ (index entries : List ℕ) (s : Sound index) (k : ℕ) where
+  pub slot-intervals-in : getD entries k 0 < wordCount index →
+      slotIntervals index entries k ≡ length (singlesOf index (getD entries k 0)) / 4 + length (lowerOf index (getD entries k 0)) / 4
+  unfolding slotIntervals
+  slot-intervals-in h = rw (lt-ltb (getD entries k 0) (wordCount index) h) (entry-intervals index s (getD entries k 0) h)
+
+  pub slot-intervals-out : wordCount index ≤ getD entries k 0 → slotIntervals index entries k ≡ 0
+  unfolding slotIntervals
+  slot-intervals-out h = rw (le-ltb (getD entries k 0) (wordCount index) h)
+
+  pub slot-few : slotIntervals index entries k ≤ 4194304
+  unfolding slotIntervals
+  slot-few =
+      by-test (ltb (getD entries k 0) (wordCount index))
+      (λ e. rw e (entry-few index s (getD entries k 0) (ltb-true (getD entries k 0) (wordCount index) e)))
+      (λ e. rw e (omega arith))
+
+  slot-zero : slotHas index entries k 0 ≡ false
+  unfolding slotHas
+  slot-zero =
+      by-test (ltb (getD entries k 0) (wordCount index))
+      (λ e. rw e (proper-names-zero (highest index) (listOf index (getD entries k 0)) (list-proper index s (getD entries k 0) (ltb-true (getD entries k 0) (wordCount index) e))))
+      (λ e. rw e)
+
+  slot-list : intervals (cellsOf (slotHas index entries k) (highest index)) ≡ slotIntervals index entries k
+  unfolding slotHas slotIntervals names isProper properFrom
+  slot-list =
+      by-test (ltb (getD entries k 0) (wordCount index))
+      (λ e. rw e (ap intervals
+      (cells-same (slotHas index entries k) (names (listOf index (getD entries k 0))) (highest index) (λ x l m. rw e)
+      ∙ sym (proper-cells (highest index) (listOf index (getD entries k 0)) (list-proper index s (getD entries k 0) (ltb-true (getD entries k 0) (wordCount index) e))))))
+      (λ e. rw e (ap intervals (sym (is-cells (slotHas index entries k) (highest index) [] refl (λ x l m. rw e)))))
+
+-- ---- the slots' tests
+
+unfoldable tests : (ℕ → ℕ → Bool) → ℕ → ℕ → List (ℕ → Bool)
+tests v k zero = []
+tests v k (suc n) = v k ∷ tests v (k + 1) n
+
+tests-still : (v : ℕ → ℕ → Bool) (k n x j : ℕ) → Still (tests v k n) x → k ≤ j → j < k + n → v j x ≡ v j (x + 1)
+unfolding tests
+tests-still v k zero x j w h l = absurd (omega arith)
+tests-still v k (suc n) x j w h l =
+    leb-cases j k (λ g. let e : j ≡ k = omega arith in rw e (w .0)) (λ g. tests-still v (k + 1) n x j (w .1) (omega arith) (omega arith))
+
+tests-out : (v : ℕ → ℕ → Bool) (k n : ℕ) → ((j : ℕ) → v j 0 ≡ false) → AllOut (tests v k n) 0
+unfolding tests
+tests-out v k zero f = tt
+tests-out v k (suc n) f = (f k, tests-out v (k + 1) n f)
+
+tests-together : (index entries : List ℕ) → Sound index → (k n : ℕ) → together (tests (slotHas index entries) k n) (highest index) ≡ slotsIntervals index entries k n
+unfolding tests together slotsIntervals
+tests-together index entries s k zero = refl
+tests-together index entries s k (suc n) = ap₂ (λ (a b : ℕ). a + b) (slot-list index entries s k) (tests-together index entries s (k + 1) n)
+
+-- ---- what fits changes only where a slot does, and nothing fits where no slot has it
+
+fits-still : (v : ℕ → ℕ → Bool) (t : Tree) (k x : ℕ) → ((j : ℕ) → k ≤ j → j < k + length (wordsOf t) → v j x ≡ v j (x + 1)) → slotFits v t k x ≡ slotFits v t k (x + 1)
+unfolding slotFits wordsOf
+fits-still v (word w) k x f = f k (omega arith) (omega arith)
+fits-still v (pair o a b) k x f =
+    let l = length-append (wordsOf a) (wordsOf b) in
+    ap₂ (combine o)
+    (fits-still v a k x (λ j h g. f j h (omega arith)))
+    (fits-still v b (k + length (wordsOf a)) x (λ j h g. f j (omega arith) (omega arith)))
+fits-still v (part t) k x f = fits-still v t k x f
+
+fits-none : (v : ℕ → ℕ → Bool) (t : Tree) (k x : ℕ) → ((j : ℕ) → v j x ≡ false) → slotFits v t k x ≡ false
+unfolding slotFits
+fits-none v (word w) k x f = f k
+fits-none v (pair o a b) k x f = rw (fits-none v a k x f, fits-none v b (k + length (wordsOf a)) x f) (none o)
+  where
+    none : (o : Op) → combine o false false ≡ false
+    none And = refl
+    none Or = refl
+    none Not = refl
+fits-none v (part t) k x f = fits-none v t k x f
+
+-- ---- the question
+
+pub question-bound : (index entries : List ℕ) → Sound index → (t : Tree) →
+    ((i : ℕ) → i < length (wordsOf t) → (x : ℕ) → slotHas index entries i x ≡ has index (getD (wordsOf t) i []) x) →
+    intervals (satisfying index t) ≤ slotsIntervals index entries 0 (length (wordsOf t))
+unfolding satisfying
+question-bound index entries s t f =
+    let v = slotHas index entries in
+    let n = length (wordsOf t) in
+    let e : cellsOf (fits (has index) t) (highest index) ≡ cellsOf (slotFits v t 0) (highest index) =
+    cells-same (fits (has index) t) (slotFits v t 0) (highest index) (λ x h l. sym (slot-fits v (has index) t x (λ i g. f i g x))) in
+    rw (e, ← tests-together index entries s 0 n)
+    (cells-bound (slotFits v t 0) (tests v 0 n) (highest index) (fits-none v t 0 0 (λ j. slot-zero index entries s j)) (tests-out v 0 n (λ j. slot-zero index entries s j))
+    (λ x h w. fits-still v t 0 x (λ j g l. tests-still v 0 n x j w g l)))
+
+-- an answer with room for that many intervals needs no counting first
+pub slots-bound : (index question entries entries′ : List ℕ) (n : ℕ) → Sound index → Slots index question entries entries′ n →
+    (t : Tree) (k : ℕ) → asked fromLeft question ≡ asks t k → intervals (satisfying index t) ≤ slotsIntervals index entries′ 0 n
+slots-bound index question entries entries′ n s w t k e =
+    let c = w .count t k e in
+    rw (c .1) (question-bound index entries′ s t (λ i h x. w .have t k e i (omega (arith, c .1)) x))
+
+-- ---- the sum, slot by slot
+
+pub slots-whole : (index entries : List ℕ) (count : ℕ) → slotsIntervals index entries 0 (count - 0) ≡ slotsIntervals index entries 0 count
+slots-whole index entries count = let e : count - 0 ≡ count = omega arith in rw e
+
+pub slots-next : (index entries : List ℕ) (k count : ℕ) → k < count →
+    slotsIntervals index entries k (count - k) ≡ slotIntervals index entries k + slotsIntervals index entries (k + 1) (count - (k + 1))
+unfolding slotsIntervals
+slots-next index entries k count h = let e : count - k ≡ suc (count - (k + 1)) = omega arith in rw e
+
+pub slots-end : (index entries : List ℕ) (k count : ℕ) → count ≤ k → slotsIntervals index entries k (count - k) ≡ 0
+unfolding slotsIntervals
+slots-end index entries k count h = let e : count - k ≡ 0 = omega arith in rw e

@@ -1,0 +1,57 @@
+-- Laws of the records that satisfy a question: none outside 1 to N, and the list of those within.
+use mathlib.Core.Path.{_≡_, refl, sym, _∙_}
+use Prim.Native.Nat.{ℕ, _*_, _≤_}
+use native.Mathlib.Omega.{arith}
+use mathlib.Core.Bool.{Bool, false}
+use mathlib.Core.List.{List}
+use lib.ListN.{length}
+use Rattle.laws.proofs.Tests.{leb-cases}
+use Rattle.list.specs.Interval.{names, intervals}
+use Rattle.list.proofs.StretchLaws.{cells-same, cells-agree, cells-even, cells-names}
+use Rattle.index.specs.Format.{highest}
+use Rattle.index.specs.Sound.{Sound}
+use Rattle.index.specs.Has.{has}
+use Rattle.index.proofs.HasLaws.{has-zero, has-above}
+use Rattle.question.specs.declared.token.Op.{Op}
+use Rattle.question.specs.declared.token.Op.the-variants.{And, Or, Not}
+use Rattle.question.specs.Grammar.{Tree, word, pair, part}
+use Rattle.question.specs.Meaning.{combine, fits, Same}
+use Rattle.query.specs.Ask.{satisfying}
+use Rattle.query.specs.Demand3.{SameRecords}
+
+-- a record with none of the words satisfies no question
+pub combine-none : (o : Op) (b : Bool) → b ≡ false → combine o false b ≡ false
+combine-none And b e = refl
+combine-none Or b e = e
+combine-none Not b e = refl
+
+pub fits-none : (had : List ℕ → ℕ → Bool) (x : ℕ) → ((w : List ℕ) → had w x ≡ false) → (t : Tree) → fits had t x ≡ false
+unfolding fits
+fits-none had x h (word w) = h w
+fits-none had x h (pair o a b) = rw (fits-none had x h a) (combine-none o (fits had b x) (fits-none had x h b))
+fits-none had x h (part t) = fits-none had x h t
+
+-- so over a sound index questions that agree from 1 to N agree everywhere
+pub same-everywhere : (index : List ℕ) → Sound index → (t u : Tree) → SameRecords index t u → Same (has index) t u
+same-everywhere index s t u h x =
+    leb-cases 1 x
+    (λ a. leb-cases x (highest index) (λ b. h x a b)
+    (λ b. fits-none (has index) x (λ w. has-above index s w x b) t ∙ sym (fits-none (has index) x (λ w. has-above index s w x b) u)))
+    (λ a. let z : x ≡ 0 = omega arith in rw z (fits-none (has index) 0 (has-zero index s) t ∙ sym (fits-none (has index) 0 (has-zero index s) u)))
+
+module _ (index : List ℕ) (t : Tree) where
+  pub satisfying-even : 2 * intervals (satisfying index t) ≡ length (satisfying index t)
+  unfolding satisfying
+  satisfying-even = cells-even (fits (has index) t) (highest index)
+
+  pub satisfying-names : (x : ℕ) → 1 ≤ x → x ≤ highest index → names (satisfying index t) x ≡ fits (has index) t x
+  unfolding satisfying
+  satisfying-names x h g = cells-names (fits (has index) t) (highest index) x h g
+
+  pub satisfying-same : (u : Tree) → SameRecords index t u → satisfying index t ≡ satisfying index u
+  unfolding satisfying
+  satisfying-same u h = cells-same (fits (has index) t) (fits (has index) u) (highest index) h
+
+  pub same-satisfying : (u : Tree) → satisfying index t ≡ satisfying index u → SameRecords index t u
+  unfolding satisfying
+  same-satisfying u e = cells-agree (fits (has index) t) (fits (has index) u) (highest index) e

@@ -1,0 +1,51 @@
+-- Laws of slots: the list of a slot's word, and what fits a tree by what its slots have.
+use mathlib.Core.Path.{_≡_, refl}
+use Prim.Native.Nat.{ℕ, _+_, _≤_, _<_}
+use mathlib.Core.Bool.{Bool, false}
+use mathlib.Core.List.{List}
+use lib.ListN.{length, getD}
+use borrow.Author.Tests.{lt-ltb, le-ltb}
+use Rattle.list.specs.Cell.{numbersIn}
+use Rattle.list.specs.Interval.{top, names}
+use Rattle.list.specs.Reading.{KeptIn, listIn}
+use Rattle.list.proofs.KeptLaws.{kept-weaker}
+use Rattle.index.specs.Format.{wordCount, highest, singlesOf, lowerOf, upperOf, listOf}
+use Rattle.index.specs.Sound.{Sound}
+use Rattle.index.proofs.SoundLaws.{sound-trailer, sound-list}
+use Rattle.question.specs.declared.token.Op.{Op}
+use Rattle.question.specs.Grammar.{Tree, word, pair, part, wordsOf}
+use Rattle.question.specs.Meaning.{combine}
+use Rattle.query.specs.Slots.{slotHas, slotFits}
+
+-- ---- the list of a slot
+
+pub entry-kept : (index : List ℕ) → Sound index → (i : ℕ) → i < wordCount index → KeptIn top (singlesOf index i) (lowerOf index i) (upperOf index i)
+entry-kept index s i h =
+    kept-weaker (highest index) top (numbersIn (singlesOf index i)) (numbersIn (lowerOf index i)) (numbersIn (upperOf index i))
+    (sound-trailer index s .highest-bound) (sound-list index s i h)
+
+module _ (index entries : List ℕ) (k : ℕ) where
+  pub slot-lists : getD entries k 0 < wordCount index → (x : ℕ) →
+      slotHas index entries k x ≡ names (listIn (singlesOf index (getD entries k 0)) (lowerOf index (getD entries k 0)) (upperOf index (getD entries k 0))) x
+  unfolding slotHas listOf
+  slot-lists h x = rw (lt-ltb (getD entries k 0) (wordCount index) h)
+
+  pub slot-lacks : wordCount index ≤ getD entries k 0 → (x : ℕ) → slotHas index entries k x ≡ false
+  unfolding slotHas
+  slot-lacks h x = rw (le-ltb (getD entries k 0) (wordCount index) h)
+
+-- ---- what fits a tree
+
+module _ (v : ℕ → ℕ → Bool) (k x : ℕ) where
+  pub slot-word : (w : List ℕ) → slotFits v (word w) k x ≡ v k x
+  unfolding slotFits
+  slot-word w = refl
+
+  pub slot-part : (t : Tree) → slotFits v (part t) k x ≡ slotFits v t k x
+  unfolding slotFits
+  slot-part t = refl
+
+  -- j is the slot of b's first word
+  pub slot-pair : (o : Op) (a b : Tree) (j : ℕ) → j ≡ k + length (wordsOf a) → slotFits v (pair o a b) k x ≡ combine o (slotFits v a k x) (slotFits v b j x)
+  unfolding slotFits
+  slot-pair o a b j e = rw e

@@ -1,0 +1,46 @@
+-- The check refuses first; of a sound index, what the question is answered with.
+use mathlib.Core.Path.{sym, _∙_}
+use Rattle.index.proofs.CheckLaws.{good-sound}
+use Rattle.question.specs.Grammar.{fromLeft}
+use Rattle.query.proofs.AskLaws.{good-asks, refused-asks}
+use borrow.Author.Needs.{needs}
+use Rattle.query.proofs.ask.ask.Statement.{statement}
+use Rattle.query.proofs.ask.ask.Tie as tie
+
+check-index-requires : tie.Need-check-index-requires
+check-index-requires c κs = search needs
+
+enum-told : tie.Need-enum-told
+enum-told c = search needs
+
+answer-question-requires : tie.Need-answer-question-requires
+answer-question-requires c κs =
+    good-sound (c .before .before .before .before .before .before .before .args .index .now) (sym (c .before .before .before .check-index .ensures) ∙ c .before .enum-told .given .1)
+
+enum-known-refusal : tie.Need-enum-known-refusal
+enum-known-refusal c = search needs
+
+same-length : tie.Need-same-length
+same-length c = search needs
+
+returns : tie.Need-returns
+returns c =
+    let a = c .before .before .before .before .before .before .before .before .before .before .args in
+    good-asks fromLeft (a .index .now) (a .question .now) (a .out .now) _ _ (sym (c .before .before .before .before .before .before .check-index .ensures) ∙ c .before .before .before .before .enum-told .given .1) (c .before .before .answer-question .ensures)
+
+returns-2 : tie.Need-returns-2
+returns-2 c =
+    let a = c .before .before .before .before .before .before .before .args in
+    refused-asks fromLeft (a .index .now) (a .question .now) (a .out .now) (c .before .refusal .given .0 .0) (sym (c .before .before .before .check-index .ensures) ∙ c .before .refusal .given .1)
+
+pub ask-spec : {M : Type 1} → statement M
+ask-spec =
+    tie.close
+    (tie.spec
+    check-index-requires
+    enum-told
+    answer-question-requires
+    enum-known-refusal
+    same-length
+    returns
+    returns-2)

@@ -1,0 +1,174 @@
+-- A look says how far a jump may go; a jump and a window are both steps of the sweep, to the record behind them or to n + 1.
+use mathlib.Core.Path.{refl, _∙_}
+use Prim.Native.Nat.{_-_, _*_}
+use native.Mathlib.Omega.{arith}
+use borrow.Author.Needs.{needs}
+use Rattle.query.specs.Drive.{testOf}
+use Rattle.query.proofs.DriveLaws.{tree-steady, steady-constant, jump-room, part-words}
+use Rattle.query.proofs.drive.step.Statement.{statement}
+use Rattle.query.proofs.drive.step.Tie as tie
+
+look-level-requires : tie.Need-look-level-requires
+look-level-requires c κs = search needs
+
+add-smaller : tie.Need-add-smaller
+add-smaller c = search needs
+
+smaller-requires : tie.Need-smaller-requires
+smaller-requires c κs = search needs
+
+add-if1 : tie.Need-add-if1
+add-if1 c = search needs
+
+take-jump-requires : tie.Need-take-jump-requires
+take-jump-requires c κs =
+    let start = c .before .before .before .before .before .before .before .before .before .before .before .before .before .before .before .before .before in
+    let a = start .args in
+    let stands = start .pre .1 .0 in
+    let roomy = start .pre .1 .1 in
+    let until = c .before .before .smaller .ensures in
+    let steady = tree-steady (a .codes .now) (a .index .now) (a .entries .now) (roomy .tree) (roomy .reads) (a .at .x) _ _ _ _ _ (c .before .before .before .before .before .before .before .look-level .ensures) in (
+      omega arith,
+      omega arith,
+      omega arith,
+      omega arith,
+      λ w. jump-room (testOf (a .index .now) (a .entries .now) (roomy .tree)) (a .at .x) (c .before .before .smaller .result) _ (a .at .cells) (a .out .now) (omega arith)
+          (steady-constant (testOf (a .index .now) (a .entries .now) (roomy .tree)) (a .at .x) (c .before .before .smaller .result) _ _ steady (omega arith))
+          (roomy .room w (c .before .before .smaller .result - a .at .x) (omega arith)),
+    )
+
+same-length : tie.Need-same-length
+same-length c = search needs
+
+same-length-2 : tie.Need-same-length-2
+same-length-2 c = search needs
+
+same-length-3 : tie.Need-same-length-3
+same-length-3 c = search needs
+
+returns : tie.Need-returns
+returns c =
+    let start = c .before .before .before .before .before .before .before .before .before .before .before .before .before .before .before .before .before .before .before .before in
+    let a = start .args in
+    let stands = start .pre .1 .0 in
+    let roomy = start .pre .1 .1 in
+    let looks = c .before .before .before .before .before .before .before .before .before .before .look-level .ensures in
+    let y = c .before .before .before .before .before .smaller .result in
+    let until = c .before .before .before .before .before .smaller .ensures in
+    let taken = c .before .before .before .before .if1 .taken in (
+      record { ps-long = looks .ps-long; qs-long = looks .qs-long; ws-long = refl },
+      (
+        (omega arith, omega arith),
+        λ t o. let steady = tree-steady (a .codes .now) (a .index .now) (a .entries .now) t o (a .at .x) _ _ _ _ _ looks in
+            record {
+              far = y - a .at .x;
+              some = omega arith;
+              to = omega arith;
+              step = c .before .before .take-jump .ensures (testOf (a .index .now) (a .entries .now) t) (steady-constant (testOf (a .index .now) (a .entries .now) t) (a .at .x) y _ _ steady (omega arith));
+            },
+      ),
+    )
+
+sub-take-window : tie.Need-sub-take-window
+sub-take-window c = search needs
+
+part-take-window-start : tie.Need-part-take-window-start
+part-take-window-start c = search needs
+
+part-take-window-end : tie.Need-part-take-window-end
+part-take-window-end c = search needs
+
+take-window-requires : tie.Need-take-window-requires
+take-window-requires c κs =
+    let start = c .before .before .before .before .before .before .before .before .before .before .before .before .before .before .before .before .before .before .before .before in
+    let a = start .args in
+    let lent = start .pre .0 .0 in
+    let stands = start .pre .1 .0 in
+    let looks = c .before .before .before .before .before .before .before .before .before .before .look-level .ensures in
+    let words = part-words (a .at .words) (a .ws .now) (omega (arith, start .pre .0 .1)) in (
+      record { sound = lent .sound; entries-long = lent .entries-long; ps-long = looks .ps-long ∙ lent .ps-long; qs-long = looks .qs-long ∙ lent .qs-long },
+      ((omega arith, omega arith, omega arith, omega arith, omega arith, omega arith), start .pre .1 .1),
+    )
+
+cast-smaller : tie.Need-cast-smaller
+cast-smaller c = let stands = c .before .before .before .before .before .before .before .before .before .before .before .before .before .before .before .before .before .before .before .before .before .before .before .before .before .before .before .before .before .pre .1 .0 in omega arith
+
+mul-smaller : tie.Need-mul-smaller
+mul-smaller c = let stands = c .before .before .before .before .before .before .before .before .before .before .before .before .before .before .before .before .before .before .before .before .before .before .before .before .before .before .before .before .before .pre .1 .0 in omega arith
+
+add-smaller-2 : tie.Need-add-smaller-2
+add-smaller-2 c = let stands = c .before .before .before .before .before .before .before .before .before .before .before .before .before .before .before .before .before .before .before .before .before .before .before .before .before .before .before .before .before .pre .1 .0 in omega arith
+
+add-smaller-3 : tie.Need-add-smaller-3
+add-smaller-3 c = let stands = c .before .before .before .before .before .before .before .before .before .before .before .before .before .before .before .before .before .before .before .before .before .before .before .before .before .before .before .before .before .pre .1 .0 in omega arith
+
+smaller-requires-2 : tie.Need-smaller-requires-2
+smaller-requires-2 c κs = search needs
+
+doubled-requires : tie.Need-doubled-requires
+doubled-requires c κs = search needs
+
+same-length-4 : tie.Need-same-length-4
+same-length-4 c = search needs
+
+same-length-5 : tie.Need-same-length-5
+same-length-5 c = search needs
+
+same-length-6 : tie.Need-same-length-6
+same-length-6 c = search needs
+
+same-length-7 : tie.Need-same-length-7
+same-length-7 c = search needs
+
+returns-2 : tie.Need-returns-2
+returns-2 c =
+    let start = c .before .before .before .before .before .before .before .before .before .before .before .before .before .before .before .before .before .before .before .before .before .before .before .before .before .before .before .before .before .before .before in
+    let a = start .args in
+    let stands = start .pre .1 .0 in
+    let looks = c .before .before .before .before .before .before .before .before .before .before .before .before .before .before .before .before .before .before .before .before .before .look-level .ensures in
+    let took = c .before .before .before .before .before .before .before .before .before .before .take-window .ensures in
+    let words = part-words (a .at .words) (a .ws .now) (omega (arith, start .pre .0 .1)) in (
+      record {
+        ps-long = took .0 .ps-long ∙ looks .ps-long;
+        qs-long = took .0 .qs-long ∙ looks .qs-long;
+        ws-long = same-length-6 c;
+      },
+      (
+        (c .doubled .ensures .0 (stands .some), c .doubled .ensures .1),
+        λ t o. record {
+          far = 64 * a .at .words;
+          some = omega arith;
+          to = c .before .smaller2 .ensures;
+          step = rw words at (took .1 t o);
+        },
+      ),
+    )
+
+pub step-spec : {M : Type 1} → statement M
+step-spec =
+    tie.close
+    (tie.spec
+    look-level-requires
+    add-smaller
+    smaller-requires
+    add-if1
+    take-jump-requires
+    same-length
+    same-length-2
+    same-length-3
+    returns
+    sub-take-window
+    part-take-window-start
+    part-take-window-end
+    take-window-requires
+    cast-smaller
+    mul-smaller
+    add-smaller-2
+    add-smaller-3
+    smaller-requires-2
+    doubled-requires
+    same-length-4
+    same-length-5
+    same-length-6
+    same-length-7
+    returns-2)

@@ -1,0 +1,102 @@
+-- The blank window holds the question's test once it is evaluated; its cells and its records are those of the test.
+use mathlib.Core.Path.{_∙_, ap}
+use Prim.Native.Nat.{ℕ, _+_, _*_}
+use native.Mathlib.Omega.{arith}
+use borrow.Author.Needs.{needs}
+use Rattle.query.specs.Drive.{testOf}
+use Rattle.query.proofs.DriverLaws.{stepped-window}
+use Rattle.query.proofs.DriveLaws.{tree-holds, blank-length, blank-again, window-room, members-few}
+use Rattle.query.proofs.drive.take_window.Statement.{statement}
+use Rattle.query.proofs.drive.take_window.Tie as tie
+
+clear-requires : tie.Need-clear-requires
+clear-requires c κs = search needs
+
+eval-level-requires : tie.Need-eval-level-requires
+eval-level-requires c κs =
+    let start = c .before .before .before .before .before .before .before .before .before .before .before .before .before .before in
+    let blank = c .before .before .before .before .before .clear .ensures in
+    let long = blank-length _ (start .args .ws .now) blank in
+    let within = start .pre .1 .0 in
+    record {
+      sound = start .pre .0 .sound;
+      inside = omega arith;
+      entries-long = start .pre .0 .entries-long;
+      ps-long = start .pre .0 .ps-long;
+      qs-long = start .pre .0 .qs-long;
+      blank = blank-again _ (start .args .ws .now) blank;
+      size = omega arith;
+      near = omega arith;
+    }
+
+put-flips-requires : tie.Need-put-flips-requires
+put-flips-requires c κs =
+    let start = c .before .before .before .before .before .before .before .before .before .before .before .before .before .before .before .before .before .before .before .before .before .before .before in
+    let a = start .args in
+    let evaluated = c .before .before .before .before .before .before .before .before .eval-level .ensures in
+    let long = blank-length _ (a .ws .now) (c .before .before .before .before .before .before .before .before .before .before .before .before .before .before .clear .ensures) in
+    let same = evaluated .ws-long in
+    let within = start .pre .1 .0 in
+    let roomy = start .pre .1 .1 in
+    let holds = tree-holds (a .codes .now) (a .index .now) (a .entries .now) (roomy .tree) (roomy .reads) (a .x) _ _ _ _ _ _ _ evaluated in
+    (within .2, omega arith, omega arith, λ w. window-room (testOf (a .index .now) (a .entries .now) (roomy .tree)) (a .x) (a .k) _ (a .out .now) holds (roomy .room w _ (omega arith)))
+
+count-members-requires : tie.Need-count-members-requires
+count-members-requires c κs =
+    let start = c .before .before .before .before .before .before .before .before .before .before .before .before .before .before .before .before .before .before .before .before .before .before .before .before .before .before .before in
+    let evaluated = c .before .before .before .before .before .before .before .before .before .before .before .before .eval-level .ensures in
+    let long = blank-length _ (start .args .ws .now) (c .before .before .before .before .before .before .before .before .before .before .before .before .before .before .before .before .before .before .clear .ensures) in
+    let same = evaluated .ws-long in
+    let within = start .pre .1 .0 in
+    omega arith
+
+add-t30 : tie.Need-add-t30
+add-t30 c =
+    let start = c .before .before .before .before .before .before .before .before .before .before .before .before .before .before .before .before .before .before .before .before .before .before .before .before .before .before .before .before in
+    let evaluated = c .before .before .before .before .before .before .before .before .before .before .before .before .before .eval-level .ensures in
+    let long = blank-length _ (start .args .ws .now) (c .before .before .before .before .before .before .before .before .before .before .before .before .before .before .before .before .before .before .before .clear .ensures) in
+    let same = evaluated .ws-long in
+    let within = start .pre .1 .0 in
+    let few = members-few _ _ (c .count-members .ensures) in
+    omega arith
+
+same-length : tie.Need-same-length
+same-length c = search needs
+
+same-length-2 : tie.Need-same-length-2
+same-length-2 c = search needs
+
+same-length-3 : tie.Need-same-length-3
+same-length-3 c = search needs
+
+same-length-4 : tie.Need-same-length-4
+same-length-4 c = search needs
+
+returns : tie.Need-returns
+returns c =
+    let start = c .before .before .before .before .before .before .before .before .before .before .before .before .before .before .before .before .before .before .before .before .before .before .before .before .before .before .before .before in
+    let a = start .args in
+    let evaluated = c .before .before .before .before .before .before .before .before .before .before .before .before .before .eval-level .ensures in
+    let long = blank-length _ (a .ws .now) (c .before .before .before .before .before .before .before .before .before .before .before .before .before .before .before .before .before .before .before .clear .ensures) in (
+      record { ps-long = evaluated .ps-long; qs-long = evaluated .qs-long; ws-long = evaluated .ws-long ∙ long },
+      λ t o. let e = evaluated .ws-long ∙ long in
+          rw (ap (λ (m : ℕ). 64 * m) e) at
+          (stepped-window (testOf (a .index .now) (a .entries .now) t) (a .x) (a .k) (a .records) _ (a .writing) (a .out .now) _ _ _
+          (tree-holds (a .codes .now) (a .index .now) (a .entries .now) t o (a .x) _ _ _ _ _ _ _ evaluated)
+          (c .before .before .before .before .put-flips .ensures) (ap (λ (m : ℕ). a .records + m) (c .count-members .ensures (a .x)))),
+    )
+
+pub take-window-spec : {M : Type 1} → statement M
+take-window-spec =
+    tie.close
+    (tie.spec
+    clear-requires
+    eval-level-requires
+    put-flips-requires
+    count-members-requires
+    add-t30
+    same-length
+    same-length-2
+    same-length-3
+    same-length-4
+    returns)

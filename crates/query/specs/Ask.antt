@@ -1,0 +1,49 @@
+-- "A question or join reports its intervals and its records": what a question over an index is answered with.
+use Prim.Native.Nat.{ℕ, _/_}
+use mathlib.Core.Path.{_≡_}
+use mathlib.Core.List.{List}
+use lib.ListN.{length}
+use Rattle.list.specs.declared.answer.Answer.{Answer}
+use Rattle.list.specs.declared.answer.Answer.the-variants as answer
+use Rattle.list.specs.Stretches.{cellsOf}
+use Rattle.list.specs.Answer.{listAnswer, listCells}
+use Rattle.index.specs.declared.Checked.{Checked}
+use Rattle.index.specs.declared.Checked.the-variants.{Good, Refused}
+use Rattle.index.specs.Format.{highest}
+use Rattle.index.specs.Has.{has}
+use Rattle.index.specs.Check.{checkOf}
+use Rattle.question.specs.Grammar.{Tree, Rule}
+use Rattle.question.specs.Meaning.{fits}
+use Rattle.question.specs.Reading.{Asked, asks, refuses, asked}
+
+-- the one proper list of the records that satisfy a question's tree
+unfoldable pub satisfying : List ℕ → Tree → List ℕ
+satisfying index t = cellsOf (fits (has index) t) (highest index)
+
+-- after the question is read: 12, or the list
+abbrev pub treeAnswer : List ℕ → Asked → ℕ → Answer
+treeAnswer index (asks t k) room = listAnswer (satisfying index t) room
+treeAnswer index (refuses r) room = answer.Refused r
+
+abbrev pub treeCells : List ℕ → Asked → ℕ → List ℕ → List ℕ
+treeCells index (asks t k) room out = listCells (satisfying index t) room out
+treeCells index (refuses r) room out = out
+
+-- the promise of a question over an index that is sound already
+pub record Answers (rule : Rule) (index question out out′ : List ℕ) (r : Answer) : Type 0 where
+  pub answer : r ≡ treeAnswer index (asked rule question) (length out / 2)
+  pub cells : out′ ≡ treeCells index (asked rule question) (length out / 2) out
+
+-- "Index calls: 1, 2, 3, 4 over all entries, 5. Then a question: 6, 7, 8, then 9, 10, 11 as met from the left, then 12."
+abbrev pub askAnswer : Checked → List ℕ → Asked → ℕ → Answer
+askAnswer (Refused r) index a room = answer.Refused r
+askAnswer Good index a room = treeAnswer index a room
+
+abbrev pub askCells : Checked → List ℕ → Asked → ℕ → List ℕ → List ℕ
+askCells (Refused r) index a room out = out
+askCells Good index a room out = treeCells index a room out
+
+-- the promise of a question over any bytes
+pub record Asks (rule : Rule) (index question out out′ : List ℕ) (r : Answer) : Type 0 where
+  pub answer : r ≡ askAnswer (checkOf index) index (asked rule question) (length out / 2)
+  pub cells : out′ ≡ askCells (checkOf index) index (asked rule question) (length out / 2) out

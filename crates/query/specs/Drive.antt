@@ -1,0 +1,97 @@
+-- The driver, which passes the records from 1 to N step by step and counts, or writes, the cells of those that satisfy a question.
+use Prim.Native.Nat.{ℕ, _+_, _≤_, _<_, min}
+use mathlib.Core.Path.{_≡_}
+use mathlib.Core.Bool.{Bool, true, cond}
+use mathlib.Core.List.{List, [], _++_}
+use lib.ListN.{length, drop}
+use lib.Seq.{sets}
+use Rattle.list.specs.declared.answer.Tally.{Tally}
+use Rattle.list.specs.Stretches.{recordsFrom, cellsOf}
+use Rattle.list.specs.Answer.{tallyOf}
+use Rattle.index.specs.Sound.{Sound}
+use Rattle.question.specs.Token.{Tok}
+use Rattle.question.specs.Grammar.{Tree, good, fromLeft, question}
+use Rattle.window.specs.Flips.{odd, flips}
+use Rattle.query.specs.Code.{codesOf}
+use Rattle.query.specs.Slots.{slotHas, slotFits}
+use Rattle.query.specs.declared.drive.At.{At}
+
+-- ---- one step, for any test
+
+-- the cells vs behind the first k: they are counted, and where the list is written, written
+pub record Put (vs : List ℕ) (k : ℕ) (writing : Bool) (out out′ : List ℕ) (k′ : ℕ) : Type 0 where
+  pub count : k′ ≡ k + length vs
+  pub written : out′ ≡ cond writing (sets out k vs) out
+
+-- p is v from x to below y
+abbrev pub Constant : (ℕ → Bool) → ℕ → ℕ → Bool → Type 0
+Constant p x y v = (z : ℕ) → x ≤ z → z < y → p z ≡ v
+
+-- a step over the m records from x on: behind k cells and recs records, there are k′ and recs′
+pub record Stepped (p : ℕ → Bool) (x m : ℕ) (writing : Bool) (k recs : ℕ) (out out′ : List ℕ) (k′ recs′ : ℕ) : Type 0 where
+  pub cells : k′ ≡ k + length (flips p (odd k) x m)
+  pub records : recs′ ≡ recs + length (recordsFrom p x m)
+  pub written : out′ ≡ cond writing (sets out k (flips p (odd k) x m)) out
+
+-- ---- the question's test, by its codes
+
+-- the codes read as a whole question whose tree is t
+pub record TreeOf (codes : List ℕ) (t : Tree) : Type 0 where
+  pub toks : List Tok
+  pub are : codesOf toks ≡ codes
+  pub fuel : ℕ
+  pub words : ℕ
+  pub reads : question fromLeft fuel 8 0 toks ≡ good t [] words
+
+-- which records satisfy it, by what its slots have
+abbrev pub testOf : List ℕ → List ℕ → Tree → ℕ → Bool
+testOf index entries t = slotFits (slotHas index entries) t 0
+
+-- what the driver reads by: a sound index, the entries of 16 slots, and a hint for each
+pub record ReadBy (index entries ps qs : List ℕ) : Type 0 where
+  pub sound : Sound index
+  pub entries-long : length entries ≡ 16
+  pub ps-long : length ps ≡ 16
+  pub qs-long : length qs ≡ 16
+
+-- the hints are moved, and nothing else is said of them
+pub record Kept (ps qs ws ps′ qs′ ws′ : List ℕ) : Type 0 where
+  pub ps-long : length ps′ ≡ length ps
+  pub qs-long : length qs′ ≡ length qs
+  pub ws-long : length ws′ ≡ length ws
+
+-- the codes read as a question, and the cells of any step from x on have room behind the first k, where they are written
+pub record Roomy (codes index entries : List ℕ) (x : ℕ) (writing : Bool) (k : ℕ) (out : List ℕ) : Type 0 where
+  pub tree : Tree
+  pub reads : TreeOf codes tree
+  pub room : writing ≡ true → (m : ℕ) → 1 ≤ m → k + length (flips (testOf index entries tree) (odd k) x m) ≤ length out
+
+-- the codes read as a question, whose whole list has room, where it is written
+pub record Fits (codes index entries : List ℕ) (n : ℕ) (writing : Bool) (out : List ℕ) : Type 0 where
+  pub tree : Tree
+  pub reads : TreeOf codes tree
+  pub room : writing ≡ true → length (cellsOf (testOf index entries tree) n) ≤ length out
+
+-- ---- the loop
+
+-- where it stands before a step
+pub record Stands (n : ℕ) (at : At) : Type 0 where
+  pub some : 1 ≤ at .words
+  pub most : at .words ≤ 128
+  pub begun : 1 ≤ at .x
+  pub more : at .x ≤ n
+  pub near : n ≤ 16777215
+  pub few : at .cells ≤ n + 1
+  pub counted : at .records ≤ n
+
+-- where it stands behind it
+pub record Moved (p : ℕ → Bool) (n : ℕ) (writing : Bool) (at : At) (out out′ : List ℕ) (r : At) : Type 0 where
+  pub far : ℕ
+  pub some : 1 ≤ far
+  pub to : r .x ≡ min (at .x + far) (n + 1)
+  pub step : Stepped p (at .x) far writing (at .cells) (at .records) out out′ (r .cells) (r .records)
+
+-- the whole list, counted or written
+pub record Tallied (p : ℕ → Bool) (n : ℕ) (writing : Bool) (out out′ : List ℕ) (r : Tally) : Type 0 where
+  pub tally : r ≡ tallyOf (cellsOf p n)
+  pub cells : out′ ≡ cond writing (cellsOf p n ++ drop (length (cellsOf p n)) out) out

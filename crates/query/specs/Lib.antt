@@ -1,0 +1,10 @@
+pub mod Ask
+pub mod Code
+pub mod Slots
+pub mod Compile
+pub mod Engine
+pub mod Demand3
+pub mod Drive
+pub mod Look
+pub mod Bound
+pub mod Prepared

@@ -1,0 +1,76 @@
+// The call that answers a question over an index.
+ghost use mathlib.Core.Path.{_≡_};
+ghost use Prim.Native.Nat.{_≤_};
+ghost use lib.ListN.{length};
+ghost use Rattle.index.specs.Sound.{Sound};
+ghost use Rattle.question.specs.Grammar.{Tree, fromLeft};
+ghost use Rattle.query.specs.Ask.{satisfying, Answers, Asks};
+ghost use Rattle.query.specs.Compile.{IsAsked};
+ghost use Rattle.query.specs.Prepared.{Prepared, IsPrepared, Listing};
+use crate::bound::slots_sum;
+use crate::compile::find_slots;
+use crate::compile::write_codes;
+use crate::drive::sweep_question;
+use index::Checked;
+use index::check::check_index;
+use index::trailer::read_trailer;
+use list::answer::Answer;
+use question::read_question;
+use question::reader::Reading;
+use refusal::Refusal;
+
+// Writes the answer where it has room. The lists of the words have no fewer intervals together: where there is room for those, one pass is enough.
+fn put_answer(
+    codes: &[u8],
+    index: &[u8],
+    entries: &[usize],
+    words: usize,
+    out: &mut [u32],
+) -> Answer
+    requires reads { ⌜ Sound (now index) × (length (now entries) ≡ 16) × (words ≤ 16) ⌝ }
+    requires prepared { ⌜ IsPrepared (now codes) (now index) (now entries) words ⌝ }
+    ensures { λ r. ⌜ ((t : Tree) → Prepared (now (codes .entry)) (now (index .entry)) (now (entries .entry)) words t → Listing (satisfying (now (index .entry)) t) (now (out .entry)) (now (out .exit)) r) ⌝ }
+{
+    let highest = read_trailer(index).highest;
+    let room = out.len() / 2;
+    if slots_sum(index, entries, words) <= room {
+        return Answer::Listed(sweep_question(codes, index, entries, highest, true, out));
+    }
+    let needed = sweep_question(codes, index, entries, highest, false, out).intervals;
+    if room < needed {
+        return Answer::Refused(Refusal::Room(needed));
+    }
+    Answer::Listed(sweep_question(codes, index, entries, highest, true, out))
+}
+
+fn answer_accepted(index: &[u8], question: &[u8], out: &mut [u32]) -> Answer
+    requires { ⌜ Sound (now index) × IsAsked (now question) ⌝ }
+    ensures { λ r. ⌜ Answers fromLeft (now (index .entry)) (now (question .entry)) (now (out .entry)) (now (out .exit)) r ⌝ }
+{
+    let mut codes: [u8; 256] = [0; 256];
+    let count = write_codes(question, &mut codes);
+    let mut entries: [usize; 16] = [0; 16];
+    let words = find_slots(index, question, &mut entries);
+    put_answer(&codes[0..count], index, &entries, words, out)
+}
+
+// Answers a question over an index that is sound.
+pub fn answer_question(index: &[u8], question: &[u8], out: &mut [u32]) -> Answer
+    requires { ⌜ Sound (now index) ⌝ }
+    ensures { λ r. ⌜ Answers fromLeft (now (index .entry)) (now (question .entry)) (now (out .entry)) (now (out .exit)) r ⌝ }
+{
+    match read_question(question) {
+        Reading::Accepted(_) => answer_accepted(index, question, out),
+        Reading::Refused(refusal) => Answer::Refused(refusal),
+    }
+}
+
+// Answers a question over any bytes: the index is checked first.
+pub fn ask(index: &[u8], question: &[u8], out: &mut [u32]) -> Answer
+    ensures { λ r. ⌜ Asks fromLeft (now (index .entry)) (now (question .entry)) (now (out .entry)) (now (out .exit)) r ⌝ }
+{
+    match check_index(index) {
+        Checked::Good => answer_question(index, question, out),
+        Checked::Refused(refusal) => Answer::Refused(refusal),
+    }
+}
