@@ -1,0 +1,375 @@
+-- A sound index has one encoding: it is the index of its own N, words and lists.
+use mathlib.Core.Path.{_≡_, refl, sym, ap, _∙_}
+use Prim.Native.Nat.{ℕ, zero, suc, _+_, _-_, _*_, _≤_, _<_}
+use native.Mathlib.Omega.{arith}
+use mathlib.Core.List.{List, [], _∷_, _++_, append-nil, append-assoc}
+use mathlib.Core.Bool.{true}
+use lib.ListN.{length, getD, drop, length-append, length-drop, take-append-drop, drop-of-length-le}
+use lib.Seq.{drop-drop}
+use Rattle.laws.proofs.Tests.{true-false}
+use Rattle.word.specs.Word.{before, isWord}
+use Rattle.list.specs.Interval.{names}
+use Rattle.list.specs.Stretches.{recordsOf}
+use Rattle.list.specs.Cell.{cellAt, numbersIn}
+use Rattle.list.specs.Convert.{among}
+use Rattle.list.proofs.CellLaws.{numbersIn-length}
+use Rattle.list.proofs.StretchLaws.{cells-same, proper-cells}
+use Rattle.list.proofs.RecordLaws.{records-same, records-among, records-ascend, proper-count}
+use Rattle.list.proofs.KeptCountLaws.{kept-count}
+use Rattle.index.specs.Format.{wordsStart, directoryStart, wordCount, highest, entryAt, wordStart, wordLength, listStart, singleCount, pairCount, listLength, wordsEnd, listsEnd, part, wordOf, singlesOf, lowerOf, upperOf, listOf}
+use Rattle.index.specs.Sound.{Sound}
+use Rattle.index.proofs.SoundLaws.{sound-length, sound-edition, sound-word, words-step, sound-trailer, sound-entry, sound-list, sound-ends, wordsEnd-next, listsEnd-next, word-length, singles-length, lower-length, upper-length}
+use Rattle.index.proofs.HasLaws.{list-proper}
+use Rattle.build.specs.Lent.{lentBefore}
+use Rattle.build.specs.Written.{cellBytes, cellsBytes, singlesIn, lowersIn, uppersIn, keptBytes, cellsIn, listsBytes, wordsBytes, entryBytes, directoryBytes, trailerBytes, indexOf}
+use Rattle.build.proofs.BytesLaws.{Below, below-take, below-drop, numbers-cells, cell-split}
+use Rattle.build.proofs.KeptBytesLaws.{kept-length, kept-apart}
+use Rattle.build.proofs.IndexOfLaws.{Indexable}
+
+-- ---- an index's words and lists, in order
+
+-- what f gives of the k numbers from i on
+unfoldable pub listed : (ℕ → List ℕ) → ℕ → ℕ → List (List ℕ)
+listed f i zero = []
+listed f i (suc k) = f i ∷ listed f (i + 1) k
+
+pub listed-same : (f g : ℕ → List ℕ) (i k : ℕ) → ((j : ℕ) → i ≤ j → j < i + k → f j ≡ g j) → listed f i k ≡ listed g i k
+unfolding listed
+listed-same f g i zero h = refl
+listed-same f g i (suc k) h =
+    let e = h i (omega arith) (omega arith) in
+    let r = listed-same f g (i + 1) k (λ j l u. h j (omega arith) (omega arith)) in
+    cc
+
+pub listed-length : (f : ℕ → List ℕ) (i k : ℕ) → length (listed f i k) ≡ k
+unfolding listed
+listed-length f i zero = refl
+listed-length f i (suc k) = ap suc (listed-length f (i + 1) k)
+
+pub listed-at : (f : ℕ → List ℕ) (i k j : ℕ) → j < k → getD (listed f i k) j [] ≡ f (i + j)
+unfolding listed
+listed-at f i zero j h = absurd (omega arith)
+listed-at f i (suc k) zero h = ap f (omega arith)
+listed-at f i (suc k) (suc j) h = listed-at f (i + 1) k j (omega arith) ∙ ap f (omega arith)
+
+abbrev pub recordsAt : List ℕ → ℕ → List ℕ
+recordsAt index i = recordsOf (names (listOf index i)) (highest index)
+
+unfoldable pub wordsIn : List ℕ → List (List ℕ)
+wordsIn index = listed (wordOf index) 0 (wordCount index)
+
+unfoldable pub listsIn : List ℕ → List (List ℕ)
+listsIn index = listed (recordsAt index) 0 (wordCount index)
+
+-- nothing stands before a word
+word-first : (w : List ℕ) → isWord w ≡ true → before [] w ≡ true
+unfolding before isWord
+word-first [] e = true-false (sym e)
+word-first (b ∷ w) e = refl
+
+-- ---- bytes, part by part
+
+part-rest : (x a : ℕ) (bytes : List ℕ) → drop x bytes ≡ part x a bytes ++ drop (x + a) bytes
+part-rest x a bytes = sym (take-append-drop a (drop x bytes)) ∙ ap (λ (r : List ℕ). part x a bytes ++ r) (drop-drop a x bytes)
+
+three-parts : (x a b c : ℕ) (bytes : List ℕ) → drop x bytes ≡ (part x a bytes ++ part (x + a) b bytes ++ part (x + a + b) c bytes) ++ drop (x + a + b + c) bytes
+three-parts x a b c bytes =
+    part-rest x a bytes
+    ∙ ap (λ (r : List ℕ). part x a bytes ++ r)
+    (part-rest (x + a) b bytes ∙ ap (λ (r : List ℕ). part (x + a) b bytes ++ r) (part-rest (x + a + b) c bytes))
+    ∙ regroup (part x a bytes) (part (x + a) b bytes) (part (x + a + b) c bytes) (drop (x + a + b + c) bytes)
+  where
+    regroup : (p q r t : List ℕ) → p ++ (q ++ (r ++ t)) ≡ (p ++ q ++ r) ++ t
+    regroup p q r t = simp append-assoc
+
+five-cells : (bytes : List ℕ) (at : ℕ) → Below 256 bytes → at + 20 ≤ length bytes →
+    drop at bytes
+    ≡ cellsBytes (cellAt bytes at ∷ cellAt bytes (at + 4) ∷ cellAt bytes (at + 8) ∷ cellAt bytes (at + 12) ∷ cellAt bytes (at + 16) ∷ [])
+    ++ drop (at + 20) bytes
+unfolding cellsBytes
+five-cells bytes at b h =
+    let p : at + 4 + 4 ≡ at + 8 = omega arith in
+    let q : at + 8 + 4 ≡ at + 12 = omega arith in
+    let r : at + 12 + 4 ≡ at + 16 = omega arith in
+    let s : at + 16 + 4 ≡ at + 20 = omega arith in
+    let e₀ = cell-split bytes at b (omega arith) in
+    let e₁ : drop (at + 4) bytes ≡ cellBytes (cellAt bytes (at + 4)) ++ drop (at + 8) bytes = cell-split bytes (at + 4) b (omega arith) ∙ ap (λ (k : ℕ). cellBytes (cellAt bytes (at + 4)) ++ drop k bytes) p in
+    let e₂ : drop (at + 8) bytes ≡ cellBytes (cellAt bytes (at + 8)) ++ drop (at + 12) bytes = cell-split bytes (at + 8) b (omega arith) ∙ ap (λ (k : ℕ). cellBytes (cellAt bytes (at + 8)) ++ drop k bytes) q in
+    let e₃ : drop (at + 12) bytes ≡ cellBytes (cellAt bytes (at + 12)) ++ drop (at + 16) bytes = cell-split bytes (at + 12) b (omega arith) ∙ ap (λ (k : ℕ). cellBytes (cellAt bytes (at + 12)) ++ drop k bytes) r in
+    let e₄ : drop (at + 16) bytes ≡ cellBytes (cellAt bytes (at + 16)) ++ drop (at + 20) bytes = cell-split bytes (at + 16) b (omega arith) ∙ ap (λ (k : ℕ). cellBytes (cellAt bytes (at + 16)) ++ drop k bytes) s in
+    e₀
+    ∙ ap (λ (t : List ℕ). cellBytes (cellAt bytes at) ++ t)
+    (e₁ ∙ ap (λ (t : List ℕ). cellBytes (cellAt bytes (at + 4)) ++ t) (e₂ ∙ ap (λ (t : List ℕ). cellBytes (cellAt bytes (at + 8)) ++ t) (e₃ ∙ ap (λ (t : List ℕ). cellBytes (cellAt bytes (at + 12)) ++ t) e₄)))
+
+-- ---- a sound index, region by region
+
+module _ (index : List ℕ) (s : Sound index) (b : Below 256 index) where
+  abbrev N : ℕ
+  N = highest index
+
+  -- the list of entry i
+  list-cells : (i : ℕ) → i < wordCount index → cellsIn N (recordsAt index i) ≡ listOf index i
+  list-cells i h =
+      cells-same (among (recordsAt index i)) (names (listOf index i)) N (λ x l u. records-among (names (listOf index i)) N x l u)
+      ∙ sym (proper-cells N (listOf index i) (list-proper index s i h))
+
+  apart : (i : ℕ) → i < wordCount index →
+      (singlesIn (listOf index i) ≡ numbersIn (singlesOf index i)) × (lowersIn (listOf index i) ≡ numbersIn (lowerOf index i)) × (uppersIn (listOf index i) ≡ numbersIn (upperOf index i))
+  unfolding listOf
+  apart i h = kept-apart N (numbersIn (singlesOf index i)) (numbersIn (lowerOf index i)) (numbersIn (upperOf index i)) (sound-list index s i h)
+
+  part-below : (start size : ℕ) → Below 256 (part start size index)
+  part-below start size = below-take 256 size (drop start index) (below-drop 256 start index b)
+
+  region-bytes : (r : List ℕ) (k : ℕ) → Below 256 r → length r ≡ 4 * k → cellsBytes (numbersIn r) ≡ r
+  region-bytes r k a e = numbers-cells r a (omega arith)
+
+  region-count : (r : List ℕ) (k : ℕ) → length r ≡ 4 * k → length (numbersIn r) ≡ k
+  region-count r k e = omega (arith, numbersIn-length r)
+
+  single-count : (i : ℕ) → i < wordCount index → length (singlesIn (listOf index i)) ≡ singleCount index i
+  single-count i h = ap length (apart i h .0) ∙ region-count (singlesOf index i) (singleCount index i) (singles-length index s i h)
+
+  pair-count : (i : ℕ) → i < wordCount index → length (lowersIn (listOf index i)) ≡ pairCount index i
+  pair-count i h = ap length (apart i h .1) ∙ region-count (lowerOf index i) (pairCount index i) (lower-length index s i h)
+
+  kept-size : (i : ℕ) → i < wordCount index → length (keptBytes (listOf index i)) ≡ listLength index i
+  unfolding listLength
+  kept-size i h = kept-length (listOf index i) ∙ omega (arith, single-count i h, pair-count i h)
+
+  singles-bytes : (i : ℕ) → i < wordCount index → cellsBytes (singlesIn (listOf index i)) ≡ singlesOf index i
+  unfolding singlesOf
+  singles-bytes i h =
+      ap cellsBytes (apart i h .0) ∙ region-bytes (singlesOf index i) (singleCount index i) (part-below (listStart index i) (4 * singleCount index i)) (singles-length index s i h)
+
+  lowers-bytes : (i : ℕ) → i < wordCount index → cellsBytes (lowersIn (listOf index i)) ≡ lowerOf index i
+  unfolding lowerOf
+  lowers-bytes i h =
+      ap cellsBytes (apart i h .1)
+      ∙ region-bytes (lowerOf index i) (pairCount index i) (part-below (listStart index i + 4 * singleCount index i) (4 * pairCount index i)) (lower-length index s i h)
+
+  uppers-bytes : (i : ℕ) → i < wordCount index → cellsBytes (uppersIn (listOf index i)) ≡ upperOf index i
+  unfolding upperOf
+  uppers-bytes i h =
+      ap cellsBytes (apart i h .2)
+      ∙ region-bytes (upperOf index i) (pairCount index i) (part-below (listStart index i + 4 * singleCount index i + 4 * pairCount index i) (4 * pairCount index i)) (upper-length index s i h)
+
+  kept-bytes : (i : ℕ) → i < wordCount index → keptBytes (listOf index i) ≡ singlesOf index i ++ lowerOf index i ++ upperOf index i
+  unfolding keptBytes
+  kept-bytes i h = rw (singles-bytes i h, lowers-bytes i h, uppers-bytes i h)
+
+  -- the list of entry i, and what stands behind it
+  list-step : (i : ℕ) → i < wordCount index → drop (listsEnd index i) index ≡ keptBytes (cellsIn N (recordsAt index i)) ++ drop (listsEnd index (i + 1)) index
+  unfolding singlesOf lowerOf upperOf listLength
+  list-step i h =
+      let e = sound-entry index s i h in
+      let l = listStart index i in
+      let a = 4 * singleCount index i in
+      let c = 4 * pairCount index i in
+      let z : l + a + c + c ≡ listsEnd index (i + 1) = omega (arith, e .list-start, listsEnd-next index i) in
+      rw (list-cells i h, kept-bytes i h, ← z, ← e .list-start) (three-parts l a c c index)
+
+  lists-from : (i k : ℕ) → i + k ≡ wordCount index → drop (listsEnd index i) index ≡ listsBytes N (listed (recordsAt index) i k) ++ drop (listsEnd index (wordCount index)) index
+  unfolding listed listsBytes
+  lists-from i zero e = let f : i ≡ wordCount index = omega arith in rw f
+  lists-from i (suc k) e =
+      list-step i (omega arith)
+      ∙ ap (λ (r : List ℕ). keptBytes (cellsIn N (recordsAt index i)) ++ r) (lists-from (i + 1) k (omega arith))
+      ∙ sym (append-assoc (keptBytes (cellsIn N (recordsAt index i))) (listsBytes N (listed (recordsAt index) (i + 1) k)) (drop (listsEnd index (wordCount index)) index))
+
+  -- the word of entry i, and what stands behind it
+  word-step : (i : ℕ) → i < wordCount index → drop (wordsEnd index i) index ≡ wordOf index i ++ drop (wordsEnd index (i + 1)) index
+  unfolding wordOf
+  word-step i h =
+      let e = sound-entry index s i h in
+      rw (wordsEnd-next index i, ← e .word-start) (part-rest (wordStart index i) (wordLength index i) index)
+
+  words-from : (i k : ℕ) → i + k ≡ wordCount index → drop (wordsEnd index i) index ≡ wordsBytes (listed (wordOf index) i k) ++ drop (wordsEnd index (wordCount index)) index
+  unfolding listed wordsBytes
+  words-from i zero e = let f : i ≡ wordCount index = omega arith in rw f
+  words-from i (suc k) e =
+      word-step i (omega arith)
+      ∙ ap (λ (r : List ℕ). wordOf index i ++ r) (words-from (i + 1) k (omega arith))
+      ∙ sym (append-assoc (wordOf index i) (wordsBytes (listed (wordOf index) (i + 1) k)) (drop (wordsEnd index (wordCount index)) index))
+
+  entry-next : (i : ℕ) → entryAt index (i + 1) ≡ entryAt index i + 20
+  unfolding entryAt
+  entry-next i = omega arith
+
+  -- entry i, and what stands behind it
+  entry-step : (i : ℕ) → i < wordCount index →
+      drop (entryAt index i) index ≡ entryBytes (wordsEnd index i) (wordOf index i) (listsEnd index i) (cellsIn N (recordsAt index i)) ++ drop (entryAt index (i + 1)) index
+  unfolding wordStart wordLength listStart singleCount pairCount
+  entry-step i h =
+      let e = sound-entry index s i h in
+      rw (list-cells i h, single-count i h, pair-count i h, word-length index s i h, ← e .word-start, ← e .list-start, entry-next i)
+      (five-cells index (entryAt index i) b (omega (arith, e .entry-within)))
+
+  words-next : (i : ℕ) → i < wordCount index → wordsEnd index (i + 1) ≡ wordsEnd index i + length (wordOf index i)
+  words-next i h = wordsEnd-next index i ∙ ap (λ (k : ℕ). wordsEnd index i + k) (sym (word-length index s i h))
+
+  lists-next : (i : ℕ) → i < wordCount index → listsEnd index (i + 1) ≡ listsEnd index i + length (keptBytes (cellsIn N (recordsAt index i)))
+  lists-next i h = listsEnd-next index i ∙ rw (list-cells i h) (ap (λ (k : ℕ). listsEnd index i + k) (sym (kept-size i h)))
+
+  directory-from : (i k : ℕ) → i + k ≡ wordCount index →
+      drop (entryAt index i) index
+      ≡ directoryBytes N (wordsEnd index i) (listsEnd index i) (listed (wordOf index) i k) (listed (recordsAt index) i k) ++ drop (entryAt index (wordCount index)) index
+  unfolding listed directoryBytes
+  directory-from i zero e = let f : i ≡ wordCount index = omega arith in rw f
+  directory-from i (suc k) e =
+      let h : i < wordCount index = omega arith in
+      let a = entryBytes (wordsEnd index i) (wordOf index i) (listsEnd index i) (cellsIn N (recordsAt index i)) in
+      let d = directoryBytes N (wordsEnd index (i + 1)) (listsEnd index (i + 1)) (listed (wordOf index) (i + 1) k) (listed (recordsAt index) (i + 1) k) in
+      rw (← words-next i h, ← lists-next i h)
+      (
+      entry-step i h
+      ∙ ap (λ (r : List ℕ). a ++ r) (directory-from (i + 1) k (omega arith))
+      ∙ sym (append-assoc a d (drop (entryAt index (wordCount index)) index))
+      )
+
+  entry-first : entryAt index 0 ≡ directoryStart index
+  unfolding entryAt
+  entry-first = omega arith
+
+  entry-last : entryAt index (wordCount index) + 20 ≡ length index
+  unfolding entryAt
+  entry-last = sound-trailer index s .total
+
+  trailer-at : (at : ℕ) → at + 20 ≡ length index → drop at index ≡ trailerBytes (wordsStart index) (directoryStart index) (wordCount index) N
+  trailer-at at e =
+      let p₀ : length index - 20 ≡ at = omega arith in
+      let p₁ : length index - 16 ≡ at + 4 = omega arith in
+      let p₂ : length index - 12 ≡ at + 8 = omega arith in
+      let p₃ : length index - 8 ≡ at + 12 = omega arith in
+      let p₄ : at + 16 ≡ length index - 4 = omega arith in
+      let q : cellAt index (at + 16) ≡ 1 = ap (cellAt index) p₄ ∙ sound-edition index s in
+      let f = cellAt index in
+      rw (p₀, p₁, p₂, p₃)
+      (
+      five-cells index at b (omega arith)
+      ∙ rw (drop-of-length-le index {i = at + 20} (omega arith), append-nil (cellsBytes (f at ∷ f (at + 4) ∷ f (at + 8) ∷ f (at + 12) ∷ f (at + 16) ∷ [])))
+      (ap (λ (k : ℕ). cellsBytes (f at ∷ f (at + 4) ∷ f (at + 8) ∷ f (at + 12) ∷ k ∷ [])) q)
+      )
+
+  trailer-bytes : drop (entryAt index (wordCount index)) index ≡ trailerBytes (wordsStart index) (directoryStart index) (wordCount index) N
+  trailer-bytes = trailer-at (entryAt index (wordCount index)) entry-last
+
+  -- ---- where the regions begin
+
+  lists-whole : index ≡ listsBytes N (listsIn index) ++ drop (wordsStart index) index
+  unfolding listsIn listsEnd
+  lists-whole = let e = sound-ends index s in rw (e .0) at (lists-from 0 (wordCount index) (omega arith))
+
+  words-whole : drop (wordsStart index) index ≡ wordsBytes (wordsIn index) ++ drop (directoryStart index) index
+  unfolding wordsIn wordsEnd
+  words-whole = let e = sound-ends index s in rw (e .1) at (words-from 0 (wordCount index) (omega arith))
+
+  directory-whole : drop (directoryStart index) index
+      ≡ directoryBytes N (wordsStart index) 0 (wordsIn index) (listsIn index) ++ trailerBytes (wordsStart index) (directoryStart index) (wordCount index) N
+  unfolding wordsIn listsIn wordsEnd listsEnd
+  directory-whole = rw (entry-first, trailer-bytes) at (directory-from 0 (wordCount index) (omega arith))
+
+  lists-size : length (listsBytes N (listsIn index)) ≡ wordsStart index
+  lists-size =
+      let t = sound-trailer index s in
+      omega (arith, ap length lists-whole, length-append (listsBytes N (listsIn index)) (drop (wordsStart index) index), length-drop (wordsStart index) index)
+
+  words-size : wordsStart index + length (wordsBytes (wordsIn index)) ≡ directoryStart index
+  words-size =
+      let t = sound-trailer index s in
+      omega (
+        arith,
+        ap length words-whole,
+        length-append (wordsBytes (wordsIn index)) (drop (directoryStart index) index),
+        length-drop (wordsStart index) index,
+        length-drop (directoryStart index) index,
+      )
+
+  words-count : length (wordsIn index) ≡ wordCount index
+  unfolding wordsIn
+  words-count = listed-length (wordOf index) 0 (wordCount index)
+
+  -- a sound index is the index of its N, its words and its lists' records
+  pub sound-encoded : index ≡ indexOf (highest index) (wordsIn index) (listsIn index)
+  unfolding indexOf
+  sound-encoded =
+      rw (lists-size, words-size, words-count)
+      (
+      lists-whole
+      ∙ ap (λ (r : List ℕ). listsBytes N (listsIn index) ++ r) (words-whole ∙ ap (λ (r : List ℕ). wordsBytes (wordsIn index) ++ r) directory-whole)
+      )
+
+  -- ---- and no rule of building refuses them
+
+  word-at : (i : ℕ) → i < wordCount index → getD (wordsIn index) i [] ≡ wordOf index i
+  unfolding wordsIn
+  word-at i h = listed-at (wordOf index) 0 (wordCount index) i h ∙ ap (wordOf index) (omega arith)
+
+  list-at : (i : ℕ) → i < wordCount index → getD (listsIn index) i [] ≡ recordsAt index i
+  unfolding listsIn
+  list-at i h = listed-at (recordsAt index) 0 (wordCount index) i h ∙ ap (recordsAt index) (omega arith)
+
+  words-order : (i : ℕ) → i < wordCount index → before (lentBefore (wordsIn index) i) (getD (wordsIn index) i []) ≡ true
+  words-order zero h = rw (word-at 0 h) (word-first (wordOf index 0) (sound-word index s 0 h))
+  words-order (suc i) h = rw (word-at i (omega arith), word-at (suc i) h) (words-step index s i h)
+
+  records-some : (i : ℕ) → i < wordCount index → 1 ≤ length (recordsAt index i)
+  unfolding listOf
+  records-some i h =
+      let S = numbersIn (singlesOf index i) in
+      let L = numbersIn (lowerOf index i) in
+      let U = numbersIn (upperOf index i) in
+      omega (
+        arith,
+        kept-count N S L U (sound-list index s i h),
+        proper-count N (listOf index i) (list-proper index s i h),
+        region-count (singlesOf index i) (singleCount index i) (singles-length index s i h),
+        region-count (lowerOf index i) (pairCount index i) (lower-length index s i h),
+        sound-entry index s i h .list-some,
+      )
+
+  lists-count : length (listsIn index) ≡ wordCount index
+  unfolding listsIn
+  lists-count = listed-length (recordsAt index) 0 (wordCount index)
+
+  -- so what is read of a sound index can be built again
+  pub sound-indexable : Indexable (highest index) (wordsIn index) (listsIn index)
+  sound-indexable =
+      let t = sound-trailer index s in
+      let c = words-count in
+      record {
+        limit = t .highest-bound;
+        few = omega arith;
+        as-many = lists-count ∙ sym c;
+        word = λ i h. let k : i < wordCount index = omega arith in rw (word-at i k) (sound-word index s i k);
+        order = λ i h. words-order i (omega arith);
+        some = λ i h. let k : i < wordCount index = omega arith in rw (list-at i k) (records-some i k);
+        ascends = λ i h. let k : i < wordCount index = omega arith in rw (list-at i k) (records-ascend (names (listOf index i)) (highest index));
+        size = rw (← sound-encoded) (sound-length index s .1);
+      }
+
+-- ---- so two sound indexes with the same N, words and lists are the same bytes
+
+module _ (a b : List ℕ) (same-count : wordCount a ≡ wordCount b) where
+  words-same : ((i : ℕ) → i < wordCount a → wordOf a i ≡ wordOf b i) → wordsIn a ≡ wordsIn b
+  unfolding wordsIn
+  words-same f = listed-same (wordOf a) (wordOf b) 0 (wordCount a) (λ j l u. f j (omega arith)) ∙ ap (λ (k : ℕ). listed (wordOf b) 0 k) same-count
+
+  lists-same : highest a ≡ highest b → ((i x : ℕ) → i < wordCount a → names (listOf a i) x ≡ names (listOf b i) x) → listsIn a ≡ listsIn b
+  unfolding listsIn
+  lists-same e f =
+      listed-same (recordsAt a) (recordsAt b) 0 (wordCount a)
+      (λ j l u.
+      records-same (names (listOf a j)) (names (listOf b j)) (highest a) (λ x h g. f j x (omega arith))
+      ∙ ap (λ (n : ℕ). recordsOf (names (listOf b j)) n) e)
+      ∙ ap (λ (k : ℕ). listed (recordsAt b) 0 k) same-count
+
+pub one-encoding : (a b : List ℕ) → Sound a → Sound b → Below 256 a → Below 256 b → highest a ≡ highest b → wordCount a ≡ wordCount b →
+    ((i : ℕ) → i < wordCount a → wordOf a i ≡ wordOf b i) → ((i x : ℕ) → i < wordCount a → names (listOf a i) x ≡ names (listOf b i) x) → a ≡ b
+one-encoding a b s t c d en ec fw fl =
+    let p = sound-encoded a s c in
+    let q = sound-encoded b t d in
+    let w = words-same a b ec fw in
+    let l = lists-same a b ec en fl in
+    let e : indexOf (highest a) (wordsIn a) (listsIn a) ≡ indexOf (highest b) (wordsIn b) (listsIn b) = cc in
+    p ∙ e ∙ sym q

@@ -1,0 +1,406 @@
+-- What an index that is built reads as: its trailer, its entries, its words and its lists. So it is sound.
+use mathlib.Core.Path.{_≡_, refl, sym, ap, _∙_}
+use Prim.Native.Nat.{ℕ, zero, suc, _+_, _-_, _*_, _≤_, _<_}
+use native.Mathlib.Omega.{arith}
+use mathlib.Core.Bool.{true, false}
+use mathlib.Core.List.{List, [], _∷_, _++_, append-assoc}
+use lib.ListN.{length, getD, take, drop, length-append, List·getD-append}
+use lib.Seq.{getD-append-add}
+use borrow.Author.Tests.{eq-eqb, ne-eqb, le-ltb}
+use Rattle.laws.proofs.Tests.{true-false}
+use Rattle.word.specs.Word.{before, isWord}
+use Rattle.list.specs.Interval.{top, isProper, names}
+use Rattle.list.specs.Cell.{cellAt, numbersIn}
+use Rattle.list.specs.Convert.{among}
+use Rattle.list.proofs.StretchLaws.{cells-proper, cells-proper-from, cells-names}
+use Rattle.list.proofs.RecordLaws.{Ascends}
+use Rattle.index.specs.Format.{
+  wordsStart,
+  directoryStart,
+  wordCount,
+  highest,
+  edition,
+  entryAt,
+  wordStart,
+  wordLength,
+  listStart,
+  singleCount,
+  pairCount,
+  listLength,
+  wordsEnd,
+  listsEnd,
+  part,
+  wordOf,
+  singlesOf,
+  lowerOf,
+  upperOf,
+  listOf,
+}
+use Rattle.index.specs.Sound.{badTrailer, badDirectory, badWord, badEntry, badEnd, badList, wordBefore, Sound}
+use Rattle.index.specs.declared.Checked.the-variants.{Good}
+use Rattle.index.specs.Check.{checkOf}
+use Rattle.index.proofs.CheckLaws.{length-good, edition-good, sound-good}
+use Rattle.build.specs.Lent.{lentBefore}
+use Rattle.build.specs.Written.{cellsBytes, singlesIn, lowersIn, uppersIn, keptBytes, cellsIn, listsBytes, wordsBytes, directoryBytes, trailerBytes, indexOf}
+use Rattle.build.proofs.BytesLaws.{Below, cellLimit, below-append, cells-below, cells-length, cells-append, cells-numbers, cellAt-behind, part-between}
+use Rattle.build.proofs.KeptBytesLaws.{kept-length, uppers-length, cells-count, singles-below, lowers-below, uppers-below, walked-cells, cells-kept}
+use Rattle.build.proofs.LayoutLaws.{
+  wordsTo,
+  words-split,
+  words-to-next,
+  words-to-bound,
+  words-to-end,
+  listsTo,
+  lists-split,
+  lists-to-next,
+  lists-to-bound,
+  lists-to-end,
+  entryCells,
+  directoryCells,
+  directory-bytes,
+  directory-length,
+  directory-at,
+  directory-below,
+  word-below,
+  words-below,
+  lists-below,
+}
+
+-- what N, words and lists are when no rule of building refuses them
+pub record Indexable (n : ℕ) (ws xss : List (List ℕ)) : Type 0 where
+  pub limit : n ≤ 16777215
+  pub few : length ws ≤ 65535
+  pub as-many : length xss ≡ length ws
+  pub word : (i : ℕ) → i < length ws → isWord (getD ws i []) ≡ true
+  pub order : (i : ℕ) → i < length ws → before (lentBefore ws i) (getD ws i []) ≡ true
+  pub some : (i : ℕ) → i < length ws → 1 ≤ length (getD xss i [])
+  pub ascends : (i : ℕ) → i < length ws → Ascends n 0 (getD xss i [])
+  pub size : length (indexOf n ws xss) ≤ 16777216
+
+-- ---- records that are some have a list that is not empty
+
+named-some : (c : List ℕ) (x : ℕ) → names c x ≡ true → 1 ≤ length c
+unfolding names
+named-some [] x e = true-false (sym e)
+named-some (l ∷ r) x e = omega arith
+
+pub cells-some : (n : ℕ) (xs : List ℕ) → Ascends n 0 xs → 1 ≤ length xs → 1 ≤ length (cellsIn n xs)
+unfolding among
+cells-some n [] a h = absurd (omega arith)
+cells-some n (x ∷ xs) a h = named-some (cellsIn n (x ∷ xs)) x (cells-names (among (x ∷ xs)) n x (a .0) (a .1) ∙ rw (eq-eqb x x refl))
+
+-- ---- the index as bytes, then cells
+
+abbrev trailerCells : ℕ → ℕ → ℕ → ℕ → List ℕ
+trailerCells w d count n = w ∷ d ∷ count ∷ n ∷ 1 ∷ []
+
+module _ (n : ℕ) (ws xss : List (List ℕ)) where
+  -- where the words and the directory start
+  abbrev wordsFirst : ℕ
+  wordsFirst = length (listsBytes n xss)
+
+  abbrev directoryFirst : ℕ
+  directoryFirst = wordsFirst + length (wordsBytes ws)
+
+  -- the directory and the trailer
+  abbrev endCells : List ℕ
+  endCells = directoryCells n wordsFirst 0 ws xss ++ trailerCells wordsFirst directoryFirst (length ws) n
+
+  index-cells : indexOf n ws xss ≡ (listsBytes n xss ++ wordsBytes ws) ++ cellsBytes endCells
+  unfolding indexOf
+  index-cells =
+      let a = listsBytes n xss in
+      let b = wordsBytes ws in
+      rw (cells-append (directoryCells n wordsFirst 0 ws xss) (trailerCells wordsFirst directoryFirst (length ws) n), directory-bytes n wordsFirst 0 ws xss)
+      (sym (append-assoc a b (cellsBytes (directoryCells n wordsFirst 0 ws xss) ++ trailerBytes wordsFirst directoryFirst (length ws) n)))
+
+  front-length : length (listsBytes n xss ++ wordsBytes ws) ≡ directoryFirst
+  front-length = length-append (listsBytes n xss) (wordsBytes ws)
+
+  end-length : length xss ≡ length ws → length endCells ≡ 5 * length ws + 5
+  end-length e =
+      omega (arith, length-append (directoryCells n wordsFirst 0 ws xss) (trailerCells wordsFirst directoryFirst (length ws) n), directory-length n wordsFirst 0 ws xss e)
+
+  -- "D + 20n + 20 equal to its length"
+  pub index-length : length xss ≡ length ws → length (indexOf n ws xss) ≡ directoryFirst + 20 * length ws + 20
+  index-length e =
+      rw index-cells (omega (arith, length-append (listsBytes n xss ++ wordsBytes ws) (cellsBytes endCells), front-length, cells-length endCells, end-length e))
+
+module _ (n : ℕ) (ws xss : List (List ℕ)) (is : Indexable n ws xss) where
+  abbrev index : List ℕ
+  index = indexOf n ws xss
+
+  -- its start of the words and of the directory
+  abbrev W : ℕ
+  W = wordsFirst n ws xss
+
+  abbrev D : ℕ
+  D = directoryFirst n ws xss
+
+  long : length index ≡ D + 20 * length ws + 20
+  long = index-length n ws xss (is .as-many)
+
+  end-below : Below cellLimit (endCells n ws xss)
+  end-below =
+      let h = is .size in
+      let e = long in
+      below-append cellLimit (directoryCells n W 0 ws xss) (trailerCells W D (length ws) n)
+      (directory-below n W 0 ws xss (omega arith) (omega arith))
+      (omega arith, (omega arith, (omega arith, (omega (arith, is .limit), (omega arith, tt)))))
+
+  cell-at : (k at : ℕ) → k < 5 * length ws + 5 → at ≡ D + 4 * k → cellAt index at ≡ getD (endCells n ws xss) k 0
+  cell-at k at h e =
+      rw (index-cells n ws xss)
+      (cellAt-behind (listsBytes n xss ++ wordsBytes ws) (endCells n ws xss) k at end-below (omega (arith, end-length n ws xss (is .as-many))) (omega (arith, front-length n ws xss)))
+
+  -- ---- the trailer
+
+  trailer-at : (j at : ℕ) → j < 5 → at ≡ D + 20 * length ws + 4 * j → cellAt index at ≡ getD (trailerCells W D (length ws) n) j 0
+  trailer-at j at h e =
+      let l = directory-length n W 0 ws xss (is .as-many) in
+      cell-at (5 * length ws + j) at (omega arith) (omega arith)
+      ∙ rw (← l) (getD-append-add (directoryCells n W 0 ws xss) (trailerCells W D (length ws) n) j 0)
+
+  pub built-words-start : wordsStart index ≡ W
+  built-words-start = trailer-at 0 (length index - 20) (omega arith) (omega (arith, long))
+
+  pub built-directory-start : directoryStart index ≡ D
+  built-directory-start = trailer-at 1 (length index - 16) (omega arith) (omega (arith, long))
+
+  pub built-word-count : wordCount index ≡ length ws
+  built-word-count = trailer-at 2 (length index - 12) (omega arith) (omega (arith, long))
+
+  pub built-highest : highest index ≡ n
+  built-highest = trailer-at 3 (length index - 8) (omega arith) (omega (arith, long))
+
+  pub built-edition : edition index ≡ 1
+  built-edition = trailer-at 4 (length index - 4) (omega arith) (omega (arith, long))
+
+  -- ---- the entries
+
+  entry-place : (i : ℕ) → entryAt index i ≡ D + 20 * i
+  unfolding entryAt
+  entry-place i = rw built-directory-start
+
+  entry-cell : (i j at : ℕ) → i < length ws → j < 5 → at ≡ entryAt index i + 4 * j →
+      cellAt index at ≡ getD (entryCells (W + wordsTo ws i) (getD ws i []) (0 + listsTo n xss i) (cellsIn n (getD xss i []))) j 0
+  entry-cell i j at h g e =
+      let l = directory-length n W 0 ws xss (is .as-many) in
+      cell-at (5 * i + j) at (omega arith) (omega (arith, entry-place i))
+      ∙ List·getD-append (directoryCells n W 0 ws xss) (trailerCells W D (length ws) n) 0 (5 * i + j) (omega arith)
+      ∙ directory-at n W 0 ws xss i j (is .as-many) h g
+
+  pub built-word-start : (i : ℕ) → i < length ws → wordStart index i ≡ W + wordsTo ws i
+  unfolding wordStart
+  built-word-start i h = entry-cell i 0 (entryAt index i) h (omega arith) (omega arith)
+
+  pub built-word-length : (i : ℕ) → i < length ws → wordLength index i ≡ length (getD ws i [])
+  unfolding wordLength
+  built-word-length i h = entry-cell i 1 (entryAt index i + 4) h (omega arith) (omega arith)
+
+  pub built-list-start : (i : ℕ) → i < length ws → listStart index i ≡ listsTo n xss i
+  unfolding listStart
+  built-list-start i h = entry-cell i 2 (entryAt index i + 8) h (omega arith) (omega arith) ∙ omega arith
+
+  pub built-single-count : (i : ℕ) → i < length ws → singleCount index i ≡ length (singlesIn (cellsIn n (getD xss i [])))
+  unfolding singleCount
+  built-single-count i h = entry-cell i 3 (entryAt index i + 12) h (omega arith) (omega arith)
+
+  pub built-pair-count : (i : ℕ) → i < length ws → pairCount index i ≡ length (lowersIn (cellsIn n (getD xss i [])))
+  unfolding pairCount
+  built-pair-count i h = entry-cell i 4 (entryAt index i + 16) h (omega arith) (omega arith)
+
+  built-list-length : (i : ℕ) → i < length ws → listLength index i ≡ length (keptBytes (cellsIn n (getD xss i [])))
+  unfolding listLength
+  built-list-length i h = rw (built-single-count i h, built-pair-count i h) (sym (kept-length (cellsIn n (getD xss i []))))
+
+  -- what the entries add up to
+  pub built-words-end : (i : ℕ) → i ≤ length ws → wordsEnd index i ≡ W + wordsTo ws i
+  unfolding wordsEnd wordsBytes
+  built-words-end zero h = built-words-start ∙ omega arith
+  built-words-end (suc i) h =
+      omega (arith, built-words-end i (omega arith), built-word-length i (omega arith), words-to-next ws i (omega arith))
+
+  pub built-lists-end : (i : ℕ) → i ≤ length ws → listsEnd index i ≡ listsTo n xss i
+  unfolding listsEnd listsBytes
+  built-lists-end zero h = refl
+  built-lists-end (suc i) h =
+      omega (arith, built-lists-end i (omega arith), built-list-length i (omega arith), lists-to-next n xss i (omega (arith, is .as-many)))
+
+  -- ---- the words
+
+  pub built-word : (i : ℕ) → i < length ws → wordOf index i ≡ getD ws i []
+  unfolding wordOf indexOf
+  built-word i h =
+      let a = listsBytes n xss in
+      let r = directoryBytes n W 0 ws xss ++ trailerBytes W D (length ws) n in
+      rw (built-word-start i h, built-word-length i h)
+      (within a (wordsBytes ws) (wordsBytes (take i ws)) (getD ws i []) (wordsBytes (drop (suc i) ws)) r (words-split ws i h))
+    where
+      within : (a b f w t r : List ℕ) → b ≡ f ++ (w ++ t) → part (length a + length f) (length w) (a ++ (b ++ r)) ≡ w
+      within a b f w t r e =
+          let g : a ++ (b ++ r) ≡ (a ++ f) ++ (w ++ (t ++ r)) = rw e (simp append-assoc) in
+          rw g (part-between (a ++ f) w (t ++ r) (length a + length f) (length w) (length-append a f) refl)
+
+  -- ---- the lists
+
+  -- the list of entry i
+  abbrev pub listAt : ℕ → List ℕ
+  listAt i = cellsIn n (getD xss i [])
+
+  list-proper : (i : ℕ) → isProper n (listAt i) ≡ true
+  list-proper i = cells-proper (among (getD xss i [])) n n (omega arith)
+
+  abbrev behind : List ℕ
+  behind = wordsBytes ws ++ (directoryBytes n W 0 ws xss ++ trailerBytes W D (length ws) n)
+
+  pub built-singles : (i : ℕ) → i < length ws → singlesOf index i ≡ cellsBytes (singlesIn (listAt i))
+  unfolding singlesOf indexOf keptBytes
+  built-singles i h =
+      let c = listAt i in
+      rw (built-list-start i h, built-single-count i h, ← cells-length (singlesIn c))
+      (first-region (listsBytes n xss) (listsBytes n (take i xss)) (cellsBytes (singlesIn c)) (cellsBytes (lowersIn c)) (cellsBytes (uppersIn c)) (listsBytes n (drop (suc i) xss)) behind
+      (lists-split n xss i (omega (arith, is .as-many))))
+    where
+      first-region : (a f s l u t r : List ℕ) → a ≡ f ++ ((s ++ l ++ u) ++ t) → part (length f) (length s) (a ++ r) ≡ s
+      first-region a f s l u t r e =
+          let g : a ++ r ≡ f ++ (s ++ (l ++ u ++ t ++ r)) = rw e (simp append-assoc) in
+          rw g (part-between f s (l ++ u ++ t ++ r) (length f) (length s) refl refl)
+
+  pub built-lowers : (i : ℕ) → i < length ws → lowerOf index i ≡ cellsBytes (lowersIn (listAt i))
+  unfolding lowerOf indexOf keptBytes
+  built-lowers i h =
+      let c = listAt i in
+      rw (built-list-start i h, built-single-count i h, built-pair-count i h, ← cells-length (singlesIn c), ← cells-length (lowersIn c))
+      (second-region (listsBytes n xss) (listsBytes n (take i xss)) (cellsBytes (singlesIn c)) (cellsBytes (lowersIn c)) (cellsBytes (uppersIn c)) (listsBytes n (drop (suc i) xss)) behind
+      (lists-split n xss i (omega (arith, is .as-many))))
+    where
+      second-region : (a f s l u t r : List ℕ) → a ≡ f ++ ((s ++ l ++ u) ++ t) → part (length f + length s) (length l) (a ++ r) ≡ l
+      second-region a f s l u t r e =
+          let g : a ++ r ≡ (f ++ s) ++ (l ++ (u ++ t ++ r)) = rw e (simp append-assoc) in
+          rw g (part-between (f ++ s) l (u ++ t ++ r) (length f + length s) (length l) (length-append f s) refl)
+
+  pub built-uppers : (i : ℕ) → i < length ws → upperOf index i ≡ cellsBytes (uppersIn (listAt i))
+  unfolding upperOf indexOf keptBytes
+  built-uppers i h =
+      let c = listAt i in
+      let e : length (cellsBytes (lowersIn c)) ≡ length (cellsBytes (uppersIn c)) = omega (arith, cells-length (lowersIn c), cells-length (uppersIn c), uppers-length c) in
+      rw (built-list-start i h, built-single-count i h, built-pair-count i h, ← cells-length (singlesIn c), ← cells-length (lowersIn c))
+      (third-region (listsBytes n xss) (listsBytes n (take i xss)) (cellsBytes (singlesIn c)) (cellsBytes (lowersIn c)) (cellsBytes (uppersIn c)) (listsBytes n (drop (suc i) xss)) behind
+      (lists-split n xss i (omega (arith, is .as-many))) (sym e))
+    where
+      third-region : (a f s l u t r : List ℕ) → a ≡ f ++ ((s ++ l ++ u) ++ t) → length u ≡ length l → part (length f + length s + length l) (length l) (a ++ r) ≡ u
+      third-region a f s l u t r e m =
+          let g : a ++ r ≡ (f ++ s ++ l) ++ (u ++ (t ++ r)) = rw e (simp append-assoc) in
+          rw g (part-between (f ++ s ++ l) u (t ++ r) (length f + length s + length l) (length l) (simp length-append) m)
+
+  numbers-of : (xs : List ℕ) → Below cellLimit xs → (bs : List ℕ) → bs ≡ cellsBytes xs → numbersIn bs ≡ xs
+  numbers-of xs b bs e = ap numbersIn e ∙ cells-numbers xs b
+
+  small : n < cellLimit
+  small = omega (arith, is .limit)
+
+  pub built-single-numbers : (i : ℕ) → i < length ws → numbersIn (singlesOf index i) ≡ singlesIn (listAt i)
+  built-single-numbers i h =
+      numbers-of (singlesIn (listAt i)) (singles-below n cellLimit small 1 (listAt i) (cells-proper-from (among (getD xss i [])) n n (omega arith))) (singlesOf index i) (built-singles i h)
+
+  pub built-lower-numbers : (i : ℕ) → i < length ws → numbersIn (lowerOf index i) ≡ lowersIn (listAt i)
+  built-lower-numbers i h =
+      numbers-of (lowersIn (listAt i)) (lowers-below n cellLimit small 1 (listAt i) (cells-proper-from (among (getD xss i [])) n n (omega arith))) (lowerOf index i) (built-lowers i h)
+
+  pub built-upper-numbers : (i : ℕ) → i < length ws → numbersIn (upperOf index i) ≡ uppersIn (listAt i)
+  built-upper-numbers i h =
+      numbers-of (uppersIn (listAt i)) (uppers-below n cellLimit small 1 (listAt i) (cells-proper-from (among (getD xss i [])) n n (omega arith))) (upperOf index i) (built-uppers i h)
+
+  pub built-list : (i : ℕ) → i < length ws → listOf index i ≡ cellsIn n (getD xss i [])
+  unfolding listOf
+  built-list i h = rw (built-single-numbers i h, built-lower-numbers i h, built-upper-numbers i h) (walked-cells n (listAt i) (list-proper i))
+
+  -- ---- it is sound
+
+  list-some : (i : ℕ) → i < length ws → 1 ≤ length (singlesIn (listAt i)) + length (lowersIn (listAt i))
+  list-some i h =
+      omega (arith, cells-count n 1 (listAt i) (cells-proper-from (among (getD xss i [])) n n (omega arith)), cells-some n (getD xss i []) (is .ascends i h) (is .some i h))
+
+  good-trailer : badTrailer index ≡ false
+  unfolding badTrailer
+  good-trailer =
+      let e = built-word-count in
+      let d = built-directory-start in
+      let w = built-words-start in
+      rw (built-highest, e, d, w)
+      (
+      rw (le-ltb top n (is .limit), le-ltb 65535 (length ws) (is .few), le-ltb D W (omega arith), eq-eqb (D + 20 * length ws + 20) (length index) (sym long))
+      )
+
+  good-directory : (i : ℕ) → i < length ws → badDirectory index i ≡ false
+  unfolding badDirectory
+  good-directory i h =
+      let a = built-words-end i (omega arith) in
+      let b = built-lists-end i (omega arith) in
+      let a′ = built-words-end (i + 1) (omega arith) in
+      let b′ = built-lists-end (i + 1) (omega arith) in
+      let c = list-some i h in
+      rw (
+        eq-eqb (wordStart index i) (wordsEnd index i) (built-word-start i h ∙ sym a),
+        eq-eqb (listStart index i) (listsEnd index i) (built-list-start i h ∙ sym b),
+        ne-eqb (singleCount index i + pairCount index i) 0 (λ (e : singleCount index i + pairCount index i ≡ 0). omega (arith, built-single-count i h, built-pair-count i h)),
+        le-ltb (directoryStart index) (wordsEnd index (i + 1)) (omega (arith, built-directory-start, words-to-bound ws (i + 1))),
+        le-ltb (wordsStart index) (listsEnd index (i + 1)) (omega (arith, built-words-start, lists-to-bound n xss (i + 1))),
+      )
+
+  same-before : (i : ℕ) → i < length ws → wordBefore index i ≡ lentBefore ws i
+  same-before zero h = refl
+  same-before (suc i) h = built-word i (omega arith)
+
+  good-word : (i : ℕ) → i < length ws → badWord index i ≡ false
+  unfolding badWord
+  good-word i h = rw (same-before i h, built-word i h, is .word i h, is .order i h)
+
+  good-entry : (i : ℕ) → i < length ws → badEntry index i ≡ false
+  unfolding badEntry
+  good-entry i h = rw (good-directory i h, good-word i h)
+
+  good-end : badEnd index ≡ false
+  unfolding badEnd
+  good-end =
+      let c = built-word-count in
+      let a = built-lists-end (length ws) (omega arith) in
+      let b = built-words-end (length ws) (omega arith) in
+      let l = lists-to-end n xss in
+      let m = is .as-many in
+      rw c
+      (
+      rw (
+        eq-eqb (listsEnd index (length ws)) (wordsStart index) (a ∙ (rw (← m) l) ∙ sym built-words-start),
+        eq-eqb (wordsEnd index (length ws)) (directoryStart index) (omega (arith, built-directory-start, words-to-end ws)),
+      )
+      )
+
+  good-list : (i : ℕ) → i < length ws → badList index i ≡ false
+  unfolding badList
+  good-list i h =
+      rw (built-highest, built-single-numbers i h, built-lower-numbers i h, built-upper-numbers i h, cells-kept n (listAt i) (list-proper i))
+
+  pub built-sound : Sound index
+  built-sound =
+      record {
+        size = length-good index (omega (arith, long)) (is .size);
+        issue = edition-good index built-edition;
+        trailer = good-trailer;
+        entries = λ i h. good-entry i (omega (arith, built-word-count));
+        ends = good-end;
+        lists = λ i h. good-list i (omega (arith, built-word-count));
+      }
+
+  pub built-good : checkOf index ≡ Good
+  built-good = sound-good index built-sound
+
+  pub built-below : Below 256 index
+  built-below =
+      rw (index-cells n ws xss)
+      (
+      below-append 256 (listsBytes n xss ++ wordsBytes ws) (cellsBytes (endCells n ws xss))
+      (below-append 256 (listsBytes n xss) (wordsBytes ws) (lists-below n xss) (words-below ws (λ i h. word-below (getD ws i []) (is .word i h))))
+      (cells-below (endCells n ws xss))
+      )

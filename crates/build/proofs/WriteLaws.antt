@@ -1,0 +1,239 @@
+-- Three regions that are written side by side: what is to be written into each of them is what is left to write, one piece on.
+use mathlib.Core.Path.{_≡_, refl, sym, ap, _∙_}
+use Prim.Native.Nat.{ℕ, suc, _+_, _-_, _*_, _≤_}
+use native.Mathlib.Omega.{arith}
+use native.Mathlib.Numerals.{add-one, add-two, add-three}
+use mathlib.Core.Bool.{Bool, true, false, cond}
+use mathlib.Core.List.{List, [], _∷_, _++_}
+use lib.Dec.{eqb}
+use lib.ListN.{length, set, drop, length-append}
+use lib.Seq.{sets, sets-eq, set-comm, length-sets}
+use borrow.Rule.Slice.PartMut.{putMid, midOf}
+use borrow.Author.Tests.{eq-eqb, ne-eqb}
+use Rattle.laws.proofs.Tests.{leb-cases}
+use Rattle.laws.proofs.Lists.{sets-append, sets-front}
+use Rattle.laws.proofs.Parts.{tail-written}
+use Rattle.list.specs.Ginix.{one}
+use Rattle.build.specs.declared.write.Places.{Places}
+use Rattle.build.specs.declared.write.Spots.{Spots}
+use Rattle.build.specs.Written.{cellBytes, cellsBytes, singlesIn, lowersIn, uppersIn, keptBytes, cellsIn, listsBytes, wordsBytes, entryBytes, directoryBytes}
+use Rattle.build.specs.Passes.{laid, laidTo, LaidWithin, entered, enteredTo}
+use Rattle.build.proofs.BytesLaws.{cells-length}
+use Rattle.build.proofs.KeptBytesLaws.{kept-length}
+
+-- ---- cells
+
+pub four-bytes : (out : List ℕ) (at a b c d : ℕ) →
+    sets out at (a ∷ b ∷ c ∷ d ∷ []) ≡ set (set (set (set out at a) (at + 1) b) (at + 2) c) (at + 3) d
+four-bytes out at a b c d = rw (add-one at, add-two at, add-three at)
+
+one-cell : (out : List ℕ) (at x : ℕ) (xs : List ℕ) → sets out at (cellsBytes (x ∷ xs)) ≡ sets (sets out at (cellBytes x)) (at + 4) (cellsBytes xs)
+unfolding cellsBytes
+one-cell out at x xs = sets-append out at (cellBytes x) (cellsBytes xs)
+
+pub five-cells : (out : List ℕ) (at a b c d e : ℕ) →
+    sets out at (cellsBytes (a ∷ b ∷ c ∷ d ∷ e ∷ []))
+    ≡ sets (sets (sets (sets (sets out at (cellBytes a)) (at + 4) (cellBytes b)) (at + 8) (cellBytes c)) (at + 12) (cellBytes d)) (at + 16) (cellBytes e)
+unfolding cellsBytes
+five-cells out at a b c d e =
+    let p : at + 4 + 4 ≡ at + 8 = omega arith in
+    let q : at + 8 + 4 ≡ at + 12 = omega arith in
+    let r : at + 12 + 4 ≡ at + 16 = omega arith in
+    let f = sets out at (cellBytes a) in
+    let g = sets f (at + 4) (cellBytes b) in
+    let h = sets g (at + 8) (cellBytes c) in
+    let i = sets h (at + 12) (cellBytes d) in
+    one-cell out at a (b ∷ c ∷ d ∷ e ∷ [])
+    ∙ one-cell f (at + 4) b (c ∷ d ∷ e ∷ [])
+    ∙ ap (λ (k : ℕ). sets g k (cellsBytes (c ∷ d ∷ e ∷ []))) p
+    ∙ one-cell g (at + 8) c (d ∷ e ∷ [])
+    ∙ ap (λ (k : ℕ). sets h k (cellsBytes (d ∷ e ∷ []))) q
+    ∙ one-cell h (at + 12) d (e ∷ [])
+    ∙ ap (λ (k : ℕ). sets i k (cellsBytes (e ∷ []))) r
+    ∙ one-cell i (at + 16) e []
+
+-- ---- two places
+
+set-sets : (out : List ℕ) (a : ℕ) (vs : List ℕ) (b w : ℕ) → a + length vs ≤ b → set (sets out a vs) b w ≡ sets (set out b w) a vs
+set-sets out a [] b w h = refl
+set-sets out a (v ∷ vs) b w h =
+    set-sets (set out a v) (suc a) vs b w (omega arith)
+    ∙ ap (λ (o : List ℕ). sets o (suc a) vs) (set-comm out a b v w (λ (e : a ≡ b). omega arith))
+
+pub sets-comm : (out : List ℕ) (a : ℕ) (vs : List ℕ) (b : ℕ) (ws : List ℕ) → a + length vs ≤ b → sets (sets out a vs) b ws ≡ sets (sets out b ws) a vs
+sets-comm out a vs b [] h = refl
+sets-comm out a vs b (w ∷ ws) h =
+    ap (λ (o : List ℕ). sets o (suc b) ws) (set-sets out a vs b w h) ∙ sets-comm (set out b w) a vs (suc b) ws (omega arith)
+
+-- what was written from the start of a lent tail, said of the whole
+pub tail-sets : (a : ℕ) (xs ys vs : List ℕ) → a + length vs ≤ length xs → ys ≡ vs ++ drop (length vs) (midOf a (length xs - a) xs) →
+    putMid a (length xs - a) xs ys ≡ sets xs a vs
+tail-sets a xs ys vs h e = tail-written a xs ys vs e ∙ sym (sets-eq vs xs a h)
+
+pub tail-length : (a : ℕ) (xs ys vs : List ℕ) → putMid a (length xs - a) xs ys ≡ sets xs a vs → length (putMid a (length xs - a) xs ys) ≡ length xs
+tail-length a xs ys vs e = ap length e ∙ length-sets xs a vs
+
+-- ---- three regions
+
+abbrev pub plan : List ℕ → ℕ → List ℕ → ℕ → List ℕ → ℕ → List ℕ → List ℕ
+plan out a xs b ys d zs = sets (sets (sets out a xs) b ys) d zs
+
+pub plan-turn : (out : List ℕ) (a : ℕ) (x xs : List ℕ) (b : ℕ) (y ys : List ℕ) (d : ℕ) (z zs : List ℕ) → a + length x + length xs ≤ b → b + length y + length ys ≤ d →
+    plan out a (x ++ xs) b (y ++ ys) d (z ++ zs) ≡ plan (plan out a x b y d z) (a + length x) xs (b + length y) ys (d + length z) zs
+plan-turn out a x xs b y ys d z zs h g =
+    let a′ = a + length x in
+    let b′ = b + length y in
+    let d′ = d + length z in
+    let o = sets out a x in
+    let p = sets o b y in
+    ap (λ (l : List ℕ). sets (sets l b (y ++ ys)) d (z ++ zs)) (sets-append out a x xs)
+    ∙ ap (λ (l : List ℕ). sets l d (z ++ zs)) (sets-append (sets o a′ xs) b y ys ∙ ap (λ (l : List ℕ). sets l b′ ys) (sets-comm o a′ xs b y (omega arith)))
+    ∙ sets-append (sets (sets p a′ xs) b′ ys) d z zs
+    ∙ ap (λ (l : List ℕ). sets l d′ zs)
+    (
+    sets-comm (sets p a′ xs) b′ ys d z (omega arith)
+    ∙ ap (λ (l : List ℕ). sets l b′ ys) (sets-comm p a′ xs d z (omega arith))
+    )
+
+-- ---- a list: singles, lower and upper bounds
+
+abbrev pub keptPlan : List ℕ → Places → List ℕ → List ℕ
+keptPlan out at c = plan out (at .single) (cellsBytes (singlesIn c)) (at .lower) (cellsBytes (lowersIn c)) (at .upper) (cellsBytes (uppersIn c))
+
+pub record Placed (at : Places) (c : List ℕ) (room : ℕ) : Type 0 where
+  pub single : at .single + 4 * length (singlesIn c) ≤ at .lower
+  pub lower : at .lower + 4 * length (lowersIn c) ≤ at .upper
+  pub upper : at .upper + 4 * length (lowersIn c) ≤ room
+
+-- the three regions where one interval more stands in front, of which t says whether it is a single
+abbrev planOf : Bool → List ℕ → Places → ℕ → ℕ → List ℕ → List ℕ → List ℕ → List ℕ
+planOf t out at l u S L U =
+    plan out (at .single) (cellsBytes (cond t (l ∷ S) S)) (at .lower) (cellsBytes (cond t L (l ∷ L))) (at .upper) (cellsBytes (cond t U (u ∷ U)))
+
+laid-step : (t : Bool) (out : List ℕ) (at : Places) (l u : ℕ) (S L U : List ℕ) → at .single + 4 * length (cond t (l ∷ S) S) ≤ at .lower →
+    at .lower + 4 * length (cond t L (l ∷ L)) ≤ at .upper →
+    planOf t out at l u S L U
+    ≡ plan (laid t out at l u) (laidTo t at .single) (cellsBytes S) (laidTo t at .lower) (cellsBytes L) (laidTo t at .upper) (cellsBytes U)
+unfolding cellsBytes
+laid-step true out at l u S L U h g =
+    ap (λ (o : List ℕ). sets (sets o (at .lower) (cellsBytes L)) (at .upper) (cellsBytes U)) (sets-append out (at .single) (cellBytes l) (cellsBytes S))
+laid-step false out at l u S L U h g =
+    let z : at .single + 0 ≡ at .single = omega arith in
+    plan-turn out (at .single) [] (cellsBytes S) (at .lower) (cellBytes l) (cellsBytes L) (at .upper) (cellBytes u) (cellsBytes U)
+    (omega (arith, cells-length S)) (omega (arith, cells-length L))
+    ∙ ap (λ (k : ℕ). plan (laid false out at l u) k (cellsBytes S) (at .lower + 4) (cellsBytes L) (at .upper + 4) (cellsBytes U)) z
+
+placed-step : (t : Bool) (at : Places) (l : ℕ) (S L : List ℕ) (room : ℕ) → at .single + 4 * length (cond t (l ∷ S) S) ≤ at .lower →
+    at .lower + 4 * length (cond t L (l ∷ L)) ≤ at .upper → at .upper + 4 * length (cond t L (l ∷ L)) ≤ room →
+    LaidWithin t at room
+    × (laidTo t at .single + 4 * length S ≤ laidTo t at .lower)
+    × (laidTo t at .lower + 4 * length L ≤ laidTo t at .upper)
+    × (laidTo t at .upper + 4 * length L ≤ room)
+placed-step true at l S L room h g k = (omega arith, omega arith, omega arith, omega arith)
+placed-step false at l S L room h g k = ((omega arith, omega arith), omega arith, omega arith, omega arith)
+
+module _ (out : List ℕ) (at : Places) (l u : ℕ) (r : List ℕ) (room : ℕ) (is : Placed at (l ∷ u ∷ r) room) where
+  pub kept-laid : keptPlan out at (l ∷ u ∷ r) ≡ keptPlan (laid (eqb l u) out at l u) (laidTo (eqb l u) at) r
+  unfolding singlesIn lowersIn uppersIn
+  kept-laid = laid-step (eqb l u) out at l u (singlesIn r) (lowersIn r) (uppersIn r) (is .single) (is .lower)
+
+  placed : LaidWithin (eqb l u) at room
+      × (laidTo (eqb l u) at .single + 4 * length (singlesIn r) ≤ laidTo (eqb l u) at .lower)
+      × (laidTo (eqb l u) at .lower + 4 * length (lowersIn r) ≤ laidTo (eqb l u) at .upper)
+      × (laidTo (eqb l u) at .upper + 4 * length (lowersIn r) ≤ room)
+  unfolding singlesIn lowersIn
+  placed = placed-step (eqb l u) at l (singlesIn r) (lowersIn r) room (is .single) (is .lower) (is .upper)
+
+  pub laid-within : LaidWithin (eqb l u) at room
+  laid-within = placed .0
+
+  pub placed-on : Placed (laidTo (eqb l u) at) r room
+  placed-on = let w = placed in record { single = w .1; lower = w .2; upper = w .3 }
+
+laid-length-step : (t : Bool) (out : List ℕ) (at : Places) (l u : ℕ) → length (laid t out at l u) ≡ length out
+laid-length-step true out at l u = length-sets out (at .single) (cellBytes l)
+laid-length-step false out at l u = length-sets (sets out (at .lower) (cellBytes l)) (at .upper) (cellBytes u) ∙ length-sets out (at .lower) (cellBytes l)
+
+pub laid-length : (out : List ℕ) (at : Places) (l u : ℕ) → length (laid (eqb l u) out at l u) ≡ length out
+laid-length out at l u = laid-length-step (eqb l u) out at l u
+
+-- nothing is left
+pub kept-done : (out : List ℕ) (at : Places) → keptPlan out at [] ≡ out
+unfolding singlesIn lowersIn uppersIn cellsBytes
+kept-done out at = refl
+
+-- where the three regions begin
+abbrev pub keptPlaces : ℕ → ℕ → Places
+keptPlaces singles pairs = record { single = 0; lower = 4 * singles; upper = 4 * (singles + pairs) }
+
+module _ (c : List ℕ) (singles pairs : ℕ) (s : singles ≡ length (singlesIn c)) (m : pairs ≡ length (lowersIn c)) where
+  pub placed-start : (room : ℕ) → length (keptBytes c) ≤ room → Placed (keptPlaces singles pairs) c room
+  placed-start room h = let k = kept-length c in record { single = omega arith; lower = omega arith; upper = omega arith }
+
+  pub kept-start : (out : List ℕ) → length (keptBytes c) ≤ length out → keptPlan out (keptPlaces singles pairs) c ≡ keptBytes c ++ drop (length (keptBytes c)) out
+  unfolding keptBytes
+  kept-start out h =
+      let S = cellsBytes (singlesIn c) in
+      let L = cellsBytes (lowersIn c) in
+      let U = cellsBytes (uppersIn c) in
+      let p : 0 + length S ≡ 4 * singles = omega (arith, cells-length (singlesIn c)) in
+      let q : 0 + length (S ++ L) ≡ 4 * (singles + pairs) = omega (arith, length-append S L, cells-length (singlesIn c), cells-length (lowersIn c)) in
+      sym
+      (
+      sym (sets-front (keptBytes c) out h)
+      ∙ sets-append out 0 (S ++ L) U
+      ∙ ap (λ (k : ℕ). sets (sets out 0 (S ++ L)) k U) q
+      ∙ ap (λ (o : List ℕ). sets o (4 * (singles + pairs)) U) (sets-append out 0 S L ∙ ap (λ (k : ℕ). sets (sets out 0 S) k L) p)
+      )
+
+-- ---- how many singles and pairs
+
+single-step : (l : ℕ) (t : Bool) (S : List ℕ) → length (cond t (l ∷ S) S) ≡ one t + length S
+single-step l true S = omega arith
+single-step l false S = omega arith
+
+pair-step : (l : ℕ) (t : Bool) (L : List ℕ) → length (cond t L (l ∷ L)) ≡ 1 - one t + length L
+pair-step l true L = omega arith
+pair-step l false L = omega arith
+
+pub singles-next : (l u : ℕ) (r : List ℕ) → length (singlesIn (l ∷ u ∷ r)) ≡ one (eqb l u) + length (singlesIn r)
+unfolding singlesIn
+singles-next l u r = single-step l (eqb l u) (singlesIn r)
+
+pub pairs-next : (l u : ℕ) (r : List ℕ) → length (lowersIn (l ∷ u ∷ r)) ≡ 1 - one (eqb l u) + length (lowersIn r)
+unfolding lowersIn
+pairs-next l u r = pair-step l (eqb l u) (lowersIn r)
+
+-- an interval takes no more cells than it names numbers
+pub kept-width : (l u : ℕ) → l ≤ u → one (eqb l u) + 2 * (1 - one (eqb l u)) ≤ u + 1 - l
+kept-width l u h =
+    leb-cases u l
+    (λ g. rw (eq-eqb l u (omega arith)) (omega arith))
+    (λ g. rw (ne-eqb l u (λ (e : l ≡ u). omega arith)) (omega arith))
+
+pub none-kept : (length (singlesIn []) ≡ 0) × (length (lowersIn []) ≡ 0) × (keptBytes [] ≡ [])
+unfolding singlesIn lowersIn uppersIn keptBytes cellsBytes
+none-kept = (refl, refl, refl)
+
+-- ---- an index: lists, words and entries
+
+abbrev pub indexPlan : ℕ → List ℕ → Spots → List (List ℕ) → List (List ℕ) → List ℕ
+indexPlan n out at ws xss = plan out (at .list) (listsBytes n xss) (at .word) (wordsBytes ws) (at .entry) (directoryBytes n (at .word) (at .list) ws xss)
+
+-- a word's list, its bytes and its entry, written one after the other
+pub word-entered : (out : List ℕ) (at : Spots) (w c : List ℕ) (s m : ℕ) (o p q : List ℕ) → s ≡ length (singlesIn c) → m ≡ length (lowersIn c) →
+    o ≡ sets out (at .list) (keptBytes c) → p ≡ sets o (at .word) w → q ≡ sets p (at .entry) (cellsBytes (at .word ∷ length w ∷ at .list ∷ s ∷ m ∷ [])) →
+    q ≡ entered out at w c
+word-entered out at w c s m o p q es em eo ep eq = eq ∙ rw (ep, eo, es, em)
+
+pub index-entered : (n : ℕ) (out : List ℕ) (at : Spots) (w : List ℕ) (ws : List (List ℕ)) (xs : List ℕ) (xss : List (List ℕ)) →
+    at .list + length (listsBytes n (xs ∷ xss)) ≤ at .word → at .word + length (wordsBytes (w ∷ ws)) ≤ at .entry →
+    indexPlan n out at (w ∷ ws) (xs ∷ xss) ≡ indexPlan n (entered out at w (cellsIn n xs)) (enteredTo at w (cellsIn n xs)) ws xss
+unfolding listsBytes wordsBytes directoryBytes
+index-entered n out at w ws xs xss h g =
+    let c = cellsIn n xs in
+    plan-turn out (at .list) (keptBytes c) (listsBytes n xss) (at .word) w (wordsBytes ws) (at .entry) (entryBytes (at .word) w (at .list) c)
+    (directoryBytes n (at .word + length w) (at .list + length (keptBytes c)) ws xss)
+    (omega (arith, length-append (keptBytes c) (listsBytes n xss))) (omega (arith, length-append w (wordsBytes ws)))
+    ∙ ap (λ (k : ℕ). plan (entered out at w c) (at .list + length (keptBytes c)) (listsBytes n xss) (at .word + length w) (wordsBytes ws) k
+    (directoryBytes n (at .word + length w) (at .list + length (keptBytes c)) ws xss)) (ap (λ (k : ℕ). at .entry + k) (cells-length (at .word ∷ length w ∷ at .list ∷ length (singlesIn c) ∷ length (lowersIn c) ∷ [])))

@@ -1,0 +1,50 @@
+-- The check's refusal, or what its size answers (GoodLaws).
+use mathlib.Core.Path.{sym, _∙_}
+use lib.ListN.{length}
+use denote.Ref.{now}
+use borrow.Author.Needs.{needs}
+use Rattle.build.proofs.GoodLaws.{build-after}
+use Rattle.build.proofs.build.build_index.Statement.{statement}
+use Rattle.build.proofs.build.build_index.Tie as tie
+
+check-lent-requires : tie.Need-check-lent-requires
+check-lent-requires c κs = search needs
+
+enum-known-refusal : tie.Need-enum-known-refusal
+enum-known-refusal c = search needs
+
+enum-told : tie.Need-enum-told
+enum-told c = search needs
+
+build-checked-requires : tie.Need-build-checked-requires
+build-checked-requires c κs = sym (c .before .before .before .check-lent .ensures) ∙ c .before .enum-told .given .1
+
+returns : tie.Need-returns
+returns c =
+    let start = c .before .before .before .before .before .before .before .before .args in
+    let after = build-after (start .n) (now (start .words)) (now (start .counts)) (now (start .numbers)) (length (now (start .out))) in
+    let e = sym (c .before .before .before .check-lent .ensures) ∙ c .before .refusal .given .1 in
+    record { answer = rw (after, e); bytes = rw (after, e) }
+
+same-length : tie.Need-same-length
+same-length c = search needs
+
+returns-2 : tie.Need-returns-2
+returns-2 c =
+    let start = c .before .before .before .before .before .before .before .before .before .before .before .args in
+    let after = build-after (start .n) (now (start .words)) (now (start .counts)) (now (start .numbers)) (length (now (start .out))) in
+    let e = sym (c .before .before .before .before .before .before .check-lent .ensures) ∙ c .before .before .before .before .enum-told .given .1 in
+    let built = c .before .before .build-checked .ensures in
+    record { answer = rw (after, e) (built .0); bytes = rw (after, e) (built .1) }
+
+pub build-index-spec : {M : Type 1} → statement M
+build-index-spec =
+    tie.close
+    (tie.spec
+    check-lent-requires
+    enum-known-refusal
+    enum-told
+    build-checked-requires
+    returns
+    same-length
+    returns-2)

@@ -1,0 +1,177 @@
+-- The invariant: the singles and pairs are those ended so far and those to come. Rests on the pass over the numbers, whose cells are the contract's, and on one interval (WriteLaws).
+use mathlib.Core.Path.{_≡_, sym, ap, _∙_}
+use Prim.Native.Nat.{ℕ, _≤_, _-_, _+_, _*_}
+use native.Mathlib.Omega.{arith}
+use mathlib.Core.List.{List, []}
+use lib.ListN.{length, drop, getD}
+use denote.Ref.{now}
+use borrow.Author.Needs.{needs}
+use Rattle.list.specs.Interval.{top}
+use Rattle.list.specs.Convert.{intervalsOf}
+use Rattle.list.proofs.NumberLaws.{good-number-small}
+use Rattle.list.proofs.RunLaws.{runsFrom, runs, runsFrom-on, runsFrom-off, runsFrom-end, runs-start, runs-none, runs-cells}
+use Rattle.build.specs.Written.{singlesIn, lowersIn}
+use Rattle.build.proofs.WriteLaws.{singles-next, pairs-next, kept-width, none-kept}
+use Rattle.build.proofs.size.count_kept.Statement.{statement}
+use Rattle.build.proofs.size.count_kept.Tie as tie
+
+abbrev Inv-loop : tie.InvT-loop
+Inv-loop numbers l₀ u₀ singles₀ pairs₀ i₀ l u singles pairs i =
+    (i ≤ length numbers)
+    × (u ≤ top)
+    × (l ≤ u)
+    × (singles + 2 * pairs + (u + 1 - l) ≤ i)
+    × (length (singlesIn (runs numbers)) ≡ singles + length (singlesIn (runsFrom l u (drop i numbers))))
+    × (length (lowersIn (runs numbers)) ≡ pairs + length (lowersIn (runsFrom l u (drop i numbers))))
+
+abbrev μ-loop : tie.MeasureT-loop
+μ-loop numbers l₀ u₀ singles₀ pairs₀ i₀ l u singles pairs i = length numbers - i
+
+returns : tie.Need-returns Inv-loop μ-loop
+returns c =
+    let start = c .before .before in
+    let xs = now (start .args .numbers) in
+    let e : intervalsOf xs ≡ [] = sym (runs-cells top xs (start .pre)) ∙ runs-none xs (c .if1 .taken) in
+    record {
+      singles = sym (ap (λ (cells : List ℕ). length (singlesIn cells)) e ∙ none-kept .0);
+      pairs = sym (ap (λ (cells : List ℕ). length (lowersIn cells)) e ∙ none-kept .1);
+      most = omega arith;
+    }
+
+shared-slice-read-l : tie.Need-shared-slice-read-l Inv-loop μ-loop
+shared-slice-read-l c = search needs
+
+loop-holds : tie.Need-loop-holds Inv-loop μ-loop
+loop-holds c =
+    let start = c .before .before .before in
+    let xs = now (start .args .numbers) in
+    let e = runs-start xs (omega arith) in (
+      search needs,
+      good-number-small top xs (start .pre) 0 (omega arith),
+      omega arith,
+      omega arith,
+      omega (arith, ap (λ (cells : List ℕ). length (singlesIn cells)) e),
+      omega (arith, ap (λ (cells : List ℕ). length (lowersIn cells)) e),
+    )
+
+mul-x : tie.Need-mul-x Inv-loop μ-loop
+mul-x c = search needs
+
+shared-slice-read-x : tie.Need-shared-slice-read-x Inv-loop μ-loop
+shared-slice-read-x c = search needs
+
+add-if2 : tie.Need-add-if2 Inv-loop μ-loop
+add-if2 c = search needs
+
+add-i : tie.Need-add-i Inv-loop μ-loop
+add-i c = search needs
+
+loop-less : tie.Need-loop-less Inv-loop μ-loop
+loop-less c = search needs
+
+loop-again : tie.Need-loop-again Inv-loop μ-loop
+loop-again c =
+    let at = c .before .before .before .loop in
+    let start = c .before .before .before .before .before .before .before in
+    let xs = now (start .args .numbers) in
+    let e = runsFrom-on (at .l) (at .u) xs (at .i) (omega arith) (c .if2 .taken) in (
+      search needs,
+      good-number-small top xs (start .pre) (at .i) (omega arith),
+      omega arith,
+      omega arith,
+      at .inv .4 ∙ ap (λ (cells : List ℕ). at .singles + length (singlesIn cells)) e,
+      at .inv .5 ∙ ap (λ (cells : List ℕ). at .pairs + length (lowersIn cells)) e,
+    )
+
+single-requires : tie.Need-single-requires Inv-loop μ-loop
+single-requires c κs = search needs
+
+add-singles : tie.Need-add-singles Inv-loop μ-loop
+add-singles c = search needs
+
+sub-pairs : tie.Need-sub-pairs Inv-loop μ-loop
+sub-pairs c = search needs
+
+add-pairs : tie.Need-add-pairs Inv-loop μ-loop
+add-pairs c = search needs
+
+add-i-2 : tie.Need-add-i-2 Inv-loop μ-loop
+add-i-2 c = search needs
+
+loop-less-2 : tie.Need-loop-less-2 Inv-loop μ-loop
+loop-less-2 c = search needs
+
+loop-again-2 : tie.Need-loop-again-2 Inv-loop μ-loop
+loop-again-2 c =
+    let at = c .before .before .before .before .loop in
+    let start = c .before .before .before .before .before .before .before .before in
+    let xs = now (start .args .numbers) in
+    let e = runsFrom-off (at .l) (at .u) xs (at .i) (omega arith) (c .before .if2 .left) in
+    let x = getD xs (at .i) 0 in
+    let rest = runsFrom x x (drop (at .i + 1) xs) in
+    let s = at .inv .4 ∙ ap (λ (cells : List ℕ). at .singles + length (singlesIn cells)) e in
+    let m = at .inv .5 ∙ ap (λ (cells : List ℕ). at .pairs + length (lowersIn cells)) e in
+    let width = kept-width (at .l) (at .u) (at .inv .2) in (
+      search needs,
+      good-number-small top xs (start .pre) (at .i) (omega arith),
+      omega arith,
+      omega arith,
+      omega (arith, singles-next (at .l) (at .u) rest),
+      omega (arith, pairs-next (at .l) (at .u) rest),
+    )
+
+single-requires-2 : tie.Need-single-requires-2 Inv-loop μ-loop
+single-requires-2 c κs = search needs
+
+add-t10 : tie.Need-add-t10 Inv-loop μ-loop
+add-t10 c = search needs
+
+sub-t19 : tie.Need-sub-t19 Inv-loop μ-loop
+sub-t19 c = search needs
+
+add-t20 : tie.Need-add-t20 Inv-loop μ-loop
+add-t20 c = search needs
+
+returns-2 : tie.Need-returns-2 Inv-loop μ-loop
+returns-2 c =
+    let at = c .before .before .loop in
+    let start = c .before .before .before .before .before .before in
+    let xs = now (start .args .numbers) in
+    let e = runsFrom-end (at .l) (at .u) xs (at .i) (c .before .loop-test .left) in
+    let g = runs-cells top xs (start .pre) in
+    let s = sym (ap (λ (cells : List ℕ). length (singlesIn cells)) g) ∙ at .inv .4 ∙ ap (λ (cells : List ℕ). at .singles + length (singlesIn cells)) e in
+    let m = sym (ap (λ (cells : List ℕ). length (lowersIn cells)) g) ∙ at .inv .5 ∙ ap (λ (cells : List ℕ). at .pairs + length (lowersIn cells)) e in
+    let width = kept-width (at .l) (at .u) (at .inv .2) in
+    record {
+      singles = omega (arith, singles-next (at .l) (at .u) [], none-kept .0);
+      pairs = omega (arith, pairs-next (at .l) (at .u) [], none-kept .1);
+      most = omega arith;
+    }
+
+pub count-kept-spec : {M : Type 1} → statement M
+count-kept-spec =
+    tie.close
+    (tie.spec
+    Inv-loop
+    μ-loop
+    returns
+    shared-slice-read-l
+    loop-holds
+    mul-x
+    shared-slice-read-x
+    add-if2
+    add-i
+    loop-less
+    loop-again
+    single-requires
+    add-singles
+    sub-pairs
+    add-pairs
+    add-i-2
+    loop-less-2
+    loop-again-2
+    single-requires-2
+    add-t10
+    sub-t19
+    add-t20
+    returns-2)

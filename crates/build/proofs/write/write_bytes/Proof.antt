@@ -1,0 +1,67 @@
+-- The invariant: what is to be stored from byte 0 is what is left to store from byte i.
+use mathlib.Core.Path.{_≡_, refl, sym, ap, _∙_}
+use Prim.Native.Nat.{_≤_, _-_, _+_}
+use lib.ListN.{length, drop, getD, length-set}
+use lib.Seq.{sets}
+use denote.Ref.{now}
+use borrow.Author.Needs.{needs}
+use Rattle.laws.proofs.Lists.{drop-next, drop-none, sets-one, sets-front}
+use Rattle.build.proofs.write.write_bytes.Statement.{statement}
+use Rattle.build.proofs.write.write_bytes.Tie as tie
+
+abbrev Inv-loop : tie.InvT-loop
+Inv-loop out₀ bytes i₀ out i = (i ≤ length bytes) × (length out ≡ length out₀) × (sets out₀ 0 bytes ≡ sets out i (drop i bytes))
+
+abbrev μ-loop : tie.MeasureT-loop
+μ-loop out₀ bytes i₀ out i = length bytes - i
+
+loop-holds : tie.Need-loop-holds Inv-loop μ-loop
+loop-holds c = (search needs, refl, refl)
+
+shared-slice-read-out : tie.Need-shared-slice-read-out Inv-loop μ-loop
+shared-slice-read-out c = search needs
+
+slice-write-out : tie.Need-slice-write-out Inv-loop μ-loop
+slice-write-out c = search needs
+
+add-i : tie.Need-add-i Inv-loop μ-loop
+add-i c = search needs
+
+loop-less : tie.Need-loop-less Inv-loop μ-loop
+loop-less c = search needs
+
+loop-again : tie.Need-loop-again Inv-loop μ-loop
+loop-again c =
+    let at = c .before .before .loop in
+    let bytes = now (c .before .before .before .args .bytes) in
+    let next = ap (sets (at .out) (at .i)) (drop-next bytes (at .i) (c .before .loop-test .taken)) in (
+      search needs,
+      simp length-set (at .inv .1),
+      at .inv .2 ∙ next ∙ sets-one (at .out) (at .i) (getD bytes (at .i) 0) (drop (at .i + 1) bytes),
+    )
+
+same-length : tie.Need-same-length Inv-loop μ-loop
+same-length c = c .before .loop .inv .1
+
+returns : tie.Need-returns Inv-loop μ-loop
+returns c =
+    let at = c .before .loop in
+    let start = c .before .before in
+    let bytes = now (start .args .bytes) in
+    sym (at .inv .2 ∙ ap (sets (at .out) (at .i)) (drop-none bytes (at .i) (c .loop-test .left)))
+    ∙ sets-front bytes (now (start .args .out)) (start .pre)
+
+pub write-bytes-spec : {M : Type 1} → statement M
+write-bytes-spec =
+    tie.close
+    (tie.spec
+    Inv-loop
+    μ-loop
+    loop-holds
+    shared-slice-read-out
+    slice-write-out
+    add-i
+    loop-less
+    loop-again
+    same-length
+    returns)

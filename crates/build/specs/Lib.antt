@@ -1,0 +1,4 @@
+pub mod Lent
+pub mod Written
+pub mod Build
+pub mod Passes

@@ -1,0 +1,35 @@
+// The counts of records, one for each word.
+ghost use mathlib.Core.Path.{_≡_};
+ghost use Rattle.refusal.specs.First.{first};
+ghost use Rattle.index.specs.Check.{badPlace};
+ghost use Rattle.build.specs.Lent.{badCount, badRest};
+use refusal::Found;
+
+// The first count that is missing, zero or runs past the numbers; the number of words where counts or numbers are left over.
+pub fn check_counts(counts: &[u32], total: usize, words: usize) -> Found
+    ensures { λ r. ⌜ r ≡ badPlace (first (badCount (now (counts .entry)) total) words) (badRest (now (counts .entry)) total words) words ⌝ }
+{
+    let mut left = total;
+    let mut i = 0;
+    while i < words {
+        if counts.len() <= i {
+            return Found::At(i);
+        }
+        let count = counts[i] as usize;
+        if count == 0 {
+            return Found::At(i);
+        }
+        if left < count {
+            return Found::At(i);
+        }
+        left -= count;
+        i += 1;
+    }
+    if words < counts.len() {
+        return Found::At(words);
+    }
+    if 0 < left {
+        return Found::At(words);
+    }
+    Found::Nowhere
+}

@@ -1,0 +1,27 @@
+// The record numbers, list after list.
+ghost use mathlib.Core.Path.{_≡_};
+ghost use lib.ListN.{length};
+ghost use Rattle.refusal.specs.First.{first};
+ghost use Rattle.build.specs.Lent.{badListed};
+ghost use Rattle.build.specs.Passes.{Fair};
+use list::convert::first_bad_number;
+use refusal::Found;
+
+// The first number that is 0, above n, or not above the one before in its list.
+pub fn check_numbers(n: u32, counts: &[u32], numbers: &[u32]) -> Found
+    requires { ⌜ Fair (now counts) (length (now numbers)) ⌝ }
+    ensures { λ r. ⌜ r ≡ first (badListed n (now (counts .entry)) (length (now (counts .entry))) (now (numbers .entry))) (length (now (numbers .entry))) ⌝ }
+{
+    let mut start = 0;
+    let mut i = 0;
+    while i < counts.len() {
+        let end = start + counts[i] as usize;
+        let bad = first_bad_number(&numbers[start..end], n);
+        if let Found::At(k) = bad {
+            return Found::At(start + k);
+        }
+        start = end;
+        i += 1;
+    }
+    Found::Nowhere
+}

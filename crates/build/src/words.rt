@@ -1,0 +1,55 @@
+// The words that are lent, each ended by byte 10.
+ghost use mathlib.Core.Path.{_≡_};
+ghost use Prim.Native.Nat.{_+_, _≤_};
+ghost use lib.ListN.{length, drop};
+ghost use Rattle.refusal.specs.First.{first};
+ghost use Rattle.build.specs.Lent.{wordsOf, wordTotal, badLent};
+ghost use Rattle.build.specs.Passes.{wordEnd, wordsAnswer};
+
+// How many words there are, or the first bad one.
+pub enum Words {
+    Counted(usize),
+    Bad(usize),
+}
+
+// Where the word that starts at `start` ends: at the next byte 10, or behind all bytes.
+pub fn word_end(words: &[u8], start: usize) -> usize
+    requires { ⌜ start ≤ length (now words) ⌝ }
+    ensures { λ r. ⌜ (r ≡ start + wordEnd (drop start (now (words .entry)))) × (start ≤ r) × (r ≤ length (now (words .entry))) ⌝ }
+{
+    let mut end = start;
+    while end < words.len() {
+        if words[end] == 10 {
+            return end;
+        }
+        end += 1;
+    }
+    end
+}
+
+// One pass over the words, with where the one before stands.
+pub fn check_words(words: &[u8]) -> Words
+    ensures { λ r. ⌜ r ≡ wordsAnswer (first (badLent (wordsOf (now (words .entry)))) (wordTotal (now (words .entry)))) (length (wordsOf (now (words .entry)))) ⌝ }
+{
+    let mut prior = 0;
+    let mut prior_end = 0;
+    let mut start = 0;
+    let mut count = 0;
+    while start < words.len() {
+        let end = word_end(words, start);
+        if end == words.len() {
+            return Words::Bad(count);
+        }
+        if count == 65535 {
+            return Words::Bad(count);
+        }
+        if !index::check::word_good(&words[prior..prior_end], &words[start..end]) {
+            return Words::Bad(count);
+        }
+        prior = start;
+        prior_end = end;
+        start = end + 1;
+        count += 1;
+    }
+    Words::Counted(count)
+}
