@@ -1,0 +1,34 @@
+-- An answer's intervals stand in the cells, and every line has room.
+use native.Mathlib.Omega.{arith}
+use borrow.Author.Needs.{needs}
+use Rattle.ask.proofs.OutputLaws.{answer-within, line-room, question-line, written-counts}
+use Rattle.ask.proofs.answer.write_answer.Statement.{statement}
+use Rattle.ask.proofs.answer.write_answer.Tie as tie
+
+answer-line-requires : tie.Need-answer-line-requires
+answer-line-requires c κs = search needs
+
+write-line-requires : tie.Need-write-line-requires
+write-line-requires c κs =
+    let called = c .before .before .before .before in
+    let start = called .before .before .before .before .before .before in
+    let p = called .answer-line .ensures in
+    (omega (arith, answer-within _ _ _ _ _ p), omega (arith, line-room _ _ _ _ _ p (start .args .number) (omega arith)))
+
+same-length : tie.Need-same-length
+same-length c = search needs
+
+same-length-2 : tie.Need-same-length-2
+same-length-2 c = search needs
+
+returns : tie.Need-returns
+returns c =
+    let written = c .before .before in
+    let called = written .before .before .before .before .before in
+    let start = called .before .before .before .before .before .before in
+    let w = written .write-line .ensures in
+    (rw (question-line _ _ _ _ _ (called .answer-line .ensures) (start .args .number) (start .pre .1)) at w, written-counts _ _ _ _ w)
+
+pub write-answer-spec : {M : Type 1} → statement M
+write-answer-spec =
+    tie.close (tie.spec answer-line-requires write-line-requires same-length same-length-2 returns)

@@ -1,0 +1,88 @@
+-- The measure is what is left of the input. The invariant keeps the lengths of what is lent, and no line number above the place.
+use mathlib.Core.Path.{_≡_, refl}
+use Prim.Native.Nat.{_+_, _-_, _≤_}
+use native.Mathlib.Omega.{arith}
+use borrow.Author.Needs.{needs}
+use lib.ListN.{length}
+use Rattle.ask.proofs.answer_lines.Statement.{statement}
+use Rattle.ask.proofs.answer_lines.Tie as tie
+
+abbrev Inv-loop : tie.InvT-loop
+Inv-loop index checked input cells₀ out₀ number₀ from₀ cells out number from =
+    (from ≤ length input + 1) × (number ≤ from + 1) × (length cells ≡ length cells₀) × (length out ≡ length out₀)
+
+abbrev μ-loop : tie.MeasureT-loop
+μ-loop index checked input cells₀ out₀ number₀ from₀ cells out number from = length input - from
+
+loop-holds : tie.Need-loop-holds Inv-loop μ-loop
+loop-holds c = (omega arith, omega arith, refl, refl)
+
+line-end-requires : tie.Need-line-end-requires Inv-loop μ-loop
+line-end-requires c κs = search needs
+
+sub-write-answer : tie.Need-sub-write-answer Inv-loop μ-loop
+sub-write-answer c = search needs
+
+part-write-answer-start : tie.Need-part-write-answer-start Inv-loop μ-loop
+part-write-answer-start c = search needs
+
+part-write-answer-end : tie.Need-part-write-answer-end Inv-loop μ-loop
+part-write-answer-end c = search needs
+
+write-answer-requires : tie.Need-write-answer-requires Inv-loop μ-loop
+write-answer-requires c κs =
+    let turn = c .before .before .before .before .before in
+    (turn .before .before .before .before .before .pre .0, omega arith, omega arith)
+
+slice-reshare-prefix-write-all : tie.Need-slice-reshare-prefix-write-all Inv-loop μ-loop
+slice-reshare-prefix-write-all c = search needs
+
+slice-aggregate-write-all : tie.Need-slice-aggregate-write-all Inv-loop μ-loop
+slice-aggregate-write-all c = c .before .before .before .before .before .write-answer .ensures .1 .1
+
+write-all-requires : tie.Need-write-all-requires Inv-loop μ-loop
+write-all-requires c κs = search needs
+
+add-number : tie.Need-add-number Inv-loop μ-loop
+add-number c = search needs
+
+add-from : tie.Need-add-from Inv-loop μ-loop
+add-from c = search needs
+
+loop-less : tie.Need-loop-less Inv-loop μ-loop
+loop-less c = search needs
+
+loop-again : tie.Need-loop-again Inv-loop μ-loop
+loop-again c = (omega arith, omega arith, omega arith, omega arith)
+
+same-length : tie.Need-same-length Inv-loop μ-loop
+same-length c = c .before .loop .inv .2
+
+same-length-2 : tie.Need-same-length-2 Inv-loop μ-loop
+same-length-2 c = c .before .loop .inv .3
+
+returns : tie.Need-returns Inv-loop μ-loop
+returns c = search needs
+
+pub answer-lines-spec : {M : Type 1} → statement M
+answer-lines-spec =
+    tie.close
+    (tie.spec
+    Inv-loop
+    μ-loop
+    loop-holds
+    line-end-requires
+    sub-write-answer
+    part-write-answer-start
+    part-write-answer-end
+    write-answer-requires
+    slice-reshare-prefix-write-all
+    slice-aggregate-write-all
+    write-all-requires
+    add-number
+    add-from
+    loop-less
+    loop-again
+    same-length
+    same-length-2
+    returns)

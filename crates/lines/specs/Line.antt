@@ -1,0 +1,62 @@
+-- "Fields of each line: line number from 1; refusal or 0; its value or 0. An answered line goes on with intervals, records and each interval as l-u."
+use Prim.Native.Nat.{ℕ, zero, suc, _+_, _*_, _/_, _%_}
+use mathlib.Core.Path.{_≡_}
+use mathlib.Core.Bool.{cond}
+use mathlib.Core.List.{List, [], _∷_, _++_}
+use lib.Dec.{ltb}
+use lib.ListN.{length, take, drop}
+use lib.Seq.{sets}
+use Rattle.refusal.specs.Refusal.{numberOf, valueOf}
+use Rattle.list.specs.declared.answer.Tally.{Tally}
+use Rattle.list.specs.declared.answer.Answer.{Answer}
+use Rattle.list.specs.declared.answer.Answer.the-variants.{Listed, Refused}
+
+-- a number in the fewest decimal digits, of which there are at most k
+unfoldable pub numeralIn : ℕ → ℕ → List ℕ
+numeralIn zero n = []
+numeralIn (suc k) n = cond (ltb n 10) ((48 + n) ∷ []) (numeralIn k (n / 10) ++ ((48 + n % 10) ∷ []))
+
+-- 20 digits hold every number of 64 bits
+unfoldable pub numeral : ℕ → List ℕ
+numeral n = numeralIn 20 n
+
+-- each field but the first stands behind a space
+abbrev pub field : ℕ → List ℕ
+field n = 32 ∷ numeral n
+
+-- "each interval as l-u"
+abbrev pub intervalText : ℕ → ℕ → List ℕ
+intervalText l u = field l ++ (45 ∷ []) ++ numeral u
+
+unfoldable pub intervalsText : List ℕ → List ℕ
+intervalsText [] = []
+intervalsText (l ∷ []) = []
+intervalsText (l ∷ u ∷ r) = intervalText l u ++ intervalsText r
+
+-- "line number from 1; refusal or 0; its value or 0"
+abbrev pub headText : ℕ → ℕ → ℕ → List ℕ
+headText number refusal value = numeral number ++ field refusal ++ field value
+
+-- the cells that hold an answer's intervals
+abbrev pub shown : Answer → ℕ
+shown (Listed tally) = 2 * tally .intervals
+shown (Refused refusal) = 0
+
+-- "An answered line goes on with intervals, records and each interval"
+abbrev pub tallyText : Tally → List ℕ → List ℕ
+tallyText tally cells = field (tally .intervals) ++ field (tally .records) ++ intervalsText (take (2 * tally .intervals) cells)
+
+-- the bytes of a line, ended by byte 10
+abbrev pub lineOf : ℕ → Answer → List ℕ → List ℕ
+lineOf number (Listed tally) cells = headText number 0 0 ++ tallyText tally cells ++ (10 ∷ [])
+lineOf number (Refused refusal) cells = headText number (numberOf refusal) (valueOf refusal) ++ (10 ∷ [])
+
+-- a text put into lent bytes from place `at` on, and the place behind it; all else stays
+pub record Puts (out : List ℕ) (at : ℕ) (text out′ : List ℕ) (r : ℕ) : Type 0 where
+  pub end : r ≡ at + length text
+  pub bytes : out′ ≡ sets out at text
+
+-- a text put from byte 0 on, and how long it is
+pub record Written (out text out′ : List ℕ) (r : ℕ) : Type 0 where
+  pub size : r ≡ length text
+  pub bytes : out′ ≡ text ++ drop (length text) out
