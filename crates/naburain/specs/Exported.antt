@@ -1,0 +1,39 @@
+-- The promises of the exported calls that write: those of the calls behind them, with the answer as numbers.
+use Prim.Native.Nat.{ℕ}
+use mathlib.Core.Path.{_≡_}
+use mathlib.Core.List.{List}
+use Rattle.list.specs.declared.Written.{Written}
+use Rattle.list.specs.declared.answer.Answer.{Answer}
+use Rattle.list.specs.Convert.{ToIntervals, ToNumbers}
+use Rattle.join.specs.Join.{Joins}
+use Rattle.question.specs.Grammar.{fromLeft}
+use Rattle.query.specs.Ask.{Asks}
+use Rattle.build.specs.Build.{Builds}
+use Rattle.naburain.specs.declared.WriteResult.{WriteResult}
+use Rattle.naburain.specs.declared.AnswerResult.{AnswerResult}
+use Rattle.naburain.specs.Result.{writeResult, answerResult}
+
+pub record IntervalsExported (numbers out out′ : List ℕ) (r : WriteResult) : Type 0 where
+  pub written : Written
+  pub promise : ToIntervals numbers out out′ written
+  pub result : r ≡ writeResult written
+
+pub record NumbersExported (cells out out′ : List ℕ) (r : WriteResult) : Type 0 where
+  pub written : Written
+  pub promise : ToNumbers cells out out′ written
+  pub result : r ≡ writeResult written
+
+pub record JoinExported (method : List (List ℕ) → List ℕ) (index entries out out′ : List ℕ) (r : AnswerResult) : Type 0 where
+  pub answer : Answer
+  pub promise : Joins method index entries out out′ answer
+  pub result : r ≡ answerResult answer
+
+pub record AskExported (index question out out′ : List ℕ) (r : AnswerResult) : Type 0 where
+  pub answer : Answer
+  pub promise : Asks fromLeft index question out out′ answer
+  pub result : r ≡ answerResult answer
+
+pub record BuildExported (n : ℕ) (words counts numbers out out′ : List ℕ) (r : WriteResult) : Type 0 where
+  pub written : Written
+  pub promise : Builds n words counts numbers out out′ written
+  pub result : r ≡ writeResult written

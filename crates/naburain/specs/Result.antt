@@ -1,0 +1,44 @@
+-- What the exported calls return: the refusal's number and value, or 0 and 0, and then what the call reports, 0 where it was refused.
+use Prim.Native.Nat.{ℕ}
+use Rattle.refusal.specs.Refusal.{numberOf, valueOf}
+use Rattle.list.specs.declared.Written.{Written}
+use Rattle.list.specs.declared.Written.the-variants as written
+use Rattle.list.specs.declared.answer.Answer.{Answer}
+use Rattle.list.specs.declared.answer.Answer.the-variants as answer
+use Rattle.index.specs.declared.Checked.{Checked}
+use Rattle.index.specs.declared.Checked.the-variants as checked
+use Rattle.index.specs.declared.Lookup.{Lookup}
+use Rattle.index.specs.declared.Lookup.the-variants.{Entry, NoEntry}
+use Rattle.index.specs.declared.Probed.{Probed}
+use Rattle.index.specs.declared.Probed.the-variants.{Counted, NoCount}
+use Rattle.naburain.specs.declared.CheckResult.{CheckResult}
+use Rattle.naburain.specs.declared.LookupResult.{LookupResult}
+use Rattle.naburain.specs.declared.WordResult.{WordResult}
+use Rattle.naburain.specs.declared.ProbeResult.{ProbeResult}
+use Rattle.naburain.specs.declared.WriteResult.{WriteResult}
+use Rattle.naburain.specs.declared.AnswerResult.{AnswerResult}
+
+abbrev pub checkResult : Checked → CheckResult
+checkResult checked.Good = record { refusal = 0; value = 0 }
+checkResult (checked.Refused r) = record { refusal = numberOf r; value = valueOf r }
+
+abbrev pub lookupResult : Lookup → LookupResult
+lookupResult (Entry i) = record { refusal = 0; value = 0; entry = i }
+lookupResult (NoEntry r) = record { refusal = numberOf r; value = valueOf r; entry = 0 }
+
+-- the word's place in the index
+abbrev pub wordResult : Checked → ℕ → ℕ → WordResult
+wordResult checked.Good start length = record { refusal = 0; value = 0; start = start; length = length }
+wordResult (checked.Refused r) start length = record { refusal = numberOf r; value = valueOf r; start = 0; length = 0 }
+
+abbrev pub probeResult : Probed → ProbeResult
+probeResult (Counted p) = record { refusal = 0; value = 0; below = p .below; overlapping = p .overlapping }
+probeResult (NoCount r) = record { refusal = numberOf r; value = valueOf r; below = 0; overlapping = 0 }
+
+abbrev pub writeResult : Written → WriteResult
+writeResult (written.Wrote n) = record { refusal = 0; value = 0; written = n }
+writeResult (written.Refused r) = record { refusal = numberOf r; value = valueOf r; written = 0 }
+
+abbrev pub answerResult : Answer → AnswerResult
+answerResult (answer.Listed t) = record { refusal = 0; value = 0; intervals = t .intervals; records = t .records }
+answerResult (answer.Refused r) = record { refusal = numberOf r; value = valueOf r; intervals = 0; records = 0 }

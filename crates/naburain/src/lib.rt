@@ -1,0 +1,281 @@
+// The calls for C programs: numbers and slices in, a struct of numbers out by value, so that a refused call writes nothing anywhere.
+ghost use mathlib.Core.Path.{_≡_};
+ghost use Rattle.list.specs.Convert.{ToIntervals, ToNumbers};
+ghost use Rattle.index.specs.Format.{wordStart, wordLength};
+ghost use Rattle.index.specs.Check.{checkOf};
+ghost use Rattle.index.specs.Entry.{lookupOf, entryOf, probeOf};
+ghost use Rattle.naburain.specs.Result.{checkResult, lookupResult, wordResult, probeResult, writeResult, answerResult};
+ghost use Rattle.list.specs.Ginix.{unionOf, intersectionOf};
+ghost use Rattle.naburain.specs.Exported.{IntervalsExported, NumbersExported, JoinExported, AskExported, BuildExported};
+use index::Checked;
+use index::Lookup;
+use index::Probed;
+use list::Written;
+use list::answer::Answer;
+use refusal::number_of;
+use refusal::value_of;
+
+#[repr(C)]
+pub struct CheckResult {
+    pub refusal: u64,
+    pub value: u64,
+}
+
+#[repr(C)]
+pub struct LookupResult {
+    pub refusal: u64,
+    pub value: u64,
+    pub entry: u64,
+}
+
+#[repr(C)]
+pub struct WordResult {
+    pub refusal: u64,
+    pub value: u64,
+    pub start: u64,
+    pub length: u64,
+}
+
+#[repr(C)]
+pub struct ProbeResult {
+    pub refusal: u64,
+    pub value: u64,
+    pub below: u64,
+    pub overlapping: u64,
+}
+
+#[repr(C)]
+pub struct WriteResult {
+    pub refusal: u64,
+    pub value: u64,
+    pub written: u64,
+}
+
+#[repr(C)]
+pub struct AnswerResult {
+    pub refusal: u64,
+    pub value: u64,
+    pub intervals: u64,
+    pub records: u64,
+}
+
+fn check_result(answer: Checked) -> CheckResult
+    ensures { λ r. ⌜ r ≡ checkResult answer ⌝ }
+{
+    match answer {
+        Checked::Good => CheckResult {
+            refusal: 0,
+            value: 0,
+        },
+        Checked::Refused(refusal) => CheckResult {
+            refusal: number_of(refusal),
+            value: value_of(refusal),
+        },
+    }
+}
+
+fn lookup_result(answer: Lookup) -> LookupResult
+    ensures { λ r. ⌜ r ≡ lookupResult answer ⌝ }
+{
+    match answer {
+        Lookup::Entry(i) => LookupResult {
+            refusal: 0,
+            value: 0,
+            entry: i as u64,
+        },
+        Lookup::NoEntry(refusal) => LookupResult {
+            refusal: number_of(refusal),
+            value: value_of(refusal),
+            entry: 0,
+        },
+    }
+}
+
+fn probe_result(answer: Probed) -> ProbeResult
+    ensures { λ r. ⌜ r ≡ probeResult answer ⌝ }
+{
+    match answer {
+        Probed::Counted(counts) => ProbeResult {
+            refusal: 0,
+            value: 0,
+            below: counts.below as u64,
+            overlapping: counts.overlapping as u64,
+        },
+        Probed::NoCount(refusal) => ProbeResult {
+            refusal: number_of(refusal),
+            value: value_of(refusal),
+            below: 0,
+            overlapping: 0,
+        },
+    }
+}
+
+fn write_result(answer: Written) -> WriteResult
+    ensures { λ r. ⌜ r ≡ writeResult answer ⌝ }
+{
+    match answer {
+        Written::Wrote(n) => WriteResult {
+            refusal: 0,
+            value: 0,
+            written: n as u64,
+        },
+        Written::Refused(refusal) => WriteResult {
+            refusal: number_of(refusal),
+            value: value_of(refusal),
+            written: 0,
+        },
+    }
+}
+
+fn answer_result(answer: Answer) -> AnswerResult
+    ensures { λ r. ⌜ r ≡ answerResult answer ⌝ }
+{
+    match answer {
+        Answer::Listed(tally) => AnswerResult {
+            refusal: 0,
+            value: 0,
+            intervals: tally.intervals as u64,
+            records: tally.records as u64,
+        },
+        Answer::Refused(refusal) => AnswerResult {
+            refusal: number_of(refusal),
+            value: value_of(refusal),
+            intervals: 0,
+            records: 0,
+        },
+    }
+}
+
+// Refusals 1 to 5.
+#[no_mangle]
+pub extern "C" fn naburain_check(index: &[u8]) -> CheckResult
+    ensures { λ r. ⌜ r ≡ checkResult (checkOf (now (index .entry))) ⌝ }
+{
+    check_result(index::check::check_index(index))
+}
+
+// Refusals 1 to 5, 21.
+#[no_mangle]
+pub extern "C" fn naburain_lookup(index: &[u8], word: &[u8]) -> LookupResult
+    ensures { λ r. ⌜ r ≡ lookupResult (lookupOf (now (index .entry)) (now (word .entry))) ⌝ }
+{
+    lookup_result(index::find::look_up(index, word))
+}
+
+// Where the word of an entry stands in the index. Refusals 1 to 5, 14.
+#[no_mangle]
+pub extern "C" fn naburain_word(index: &[u8], entry: u32) -> WordResult
+    ensures { λ r. ⌜ r ≡ wordResult (entryOf (now (index .entry)) entry) (wordStart (now (index .entry)) entry) (wordLength (now (index .entry)) entry) ⌝ }
+{
+    match index::word_call::entry_refusal(index, entry) {
+        Checked::Good => {
+            let found = index::parts::sound_entry(index, entry as usize);
+            WordResult {
+                refusal: 0,
+                value: 0,
+                start: found.word_start as u64,
+                length: found.word_length as u64,
+            }
+        }
+        Checked::Refused(refusal) => WordResult {
+            refusal: number_of(refusal),
+            value: value_of(refusal),
+            start: 0,
+            length: 0,
+        },
+    }
+}
+
+// Refusals 1 to 5, 14, 20.
+#[no_mangle]
+pub extern "C" fn naburain_probe(index: &[u8], entry: u32, a: u32, b: u32) -> ProbeResult
+    ensures { λ r. ⌜ r ≡ probeResult (probeOf (now (index .entry)) entry a b) ⌝ }
+{
+    probe_result(index::probe_call::probe_entry(index, entry, a, b))
+}
+
+// Refusals 15, 12.
+#[no_mangle]
+pub extern "C" fn naburain_to_intervals(numbers: &[u32], cells: &mut [u32]) -> WriteResult
+    ensures { λ r. ⌜ IntervalsExported (now (numbers .entry)) (now (cells .entry)) (now (cells .exit)) r ⌝ }
+{
+    write_result(list::convert::to_intervals(numbers, cells))
+}
+
+// Refusals 16, 12.
+#[no_mangle]
+pub extern "C" fn naburain_to_numbers(cells: &[u32], numbers: &mut [u32]) -> WriteResult
+    ensures { λ r. ⌜ NumbersExported (now (cells .entry)) (now (numbers .entry)) (now (numbers .exit)) r ⌝ }
+{
+    write_result(list::convert::to_numbers(cells, numbers))
+}
+
+// Refusals 1 to 5, 13, 14, 12.
+#[no_mangle]
+pub extern "C" fn naburain_union_scan_line(
+    index: &[u8],
+    entries: &[u32],
+    cells: &mut [u32],
+) -> AnswerResult
+    ensures { λ r. ⌜ JoinExported unionOf (now (index .entry)) (now (entries .entry)) (now (cells .entry)) (now (cells .exit)) r ⌝ }
+{
+    answer_result(join::join::union_scan_line(index, entries, cells))
+}
+
+// Refusals 1 to 5, 13, 14, 12.
+#[no_mangle]
+pub extern "C" fn naburain_union_active_interval(
+    index: &[u8],
+    entries: &[u32],
+    cells: &mut [u32],
+) -> AnswerResult
+    ensures { λ r. ⌜ JoinExported unionOf (now (index .entry)) (now (entries .entry)) (now (cells .entry)) (now (cells .exit)) r ⌝ }
+{
+    answer_result(join::join::union_active_interval(index, entries, cells))
+}
+
+// Refusals 1 to 5, 13, 14, 12.
+#[no_mangle]
+pub extern "C" fn naburain_intersection_twin_heap(
+    index: &[u8],
+    entries: &[u32],
+    cells: &mut [u32],
+) -> AnswerResult
+    ensures { λ r. ⌜ JoinExported intersectionOf (now (index .entry)) (now (entries .entry)) (now (cells .entry)) (now (cells .exit)) r ⌝ }
+{
+    answer_result(join::join::intersection_twin_heap(index, entries, cells))
+}
+
+// Refusals 1 to 5, 13, 14, 12.
+#[no_mangle]
+pub extern "C" fn naburain_intersection_probing(
+    index: &[u8],
+    entries: &[u32],
+    cells: &mut [u32],
+) -> AnswerResult
+    ensures { λ r. ⌜ JoinExported intersectionOf (now (index .entry)) (now (entries .entry)) (now (cells .entry)) (now (cells .exit)) r ⌝ }
+{
+    answer_result(join::join::intersection_probing(index, entries, cells))
+}
+
+// Refusals 1 to 5, 6, 7, 8, 9 to 11, 12.
+#[no_mangle]
+pub extern "C" fn naburain_ask(index: &[u8], question: &[u8], cells: &mut [u32]) -> AnswerResult
+    ensures { λ r. ⌜ AskExported (now (index .entry)) (now (question .entry)) (now (cells .entry)) (now (cells .exit)) r ⌝ }
+{
+    answer_result(query::ask::ask(index, question, cells))
+}
+
+// Refusals 19 with 0, 17, 18, 15, 19 with 1, 12.
+#[no_mangle]
+pub extern "C" fn naburain_build(
+    n: u32,
+    words: &[u8],
+    counts: &[u32],
+    numbers: &[u32],
+    bytes: &mut [u8],
+) -> WriteResult
+    ensures { λ r. ⌜ BuildExported n (now (words .entry)) (now (counts .entry)) (now (numbers .entry)) (now (bytes .entry)) (now (bytes .exit)) r ⌝ }
+{
+    write_result(build::build::build_index(n, words, counts, numbers, bytes))
+}
