@@ -1,0 +1,9 @@
+pub mod Determined
+pub mod ExampleLaws
+pub mod Table
+pub mod WrongLaws
+pub mod WrongConversions
+pub mod WrongReturns
+pub mod WrongAsk
+pub mod WrongJoins
+pub mod WrongBuild

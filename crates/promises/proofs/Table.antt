@@ -1,0 +1,95 @@
+-- P1 to P12, computed: the questions from the index's bytes on, the unions and intersections up to 9, above which none of their lists names anything.
+use Prim.Native.Nat.{ℕ, _/_}
+use native.Mathlib.Omega.{arith}
+use mathlib.Core.Path.{_≡_, refl, sym, ap, _∙_}
+use mathlib.Core.Bool.{true}
+use mathlib.Core.List.{List, _∷_}
+use lib.ListN.{length}
+use Rattle.refusal.specs.First.{firstFrom, first}
+use Rattle.word.specs.Word.{isWordByte, same, isAnd, isOr, isNot, operatorOf}
+use Rattle.list.specs.Interval.{properFrom, isProper, names, records}
+use Rattle.list.specs.Stretches.{stretches, cellsOf}
+use Rattle.list.specs.Ginix.{inSome, inEvery, unionOf, intersectionOf, belowCount, overlapCount}
+use Rattle.list.specs.Cell.{numbersIn}
+use Rattle.list.specs.Kept.{walkFrom, walked}
+use Rattle.list.specs.declared.answer.Answer.{Answer}
+use Rattle.list.proofs.JoinLaws.{AllProper, union-limit, intersection-limit}
+use Rattle.index.specs.Format.{
+  entryAt,
+  wordStart,
+  wordLength,
+  listStart,
+  singleCount,
+  pairCount,
+  wordOf,
+  singlesOf,
+  lowerOf,
+  upperOf,
+  listOf,
+}
+use Rattle.index.specs.Has.{hasWithin, has}
+use Rattle.question.specs.Token.{run, gather, tokensAt, tokens}
+use Rattle.question.specs.Grammar.{fromLeft, question, operand, links, whole}
+use Rattle.question.specs.Meaning.{fits}
+use Rattle.question.specs.Reading.{isForeign, refusalOf, asked}
+use Rattle.query.specs.Ask.{satisfying, treeAnswer, treeCells, askAnswer, askCells, Asks}
+use Rattle.promises.specs.Example.{example}
+use Rattle.promises.specs.Table.{AllRight, table}
+use Rattle.promises.proofs.ExampleLaws.{example-good}
+
+-- a question over the example's index: once that is good, what the question comes to
+pub asks-example : (s out out′ : List ℕ) (r : Answer) → r ≡ treeAnswer example (asked fromLeft s) (length out / 2) →
+    out′ ≡ treeCells example (asked fromLeft s) (length out / 2) out → Asks fromLeft example s out out′ r
+asks-example s out out′ r a c =
+    let room = length out / 2 in
+    record {
+      answer = a ∙ ap (λ g. askAnswer g example (asked fromLeft s) room) (sym example-good);
+      cells = c ∙ ap (λ g. askCells g example (asked fromLeft s) room out) (sym example-good);
+    }
+
+pub union-is : (lists : List (List ℕ)) (c : List ℕ) → AllProper 9 lists → cellsOf (inSome lists) 9 ≡ c → unionOf lists ≡ c
+union-is lists c p e = sym (union-limit 9 lists (omega arith) p) ∙ e
+
+pub intersection-is : (l : List ℕ) (lists : List (List ℕ)) (c : List ℕ) → isProper 9 l ≡ true → cellsOf (inEvery (l ∷ lists)) 9 ≡ c →
+    intersectionOf (l ∷ lists) ≡ c
+intersection-is l lists c p e = sym (intersection-limit 9 l lists (omega arith) p) ∙ e
+
+pub table-right : AllRight table
+unfolding firstFrom first isWordByte same isAnd isOr isNot operatorOf properFrom isProper names records stretches cellsOf inSome inEvery belowCount overlapCount numbersIn walkFrom walked entryAt wordStart wordLength listStart singleCount pairCount wordOf singlesOf lowerOf upperOf listOf hasWithin has run gather tokensAt tokens fromLeft question operand links whole fits isForeign refusalOf asked satisfying
+table-right = (
+  asks-example _ _ _ _ refl refl,
+  (
+    asks-example _ _ _ _ refl refl,
+    (
+      asks-example _ _ _ _ refl refl,
+      (
+        asks-example _ _ _ _ refl refl,
+        (
+          asks-example _ _ _ _ refl refl,
+          (
+            asks-example _ _ _ _ refl refl,
+            (
+              asks-example _ _ _ _ refl refl,
+              (
+                union-is _ _ (refl, (refl, tt)) refl,
+                (
+                  union-is _ _ (refl, (refl, tt)) refl,
+                  (
+                    intersection-is _ _ _ refl refl,
+                    (
+                      intersection-is _ _ _ refl refl,
+                      (
+                        (refl, refl),
+                        tt,
+                      ),
+                    ),
+                  ),
+                ),
+              ),
+            ),
+          ),
+        ),
+      ),
+    ),
+  ),
+)

@@ -1,0 +1,49 @@
+-- "Example, N = 9: boats 2,3,4,8; harbour 1,2,3,6,7; maps 5,6,7,9; tide 3,8,9. W = 52, D = 72, length 172."
+use Prim.Native.Nat.{ℕ}
+use mathlib.Core.List.{List, [], _∷_, _++_}
+
+abbrev pub boats : List ℕ
+boats = 98 ∷ 111 ∷ 97 ∷ 116 ∷ 115 ∷ []
+
+abbrev pub harbour : List ℕ
+harbour = 104 ∷ 97 ∷ 114 ∷ 98 ∷ 111 ∷ 117 ∷ 114 ∷ []
+
+abbrev pub maps : List ℕ
+maps = 109 ∷ 97 ∷ 112 ∷ 115 ∷ []
+
+abbrev pub tide : List ℕ
+tide = 116 ∷ 105 ∷ 100 ∷ 101 ∷ []
+
+-- ` and `, ` or `, ` not `, `tables`, `pier`
+abbrev pub and′ : List ℕ
+and′ = 32 ∷ 97 ∷ 110 ∷ 100 ∷ 32 ∷ []
+
+abbrev pub or′ : List ℕ
+or′ = 32 ∷ 111 ∷ 114 ∷ 32 ∷ []
+
+abbrev pub not′ : List ℕ
+not′ = 32 ∷ 110 ∷ 111 ∷ 116 ∷ 32 ∷ []
+
+abbrev pub tables : List ℕ
+tables = 116 ∷ 97 ∷ 98 ∷ 108 ∷ 101 ∷ 115 ∷ []
+
+abbrev pub pier : List ℕ
+pier = 112 ∷ 105 ∷ 101 ∷ 114 ∷ []
+
+-- a cell whose number is below 256
+abbrev pub small : List ℕ → List ℕ
+small [] = []
+small (x ∷ xs) = x ∷ 0 ∷ 0 ∷ 0 ∷ small xs
+
+-- the index: the lists, the words, the directory and the trailer
+abbrev pub example : List ℕ
+example =
+    small (8 ∷ 2 ∷ 4 ∷ 1 ∷ 6 ∷ 3 ∷ 7 ∷ 9 ∷ 5 ∷ 7 ∷ 3 ∷ 8 ∷ 9 ∷ [])
+    ++ (boats ++ (harbour ++ (maps ++ (tide
+    ++ small
+    (
+    52 ∷ 5 ∷ 0 ∷ 1 ∷ 1 ∷
+    57 ∷ 7 ∷ 12 ∷ 0 ∷ 2 ∷
+    64 ∷ 4 ∷ 28 ∷ 1 ∷ 1 ∷
+    68 ∷ 4 ∷ 40 ∷ 1 ∷ 1 ∷
+    52 ∷ 72 ∷ 4 ∷ 9 ∷ 1 ∷ [])))))

@@ -1,0 +1,4 @@
+pub mod Outcome
+pub mod Example
+pub mod Table
+pub mod Wrong

@@ -1,0 +1,52 @@
+-- "P1 to P12 are one table with a single proved statement, about the definitions".
+use Prim.Native.Nat.{ℕ}
+use mathlib.Core.Path.{_≡_}
+use mathlib.Core.List.{List, [], _∷_, _++_}
+use Rattle.refusal.specs.declared.Refusal.the-variants.{Grammar}
+use Rattle.list.specs.declared.answer.Answer.{Answer}
+use Rattle.list.specs.declared.answer.Answer.the-variants.{Listed, Refused}
+use Rattle.list.specs.Ginix.{unionOf, intersectionOf, belowCount, overlapCount}
+use Rattle.question.specs.Grammar.{fromLeft}
+use Rattle.query.specs.Ask.{Asks}
+use Rattle.promises.specs.Example.{boats, harbour, maps, tide, tables, pier, and′, or′, not′, example}
+
+-- a question over the example's index with what it is answered and the four lent cells afterwards; lists with their union or intersection; a range
+-- and a list with how many of its intervals lie below and overlap
+pub data Row : Type 0 where
+  line : List ℕ → Answer → List ℕ → Row
+  union intersection : List (List ℕ) → List ℕ → Row
+  probe : ℕ → ℕ → List ℕ → ℕ → ℕ → Row
+
+abbrev pub lent : List ℕ
+lent = 0 ∷ 0 ∷ 0 ∷ 0 ∷ []
+
+abbrev pub Right : Row → Type 0
+Right (line question answer cells) = Asks fromLeft example question lent cells answer
+Right (union lists cells) = unionOf lists ≡ cells
+Right (intersection lists cells) = intersectionOf lists ≡ cells
+Right (probe a b list below overlapping) = (belowCount a list ≡ below) × (overlapCount a b list ≡ overlapping)
+
+abbrev pub AllRight : List Row → Type 0
+AllRight [] = Unit {0}
+AllRight (r ∷ rs) = Right r × AllRight rs
+
+abbrev pub listed : ℕ → ℕ → Answer
+listed intervals records = Listed (record { intervals = intervals; records = records })
+
+-- P1 to P7: "the seven lines above". P8: "union of [1,3] and [4,5] is [1,5]". P9: "of [1,3] and [5,6], both". P10: "intersection of [1,3] and
+-- [3,5] is [3,3]". P11: "of [1,2], [1,9], [4,6], empty". P12: "[4,6] probed in [1,4],[6,6],[8,9]: 0 below, 2 overlap".
+abbrev pub table : List Row
+table =
+    line (boats ++ or′ ++ tide) (listed 2 5) (2 ∷ 4 ∷ 8 ∷ 9 ∷ [])
+    ∷ line (boats ++ or′ ++ maps) (listed 1 8) (2 ∷ 9 ∷ 0 ∷ 0 ∷ [])
+    ∷ line (harbour ++ and′ ++ maps ++ not′ ++ tide) (listed 1 2) (6 ∷ 7 ∷ 0 ∷ 0 ∷ [])
+    ∷ line (boats ++ or′ ++ harbour ++ and′ ++ maps) (listed 1 2) (6 ∷ 7 ∷ 0 ∷ 0 ∷ [])
+    ∷ line (boats ++ or′ ++ 40 ∷ (harbour ++ and′ ++ maps ++ 41 ∷ [])) (listed 2 6) (2 ∷ 4 ∷ 6 ∷ 8 ∷ [])
+    ∷ line (tide ++ 32 ∷ tables) (Refused (Grammar 5)) lent
+    ∷ line pier (listed 0 0) lent
+    ∷ union ((1 ∷ 3 ∷ []) ∷ (4 ∷ 5 ∷ []) ∷ []) (1 ∷ 5 ∷ [])
+    ∷ union ((1 ∷ 3 ∷ []) ∷ (5 ∷ 6 ∷ []) ∷ []) (1 ∷ 3 ∷ 5 ∷ 6 ∷ [])
+    ∷ intersection ((1 ∷ 3 ∷ []) ∷ (3 ∷ 5 ∷ []) ∷ []) (3 ∷ 3 ∷ [])
+    ∷ intersection ((1 ∷ 2 ∷ []) ∷ (1 ∷ 9 ∷ []) ∷ (4 ∷ 6 ∷ []) ∷ []) []
+    ∷ probe 4 6 (1 ∷ 4 ∷ 6 ∷ 6 ∷ 8 ∷ 9 ∷ []) 0 2
+    ∷ []

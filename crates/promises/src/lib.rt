@@ -1,0 +1,1 @@
+// No code: what the promises of the public calls leave no doubt about.
