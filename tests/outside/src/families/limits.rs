@@ -1,0 +1,238 @@
+//! Document 01's "To be run", the ends of every range, and the borders of windows of 8,192 records.
+
+use crate::calls::{Caller, Outcome};
+use crate::document;
+use crate::random::Random;
+use crate::reference::build::encode;
+use crate::reference::join::{join, Join};
+use crate::reference::question::ask;
+use crate::reference::set::{Interval, Set};
+use crate::reference::{INDEX_MAX, RECORD_MAX};
+
+pub fn run(caller: &mut Caller, _: &mut Random) -> Outcome {
+    questions(caller)?;
+    twice(caller)?;
+    last_record(caller)?;
+    borders(caller)?;
+    conversions(caller)?;
+    few_and_many_words(caller)?;
+    longest_index(caller)
+}
+
+/// A question with room for exactly its answer, one cell less, one interval less, and none.
+fn asked(caller: &mut Caller, index: &[u8], question: &[u8]) -> Outcome {
+    let needed = ask(index, question).map_or(0, |answer| 2 * answer.intervals().len());
+    for room in [needed, needed + 1, needed.saturating_sub(1), needed.saturating_sub(2), 0] {
+        caller.ask(index, question, room)?;
+    }
+    Ok(())
+}
+
+/// A join with the same rooms.
+fn joined(caller: &mut Caller, index: &[u8], entries: &[u32]) -> Outcome {
+    for how in [Join::Union, Join::Intersection] {
+        let needed = join(index, how, entries).map_or(0, |answer| 2 * answer.intervals().len());
+        for room in [needed, needed + 1, needed.saturating_sub(1), needed.saturating_sub(2), 0] {
+            caller.join(index, how, entries, room)?;
+        }
+    }
+    Ok(())
+}
+
+fn questions(caller: &mut Caller) -> Outcome {
+    let index = document::example();
+    let words = |n: usize| vec!["boats"; n].join(" or ");
+    let nested = |n: usize| format!("{}maps{}", "(".repeat(n), ")".repeat(n));
+    let table = [
+        String::new(),
+        " ".to_string(),
+        "   ".to_string(),
+        "boats or ".to_string(),
+        "(boats  ".to_string(),
+        "()".to_string(),
+        ")".to_string(),
+        "a(b)".to_string(),
+        "(boats)or(tide)".to_string(),
+        "AND and AND".to_string(),
+        "and".to_string(),
+        "boats and and".to_string(),
+        words(16),
+        words(17),
+        format!("{} tide", words(16)),
+        format!("{} and", words(16)),
+        nested(8),
+        nested(9),
+        format!("maps {}", nested(9)),
+        "(maps) or ".repeat(15) + "(maps)",
+        format!("{:<256}", "boats or tide"),
+        format!("{:<257}", "boats or tide"),
+        format!("{:>256}", "boats or tide"),
+        format!("{:<256}", "boats or"),
+        "w".repeat(32),
+        "w".repeat(33),
+        format!("boats ) {}", "w".repeat(33)),
+        format!("{}\n", "w".repeat(33)),
+        "w".repeat(256),
+        "w".repeat(257),
+    ];
+    for question in table {
+        asked(caller, &index, question.as_bytes())?;
+    }
+    Ok(())
+}
+
+fn twice(caller: &mut Caller) -> Outcome {
+    let index = document::example();
+    for entries in [&[0][..], &[2, 2], &[1, 3, 1], &[0; 16], &[0; 17], &[9; 17], &[], &[0, 4], &[u32::MAX, 4], &[3, 2, 1, 0]] {
+        joined(caller, &index, entries)?;
+    }
+    Ok(())
+}
+
+fn set(intervals: &[Interval]) -> Set {
+    Set::of(intervals.to_vec())
+}
+
+/// Three words over N.
+fn three(highest: u32, lists: [&[Interval]; 3]) -> Vec<u8> {
+    let words = [b"a", b"b", b"c"].iter().zip(lists).map(|(word, list)| (word.to_vec(), set(list)));
+    encode(highest, &words.collect::<Vec<_>>())
+}
+
+const THREE: [&str; 12] = [
+    "a",
+    "b",
+    "a or b",
+    "a and b",
+    "a not b",
+    "b not a",
+    "a or b and c",
+    "a not (b or c)",
+    "c not (a and b)",
+    "(a or c) and (b or c)",
+    "lacking or a",
+    "a not lacking",
+];
+
+fn all_of_three(caller: &mut Caller, index: &[u8]) -> Outcome {
+    caller.check(index)?;
+    for question in THREE {
+        asked(caller, index, question.as_bytes())?;
+    }
+    for entries in [&[0, 1][..], &[1, 2], &[0, 1, 2], &[2, 0, 2]] {
+        joined(caller, index, entries)?;
+    }
+    Ok(())
+}
+
+fn last_record(caller: &mut Caller) -> Outcome {
+    let last = RECORD_MAX;
+    let index = three(last, [&[(1, 1), (last - 9, last)], &[(last, last)], &[(1, last)]]);
+    all_of_three(caller, &index)?;
+    all_of_three(caller, &three(last, [&[(last - 1, last)], &[(2, last - 2), (last, last)], &[(1, 1), (last, last)]]))?;
+    for (a, b) in [(1, last), (last, last), (last, last + 1), (last - 10, last - 10), (0, 1), (2, 1), (1, u32::MAX)] {
+        for entry in 0..4 {
+            caller.probe(&index, entry, a, b)?;
+        }
+    }
+    caller.check(&encode(last, &[]))?;
+    caller.check(&encode(last + 1, &[]))
+}
+
+/// Lists that begin, end, meet or part beside the borders of windows.
+fn borders(caller: &mut Caller) -> Outcome {
+    for border in [8191, 8192, 8193, 16_384, 16_385] {
+        for (x, y) in [(0, 0), (0, 1), (1, 1), (1, 2), (2, 3)] {
+            let (l, u) = (border - 2 + x, border - 2 + y);
+            let step: Vec<Interval> = (1..40_000).step_by(2).map(|n| (n, n)).collect();
+            for highest in [border + 3, 40_000] {
+                all_of_three(caller, &three(highest, [&[(l, u)], &[(1, l.max(2) - 1), (u + 1, highest)], &[(1, highest)]]))?;
+            }
+            all_of_three(caller, &three(40_000, [&[(l, u)], &[(u + 1, u + 8192)], &step]))?;
+            all_of_three(caller, &three(40_000, [&[(1, u)], &[(l, 40_000)], &[(l, u), (u + 8192, u + 8192)]]))?;
+        }
+    }
+    Ok(())
+}
+
+fn conversions(caller: &mut Caller) -> Outcome {
+    let last = RECORD_MAX;
+    for numbers in [&[][..], &[last], &[last - 1, last], &[last, last], &[last + 1], &[0], &[1, 0], &[2, 1], &[1, 2, 3, 5, u32::MAX]] {
+        for room in 0..8 {
+            caller.to_intervals(numbers, room)?;
+        }
+    }
+    let lists: [&[u32]; 12] = [
+        &[],
+        &[1],
+        &[1, 1],
+        &[1, 1, 2],
+        &[1, 1, 2, 2],
+        &[1, 1, 3, 3],
+        &[0, 1],
+        &[2, 1],
+        &[last, last],
+        &[last, last + 1],
+        &[1, 2, last, last],
+        &[1, u32::MAX, 0, 0],
+    ];
+    for cells in lists {
+        for room in 0..5 {
+            caller.to_numbers(cells, room)?;
+        }
+    }
+    caller.to_numbers(&[1, last], last as usize - 1)?;
+    caller.to_numbers(&[1, last], last as usize)?;
+    let all: Vec<u32> = (1..=last).collect();
+    caller.to_intervals(&all, 2)?;
+    caller.to_intervals(&all, 1)
+}
+
+fn few_and_many_words(caller: &mut Caller) -> Outcome {
+    for n in [0, RECORD_MAX] {
+        caller.check(&encode(n, &[]))?;
+        caller.ask(&encode(n, &[]), b"pier", 0)?;
+        caller.build(n, b"", &[], &[], 20)?;
+        caller.build(n, b"", &[], &[], 19)?;
+    }
+    caller.build(RECORD_MAX + 1, b"\n", &[0], &[0], 0)?;
+    let name = |i: usize| format!("w{i:05}").into_bytes();
+    let one = |i: usize| (name(i), set(&[(1 + i as u32 % 9, 1 + i as u32 % 9)]));
+    let many: Vec<(Vec<u8>, Set)> = (0..65_536).map(one).collect();
+    let most = encode(9, &many[..65_535]);
+    caller.check(&most)?;
+    caller.check(&encode(9, &many))?;
+    for i in [0, 1, 32_767, 65_534, 65_535] {
+        caller.lookup(&most, &name(i))?;
+        caller.word(&most, i as u32)?;
+    }
+    joined(caller, &most, &[0, 65_534, 5, 7])?;
+    asked(caller, &most, b"w00000 or w65534 or w30001 not w00009")?;
+    for n in [65_535, 65_536] {
+        let words: Vec<u8> = many[..n].iter().flat_map(|(word, _)| [&word[..], b"\n"].concat()).collect();
+        let numbers: Vec<u32> = many[..n].iter().map(|(_, list)| list.intervals()[0].0).collect();
+        caller.build(9, &words, &vec![1; n], &numbers, most.len())?;
+        caller.build(9, &words, &vec![1; n], &numbers, most.len() - 1)?;
+        caller.build(9, &words[..words.len() - 1], &vec![1; n], &numbers, most.len())?;
+    }
+    Ok(())
+}
+
+/// An index of exactly 16,777,216 bytes, and what is longer.
+fn longest_index(caller: &mut Caller) -> Outcome {
+    let cells = (INDEX_MAX - 40 - 4) / 4;
+    let numbers: Vec<u32> = (0..cells as u32 + 1).map(|i| 2 * i + 1).collect();
+    let mut longest = encode(RECORD_MAX, &[(b"long".to_vec(), Set::of_numbers(&numbers[..cells]))]);
+    assert!(longest.len() == INDEX_MAX);
+    caller.check(&longest)?;
+    caller.ask(&longest, b"long not long", 0)?;
+    caller.ask(&longest, b"long", 2 * cells)?;
+    caller.ask(&longest, b"long", 2 * cells - 1)?;
+    caller.probe(&longest, 0, 1, RECORD_MAX)?;
+    caller.build(RECORD_MAX, b"long\n", &[cells as u32], &numbers[..cells], INDEX_MAX)?;
+    caller.build(RECORD_MAX, b"long\n", &[cells as u32], &numbers[..cells], INDEX_MAX - 1)?;
+    caller.build(RECORD_MAX, b"long\n", &[cells as u32 + 1], &numbers, INDEX_MAX)?;
+    longest.push(0);
+    caller.check(&longest)?;
+    caller.ask(&longest, b"long", 4)
+}

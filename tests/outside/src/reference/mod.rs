@@ -1,0 +1,47 @@
+//! Document 01 once more, written from the document alone: plain, slow where that is shorter, and knowing nothing of the library.
+
+pub mod build;
+pub mod convert;
+pub mod index;
+pub mod join;
+pub mod question;
+pub mod set;
+
+/// The largest record number, and the largest N.
+pub const RECORD_MAX: u32 = 16_777_215;
+pub const INDEX_MIN: usize = 20;
+pub const INDEX_MAX: usize = 16_777_216;
+pub const WORDS_MAX: usize = 65_535;
+pub const WORD_MAX: usize = 32;
+pub const QUESTION_MAX: usize = 256;
+pub const QUESTION_WORDS_MAX: usize = 16;
+pub const BRACKETS_MAX: usize = 8;
+pub const LISTS_MAX: usize = 16;
+
+/// A row of the table of refusals, with its value.
+#[derive(Clone, Copy, Debug, PartialEq, Eq)]
+pub struct Refusal {
+    pub number: u64,
+    pub value: u64,
+}
+
+pub type Answer<T> = Result<T, Refusal>;
+
+pub fn refuse<T>(number: u64, value: u64) -> Answer<T> {
+    Err(Refusal { number, value })
+}
+
+/// "A word consists of A-Z, a-z and 0-9."
+pub fn is_word_byte(byte: u8) -> bool {
+    byte.is_ascii_alphanumeric()
+}
+
+/// "Operators are `and`, `or`, `not`, in small letters only."
+pub fn is_operator(word: &[u8]) -> bool {
+    matches!(word, b"and" | b"or" | b"not")
+}
+
+/// Length, bytes and no operator: what makes a word, its neighbours apart.
+pub fn is_word(bytes: &[u8]) -> bool {
+    (1..=WORD_MAX).contains(&bytes.len()) && bytes.iter().all(|&b| is_word_byte(b)) && !is_operator(bytes)
+}
