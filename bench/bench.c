@@ -1,0 +1,452 @@
+/* Times and ratios, all in one run: the check, questions, joins and building. Answers are compared before anything is timed, and the two sides
+ * of a ratio are timed in turns, best of many. */
+#include "corpus.h"
+#include "engine.h"
+#include "naburain.h"
+#include "others.h"
+
+#include <stdio.h>
+#include <stdlib.h>
+#include <string.h>
+
+static const struct kind KINDS[] = {
+    {"catalogue", 300000, 6000, 60, 3},        /* long stretches */
+    {"far", 16777215, 60000, 40, 3},           /* up to the last record */
+    {"singles", 2000000, 200000, 1, 10},       /* no stretch at all */
+    {"sparse", 16777215, 1000, 1, 10},         /* few records far apart: little to check, long jumps */
+};
+
+struct asked {
+    const char *what, *question;
+};
+
+static const struct asked QUESTIONS[] = {
+    {"and, rare", "r0 and r1"},
+    {"and, rare with common", "r0 and c0"},
+    {"and, common", "c0 and c1"},
+    {"or, five words", "m0 or m1 or m2 or m3 or m4"},
+    {"or, five common", "c0 or c1 or c2 or c3 or c4"},
+    {"not", "c0 not m0"},
+    {"ten words", "c0 and m0 or r0 not m1 or c1 and c2 not r1 or m2 and m3 or r2"},
+    {"nested", "((c0 or m0) and (c1 or (m1 not r0))) not (c2 and (m2 or r1))"},
+};
+
+static volatile uint64_t sink;
+
+/* ---- what is timed: one call each ---- */
+
+struct job {
+    const struct corpus *corpus;
+    const char *question;
+    const uint32_t *entries;
+    size_t entry_count;
+    uint32_t *cells;
+    size_t room;
+    struct naburain_answered (*join)(const uint8_t *, size_t, const uint32_t *, size_t, uint32_t *, size_t);
+    struct engine_result (*engine_join)(const uint8_t *, size_t, const uint32_t *, size_t, uint32_t *, size_t);
+    struct roaring *roaring;
+    struct sqlite *sqlite;
+    struct tree *tree;
+};
+
+typedef void run(const struct job *);
+
+static void our_check(const struct job *job)
+{
+    sink += naburain_check(job->corpus->index, job->corpus->length).refusal;
+}
+
+static void engine_checks(const struct job *job)
+{
+    sink += engine_check(job->corpus->index, job->corpus->length).refusal;
+}
+
+/* Four bytes at a time, as an array of cells. */
+static void plain_sum(const struct job *job)
+{
+    uint64_t sum = 0;
+    uint32_t cell;
+    for (size_t i = 0; i + 4 <= job->corpus->length; i += 4) {
+        memcpy(&cell, job->corpus->index + i, 4);
+        sum += cell;
+    }
+    sink += sum;
+}
+
+static void our_ask(const struct job *job)
+{
+    const struct corpus *c = job->corpus;
+    sink += naburain_ask(c->index, c->length, (const uint8_t *)job->question, strlen(job->question), job->cells, job->room).records;
+}
+
+static void engine_asks(const struct job *job)
+{
+    const struct corpus *c = job->corpus;
+    sink += engine_ask(c->index, c->length, (const uint8_t *)job->question, strlen(job->question), job->cells, job->room).records;
+}
+
+static void our_join(const struct job *job)
+{
+    sink += job->join(job->corpus->index, job->corpus->length, job->entries, job->entry_count, job->cells, job->room).records;
+}
+
+static void engine_joins(const struct job *job)
+{
+    sink += job->engine_join(job->corpus->index, job->corpus->length, job->entries, job->entry_count, job->cells, job->room).records;
+}
+
+static void roaring_asks(const struct job *job)
+{
+    sink += roaring_ask(job->roaring, job->tree);
+}
+
+static void sqlite_asks(const struct job *job)
+{
+    sink += sqlite_ask(job->sqlite);
+}
+
+/* A plain sum over the cells of the lists of these entries, where they stand in the index. */
+static void sum_lists(const struct job *job)
+{
+    const uint8_t *index = job->corpus->index, *trailer = index + job->corpus->length - 20;
+    uint32_t directory, line[5], cell;
+    uint64_t sum = 0;
+    memcpy(&directory, trailer + 4, 4);
+    for (size_t k = 0; k < job->entry_count; k++) {
+        memcpy(line, index + directory + 20 * (size_t)job->entries[k], 20);
+        size_t cells = line[3] + 2 * (size_t)line[4];
+        for (size_t i = 0; i < cells; i++) {
+            memcpy(&cell, index + line[2] + 4 * i, 4);
+            sum += cell;
+        }
+    }
+    sink += sum;
+}
+
+/* ---- timing ---- */
+
+static double once(run *what, const struct job *job, size_t times)
+{
+    double began = seconds();
+    for (size_t i = 0; i < times; i++) {
+        what(job);
+    }
+    return (seconds() - began) / (double)times;
+}
+
+static size_t times_for(run *what, const struct job *job)
+{
+    double single = once(what, job, 1);
+    return single > 2e-3 ? 1 : (size_t)(2e-3 / (single + 1e-8)) + 1;
+}
+
+/* Best of `rounds` for each of several runs, taken in turns. */
+static void best_of(run *const *what, size_t count, const struct job *job, double *best)
+{
+    enum { ROUNDS = 12, MOST = 8 };
+    size_t times[MOST];
+    for (size_t k = 0; k < count; k++) {
+        times[k] = times_for(what[k], job);
+        best[k] = 1e9;
+    }
+    for (int round = 0; round < ROUNDS; round++) {
+        for (size_t k = 0; k < count; k++) {
+            double took = once(what[k], job, times[k]);
+            best[k] = took < best[k] ? took : best[k];
+        }
+    }
+}
+
+/* The ratio of what is left of two times after the check; a dash where the check is nearly all. */
+static void show_rest(double ours, double our_check_time, double theirs, double their_check_time)
+{
+    double a = ours - our_check_time, b = theirs - their_check_time;
+    if (a < 0.03 * our_check_time || b < 0.03 * their_check_time) {
+        printf(" %9s %9s %6s", "-", "-", "-");
+    } else {
+        printf(" %9.1f %9.1f %6.2f", 1e6 * a, 1e6 * b, a / b);
+    }
+}
+
+static void same(const char *what, uint64_t refusal, uint64_t intervals, uint64_t records, struct engine_result theirs, const uint32_t *ours,
+                 const uint32_t *cells)
+{
+    if (refusal != 0 || theirs.refusal != 0 || intervals != theirs.intervals || records != theirs.records ||
+        memcmp(ours, cells, 8 * intervals) != 0) {
+        printf("FAILED: the two engines answer %s differently\n", what);
+        exit(1);
+    }
+}
+
+/* ---- the tables ---- */
+
+static void bench_check(const struct corpus *corpora, size_t count)
+{
+    printf("\nThe index check (microseconds; best of 12)\n");
+    printf("%-10s %10s %10s %10s %10s %12s %10s\n", "corpus", "bytes", "naburain", "C check", "plain sum", "naburain/C", "/sum");
+    for (size_t i = 0; i < count; i++) {
+        struct job job = {.corpus = &corpora[i]};
+        double best[3];
+        best_of((run *const[]){our_check, engine_checks, plain_sum}, 3, &job, best);
+        printf("%-10s %10zu %10.1f %10.1f %10.1f %12.2f %10.1f\n", corpora[i].name, corpora[i].length, 1e6 * best[0], 1e6 * best[1],
+               1e6 * best[2], best[0] / best[1], best[0] / best[2]);
+    }
+}
+
+/* The entries that a question names: c0..c9 are 0..9, m0..m9 10..19, r0..r9 20..29. */
+static size_t entries_of(const char *question, uint32_t *entries)
+{
+    size_t count = 0;
+    for (const char *at = question; *at != 0; at++) {
+        const char *kind = strchr("cmr", *at);
+        if (kind != NULL && at[1] >= '0' && at[1] <= '9') {
+            entries[count++] = (uint32_t)(10 * (kind - strchr("cmr", 'c')) + at[1] - '0');
+        }
+    }
+    return count;
+}
+
+static void bench_questions(const struct corpus *corpus, uint32_t *ours, uint32_t *theirs, size_t room)
+{
+    for (size_t i = 0; i < sizeof QUESTIONS / sizeof QUESTIONS[0]; i++) {
+        const char *question = QUESTIONS[i].question;
+        uint32_t entries[16];
+        struct job job = {.corpus = corpus, .question = question, .entries = entries, .cells = ours, .room = room};
+        job.entry_count = entries_of(question, entries);
+        size_t length = strlen(question);
+        struct naburain_answered got = naburain_ask(corpus->index, corpus->length, (const uint8_t *)question, length, ours, room);
+        struct engine_result held = engine_ask(corpus->index, corpus->length, (const uint8_t *)question, length, theirs, room);
+        same(question, got.refusal, got.intervals, got.records, held, ours, theirs);
+        double best[5];
+        best_of((run *const[]){our_ask, engine_asks, our_check, engine_checks, sum_lists}, 5, &job, best);
+        printf("%-10s %-22s %9d %9.1f %9.1f %6.2f", corpus->name, QUESTIONS[i].what, (int)got.intervals, 1e6 * best[0], 1e6 * best[1],
+               best[0] / best[1]);
+        show_rest(best[0], best[2], best[1], best[3]);
+        double rest = best[0] - best[2];
+        if (rest < 0.03 * best[2]) {
+            printf(" %9.2f %7s\n", 1e6 * best[4], "-");
+        } else {
+            printf(" %9.2f %7.1f\n", 1e6 * best[4], rest / best[4]);
+        }
+    }
+}
+
+struct method {
+    const char *what;
+    struct naburain_answered (*ours)(const uint8_t *, size_t, const uint32_t *, size_t, uint32_t *, size_t);
+    struct engine_result (*theirs)(const uint8_t *, size_t, const uint32_t *, size_t, uint32_t *, size_t);
+};
+
+static const struct method METHODS[] = {
+    {"union, scan line", naburain_union_scan_line, engine_union},
+    {"union, active interval", naburain_union_active_interval, engine_union},
+    {"intersect, twin heap", naburain_intersection_twin_heap, engine_intersection},
+    {"intersect, probing", naburain_intersection_probing, engine_intersection},
+};
+
+static void bench_join(const struct corpus *corpus, const struct method *method, const char *lists, const uint32_t *entries, size_t count,
+                       uint32_t *ours, uint32_t *theirs, size_t room)
+{
+    struct job job = {.corpus = corpus, .entries = entries, .entry_count = count, .cells = ours, .room = room, .join = method->ours,
+                      .engine_join = method->theirs};
+    struct naburain_answered got = method->ours(corpus->index, corpus->length, entries, count, ours, room);
+    struct engine_result held = method->theirs(corpus->index, corpus->length, entries, count, theirs, room);
+    same(method->what, got.refusal, got.intervals, got.records, held, ours, theirs);
+    double best[4];
+    best_of((run *const[]){our_join, engine_joins, our_check, engine_checks}, 4, &job, best);
+    printf("%-10s %-22s %-12s %9d %9.1f %9.1f %6.2f", corpus->name, method->what, lists, (int)got.intervals, 1e6 * best[0], 1e6 * best[1],
+           best[0] / best[1]);
+    show_rest(best[0], best[2], best[1], best[3]);
+    printf("\n");
+}
+
+static void held_to(const char *who, const char *question, uint64_t records, uint64_t theirs)
+{
+    if (records != theirs) {
+        printf("FAILED: %s answers %s with %d records, and not %d\n", who, question, (int)theirs, (int)records);
+        exit(1);
+    }
+}
+
+/* The answer alone against one other engine that is here; a dash where the check is nearly all. */
+static void show_other(const char *who, const char *question, run *theirs, struct job *job, double whole, double check)
+{
+    double best, answer = whole - check;
+    best_of(&theirs, 1, job, &best);
+    printf("%-10s %-22s %-8s", job->corpus->name, question, who);
+    if (answer < 0.03 * check) {
+        printf(" %10s %10.1f %8s\n", "-", 1e6 * best, "-");
+    } else {
+        printf(" %10.1f %10.1f %8.2f\n", 1e6 * answer, 1e6 * best, answer / best);
+    }
+}
+
+static void bench_others(const struct corpus *corpus, uint32_t *cells, size_t room)
+{
+    struct job job = {.corpus = corpus, .cells = cells, .room = room, .roaring = roaring_open(corpus), .sqlite = sqlite_open(corpus)};
+    for (size_t i = 0; i < sizeof QUESTIONS / sizeof QUESTIONS[0]; i++) {
+        job.question = QUESTIONS[i].question;
+        job.tree = read_question(job.question);
+        uint64_t records =
+            naburain_ask(corpus->index, corpus->length, (const uint8_t *)job.question, strlen(job.question), cells, room).records;
+        double best[2];
+        best_of((run *const[]){our_ask, our_check}, 2, &job, best);
+        if (job.roaring != NULL) {
+            held_to("CRoaring", job.question, records, roaring_ask(job.roaring, job.tree));
+            show_other("CRoaring", QUESTIONS[i].what, roaring_asks, &job, best[0], best[1]);
+        }
+        if (job.sqlite != NULL) {
+            sqlite_prepare_question(job.sqlite, job.tree);
+            held_to("FTS5", job.question, records, sqlite_ask(job.sqlite));
+            show_other("FTS5", QUESTIONS[i].what, sqlite_asks, &job, best[0], best[1]);
+        }
+        free_tree(job.tree);
+    }
+    if (job.roaring != NULL) {
+        roaring_close(job.roaring);
+    }
+    if (job.sqlite != NULL) {
+        sqlite_close(job.sqlite);
+    }
+}
+
+/* How many intervals the list of an entry has, from its directory entry: singles and pairs. */
+static uint64_t intervals_of(const struct corpus *corpus, uint32_t entry)
+{
+    uint32_t directory, singles, pairs;
+    memcpy(&directory, corpus->index + corpus->length - 16, 4);
+    memcpy(&singles, corpus->index + directory + 20 * entry + 12, 4);
+    memcpy(&pairs, corpus->index + directory + 20 * entry + 16, 4);
+    return (uint64_t)singles + pairs;
+}
+
+static double log_two(uint64_t n)
+{
+    double bits = 0;
+    while (n > 1) {
+        n /= 2;
+        bits += 1;
+    }
+    return bits < 1 ? 1 : bits;
+}
+
+/* The steps that a method may take: intervals times the logarithm of the lists, or, for probing, the shortest list's intervals times the
+ * logarithms of the others. */
+static double steps_of(const struct corpus *corpus, const uint32_t *entries, size_t count, int probing)
+{
+    uint64_t all = 0, shortest = UINT64_MAX;
+    double logs = 0;
+    for (size_t i = 0; i < count; i++) {
+        uint64_t n = intervals_of(corpus, entries[i]);
+        all += n;
+        logs += log_two(n);
+        shortest = n < shortest ? n : shortest;
+    }
+    return probing ? (double)shortest * (logs - log_two(shortest)) : (double)all * log_two(count);
+}
+
+/* Joins of ten times as many intervals, and of more lists: the time for one step should stay. */
+static void bench_growth(uint32_t *cells, size_t room)
+{
+    static const uint32_t FEW[] = {0, 1, 2, 3}, MANY[] = {0, 1, 2, 3, 4, 5, 6, 7, 8, 9, 10, 11, 12, 13, 14, 15}, RARE[] = {20, 0, 1, 2};
+    printf("\nJoins that grow (without the check; best of 12)\n%-22s %6s %12s %12s %14s\n", "method", "lists", "steps", "microseconds", "ns a step");
+    for (uint32_t stretches = 1000; stretches <= 100000; stretches *= 10) {
+        struct corpus corpus = make_corpus(&(struct kind){"growing", 16777215, stretches, 8, 5});
+        for (size_t i = 0; i < sizeof METHODS / sizeof METHODS[0]; i++) {
+            int probing = METHODS[i].ours == naburain_intersection_probing;
+            const uint32_t *lists[] = {FEW, probing ? RARE : MANY};
+            const size_t counts[] = {4, probing ? 4 : 16};
+            for (int j = 0; j < 2; j++) {
+                struct job job = {.corpus = &corpus, .entries = lists[j], .entry_count = counts[j], .cells = cells, .room = room, .join = METHODS[i].ours};
+                double best[2], steps = steps_of(&corpus, lists[j], counts[j], probing);
+                best_of((run *const[]){our_join, our_check}, 2, &job, best);
+                double answer = best[0] > best[1] ? best[0] - best[1] : 0;
+                printf("%-22s %6zu %12.0f %12.1f %14.2f\n", METHODS[i].what, counts[j], steps, 1e6 * answer, 1e9 * answer / steps);
+            }
+        }
+        free_corpus(&corpus);
+    }
+}
+
+/* Building from ten times as many numbers, again and again: the time for one number should stay. */
+static void bench_build(void)
+{
+    printf("\nBuilding (best of 5)\n%10s %12s %12s %14s %12s\n", "numbers", "bytes", "milliseconds", "ns a number", "/plain sum");
+    uint8_t *bytes = must(malloc(NABURAIN_INDEX_MAX));
+    for (uint32_t count = 1000; count <= 10000000; count *= 10) {
+        uint32_t *numbers = must(malloc(count * sizeof *numbers));
+        uint64_t state = 7;
+        uint32_t record = 0, room_left = 16777215 - count;
+        for (uint32_t i = 0; i < count; i++) { /* a gap in one of ten places, as long as records are left */
+            uint32_t gap = next_random(&state) % 10 == 0 && room_left > 0 ? 1 : 0;
+            room_left -= gap;
+            record += 1 + gap;
+            numbers[i] = record;
+        }
+        double best = 1e9, sum_best = 1e9;
+        struct naburain_written built = {0, 0, 0};
+        for (int round = 0; round < 5; round++) {
+            double began = seconds();
+            built = naburain_build(16777215, (const uint8_t *)"word\n", 5, &count, 1, numbers, count, bytes, NABURAIN_INDEX_MAX);
+            double took = seconds() - began;
+            best = took < best ? took : best;
+            began = seconds();
+            uint64_t sum = 0;
+            for (uint32_t i = 0; i < count; i++) {
+                sum += numbers[i];
+            }
+            sink += sum;
+            took = seconds() - began;
+            sum_best = took < sum_best ? took : sum_best;
+        }
+        if (built.refusal != 0) {
+            printf("%10u refused by %d with %d\n", count, (int)built.refusal, (int)built.value);
+        } else {
+            printf("%10u %12d %12.3f %14.2f %12.1f\n", count, (int)built.written, 1e3 * best, 1e9 * best / count, best / sum_best);
+        }
+        free(numbers);
+    }
+    free(bytes);
+}
+
+int main(void)
+{
+    enum { COUNT = sizeof KINDS / sizeof KINDS[0] };
+    struct corpus corpora[COUNT];
+    size_t room = 8u << 20;
+    uint32_t *ours = must(malloc(room * sizeof *ours)), *theirs = must(malloc(room * sizeof *theirs));
+    printf("Corpora\n%-10s %10s %10s %12s\n", "corpus", "N", "bytes", "records");
+    for (size_t i = 0; i < COUNT; i++) {
+        corpora[i] = make_corpus(&KINDS[i]);
+        printf("%-10s %10u %10zu %12zu\n", corpora[i].name, corpora[i].highest, corpora[i].length, corpora[i].numbers);
+    }
+    bench_check(corpora, COUNT);
+    printf("\nQuestions (microseconds; best of 12): both sides check the whole index, read the question and answer it; `answer` is without the check\n");
+    printf("%-10s %-22s %9s %9s %9s %6s %9s %9s %6s %9s %7s\n", "corpus", "question", "intervals", "naburain", "C engine", "ratio", "answer",
+           "C answer", "ratio", "list sum", "ans/sum");
+    for (size_t i = 0; i < COUNT; i++) {
+        bench_questions(&corpora[i], ours, theirs, room);
+    }
+    static const uint32_t COMMON[] = {0, 1, 2, 3}, MIXED[] = {0, 10, 20};
+    printf("\nJoins (as questions; the C engine's union and intersection are its windows)\n");
+    printf("%-10s %-22s %-12s %9s %9s %9s %6s %9s %9s %6s\n", "corpus", "method", "lists", "intervals", "naburain", "C engine", "ratio", "answer",
+           "C answer", "ratio");
+    for (size_t i = 0; i < COUNT; i++) {
+        for (size_t k = 0; k < sizeof METHODS / sizeof METHODS[0]; k++) {
+            bench_join(&corpora[i], &METHODS[k], "c0 c1 c2 c3", COMMON, 4, ours, theirs, room);
+            bench_join(&corpora[i], &METHODS[k], "c0 m0 r0", MIXED, 3, ours, theirs, room);
+        }
+    }
+    bench_growth(ours, room);
+    printf("\nOther engines, where their libraries are here (microseconds; `answer` is naburain's without the check, which the others do not make)\n");
+    printf("%-10s %-22s %-8s %10s %10s %8s\n", "corpus", "question", "engine", "answer", "engine", "ratio");
+    for (size_t i = 0; i < COUNT; i++) {
+        bench_others(&corpora[i], ours, room);
+    }
+    bench_build();
+    for (size_t i = 0; i < COUNT; i++) {
+        free_corpus(&corpora[i]);
+    }
+    free(ours), free(theirs);
+    return 0;
+}
