@@ -4,6 +4,7 @@
 #include "engine.h"
 #include "naburain.h"
 #include "others.h"
+#include "reference.h"
 
 #include <stdio.h>
 #include <stdlib.h>
@@ -83,6 +84,17 @@ static void engine_asks(const struct job *job)
 {
     const struct corpus *c = job->corpus;
     sink += engine_ask(c->index, c->length, (const uint8_t *)job->question, strlen(job->question), job->cells, job->room).records;
+}
+
+static void reference_checks(const struct job *job)
+{
+    sink += reference_check(job->corpus->index, job->corpus->length).refusal;
+}
+
+static void reference_asks(const struct job *job)
+{
+    const struct corpus *c = job->corpus;
+    sink += reference_ask(c->index, c->length, (const uint8_t *)job->question, strlen(job->question), job->cells, job->room).records;
 }
 
 static void our_join(const struct job *job)
@@ -234,30 +246,72 @@ static void bench_questions(const struct corpus *corpus, uint32_t *ours, uint32_
 struct method {
     const char *what;
     struct naburain_answered (*ours)(const uint8_t *, size_t, const uint32_t *, size_t, uint32_t *, size_t);
-    struct engine_result (*theirs)(const uint8_t *, size_t, const uint32_t *, size_t, uint32_t *, size_t);
+    struct engine_result (*engine)(const uint8_t *, size_t, const uint32_t *, size_t, uint32_t *, size_t);
+    struct engine_result (*reference)(const uint8_t *, size_t, const uint32_t *, size_t, uint32_t *, size_t);
 };
 
 static const struct method METHODS[] = {
-    {"union, scan line", naburain_union_scan_line, engine_union},
-    {"union, active interval", naburain_union_active_interval, engine_union},
-    {"intersect, twin heap", naburain_intersection_twin_heap, engine_intersection},
-    {"intersect, probing", naburain_intersection_probing, engine_intersection},
+    {"union, scan line", naburain_union_scan_line, engine_union, reference_union},
+    {"union, active interval", naburain_union_active_interval, engine_union, reference_union},
+    {"intersect, twin heap", naburain_intersection_twin_heap, engine_intersection, reference_intersection},
+    {"intersect, probing", naburain_intersection_probing, engine_intersection, reference_intersection},
 };
 
-static void bench_join(const struct corpus *corpus, const struct method *method, const char *lists, const uint32_t *entries, size_t count,
+struct lists {
+    const char *what;
+    uint32_t entries[4];
+    size_t count;
+};
+
+static const struct lists LISTS[] = {
+    {"c0 c1 c2 c3", {0, 1, 2, 3}, 4},
+    {"c0 m0 r0", {0, 10, 20}, 3},
+};
+
+/* One join against the C engine, or against the reference. */
+static void bench_join(const struct corpus *corpus, const struct method *method, const struct lists *lists, int against_reference,
                        uint32_t *ours, uint32_t *theirs, size_t room)
 {
-    struct job job = {.corpus = corpus, .entries = entries, .entry_count = count, .cells = ours, .room = room, .join = method->ours,
-                      .engine_join = method->theirs};
-    struct naburain_answered got = method->ours(corpus->index, corpus->length, entries, count, ours, room);
-    struct engine_result held = method->theirs(corpus->index, corpus->length, entries, count, theirs, room);
+    struct job job = {.corpus = corpus, .entries = lists->entries, .entry_count = lists->count, .cells = ours, .room = room,
+                      .join = method->ours, .engine_join = against_reference ? method->reference : method->engine};
+    struct naburain_answered got = job.join(corpus->index, corpus->length, lists->entries, lists->count, ours, room);
+    struct engine_result held = job.engine_join(corpus->index, corpus->length, lists->entries, lists->count, theirs, room);
     same(method->what, got.refusal, got.intervals, got.records, held, ours, theirs);
     double best[4];
-    best_of((run *const[]){our_join, engine_joins, our_check, engine_checks}, 4, &job, best);
-    printf("%-10s %-22s %-12s %9d %9.1f %9.1f %6.2f", corpus->name, method->what, lists, (int)got.intervals, 1e6 * best[0], 1e6 * best[1],
-           best[0] / best[1]);
+    best_of((run *const[]){our_join, engine_joins, our_check, against_reference ? reference_checks : engine_checks}, 4, &job, best);
+    printf("%-10s %-22s %-12s %9d %9.1f %9.1f %6.2f", corpus->name, method->what, lists->what, (int)got.intervals, 1e6 * best[0],
+           1e6 * best[1], best[0] / best[1]);
     show_rest(best[0], best[2], best[1], best[3]);
     printf("\n");
+}
+
+static void bench_joins(const struct corpus *corpus, int against_reference, uint32_t *ours, uint32_t *theirs, size_t room)
+{
+    for (size_t k = 0; k < sizeof METHODS / sizeof METHODS[0]; k++) {
+        for (size_t i = 0; i < sizeof LISTS / sizeof LISTS[0]; i++) {
+            bench_join(corpus, &METHODS[k], &LISTS[i], against_reference, ours, theirs, room);
+        }
+    }
+}
+
+/* Questions and joins against the independent implementation, which makes the same check. */
+static void bench_reference(const struct corpus *corpus, uint32_t *ours, uint32_t *theirs, size_t room)
+{
+    for (size_t i = 0; i < sizeof QUESTIONS / sizeof QUESTIONS[0]; i++) {
+        const char *question = QUESTIONS[i].question;
+        struct job job = {.corpus = corpus, .question = question, .cells = ours, .room = room};
+        size_t length = strlen(question);
+        struct naburain_answered got = naburain_ask(corpus->index, corpus->length, (const uint8_t *)question, length, ours, room);
+        struct engine_result held = reference_ask(corpus->index, corpus->length, (const uint8_t *)question, length, theirs, room);
+        same(question, got.refusal, got.intervals, got.records, held, ours, theirs);
+        double best[4];
+        best_of((run *const[]){our_ask, reference_asks, our_check, reference_checks}, 4, &job, best);
+        printf("%-10s %-22s %-12s %9d %9.1f %9.1f %6.2f", corpus->name, QUESTIONS[i].what, "", (int)got.intervals, 1e6 * best[0], 1e6 * best[1],
+               best[0] / best[1]);
+        show_rest(best[0], best[2], best[1], best[3]);
+        printf("\n");
+    }
+    bench_joins(corpus, 1, ours, theirs, room);
 }
 
 static void held_to(const char *who, const char *question, uint64_t records, uint64_t theirs)
@@ -427,17 +481,19 @@ int main(void)
     for (size_t i = 0; i < COUNT; i++) {
         bench_questions(&corpora[i], ours, theirs, room);
     }
-    static const uint32_t COMMON[] = {0, 1, 2, 3}, MIXED[] = {0, 10, 20};
     printf("\nJoins (as questions; the C engine's union and intersection are its windows)\n");
     printf("%-10s %-22s %-12s %9s %9s %9s %6s %9s %9s %6s\n", "corpus", "method", "lists", "intervals", "naburain", "C engine", "ratio", "answer",
            "C answer", "ratio");
     for (size_t i = 0; i < COUNT; i++) {
-        for (size_t k = 0; k < sizeof METHODS / sizeof METHODS[0]; k++) {
-            bench_join(&corpora[i], &METHODS[k], "c0 c1 c2 c3", COMMON, 4, ours, theirs, room);
-            bench_join(&corpora[i], &METHODS[k], "c0 m0 r0", MIXED, 3, ours, theirs, room);
-        }
+        bench_joins(&corpora[i], 0, ours, theirs, room);
     }
     bench_growth(ours, room);
+    printf("\nThe independent Rust implementation (microseconds; best of 12): both sides check the whole index and answer; `answer` is without the check\n");
+    printf("%-10s %-22s %-12s %9s %9s %9s %6s %9s %9s %6s\n", "corpus", "question or method", "lists", "intervals", "naburain", "Rust", "ratio",
+           "answer", "Rust ans.", "ratio");
+    for (size_t i = 0; i < COUNT; i++) {
+        bench_reference(&corpora[i], ours, theirs, room);
+    }
     printf("\nOther engines, where their libraries are here (microseconds; `answer` is naburain's without the check, which the others do not make)\n");
     printf("%-10s %-22s %-8s %10s %10s %8s\n", "corpus", "question", "engine", "answer", "engine", "ratio");
     for (size_t i = 0; i < COUNT; i++) {

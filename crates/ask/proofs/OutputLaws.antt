@@ -1,12 +1,12 @@
 -- Laws of a question's line: a checked file is sound, an answer's intervals stand in the cells, and the line depends on nothing else.
-use mathlib.Core.Path.{_≡_, refl, sym, ap}
+use mathlib.Core.Path.{_≡_, refl, ap}
 use mathlib.Core.Bool.{Bool, true, false, cond}
 use mathlib.Core.List.{List, [], _++_}
 use Prim.Native.Nat.{ℕ, _+_, _*_, _/_, _≤_}
 use native.Mathlib.Omega.{arith}
 use lib.Dec.{leb, ltb}
 use lib.ListN.{length, drop, length-append}
-use lib.Seq.{length-take-le, take-append-le}
+use lib.Seq.{take-append-le}
 use borrow.Author.Tests.{leb-true}
 use Rattle.laws.proofs.Tests.{by-test}
 use Rattle.io.specs.Counts.{Counts}
@@ -25,6 +25,7 @@ use Rattle.query.specs.Ask.{satisfying, askAnswer, askCells}
 use Rattle.lines.specs.Line.{shown, lineOf, Written}
 use Rattle.lines.proofs.TextLaws.{line-short}
 use Rattle.ask.specs.Output.{fileCheck, AnswersLine, questionLine}
+use Rattle.ask.proofs.TransferLaws.{within-counts}
 
 pub file-sound : (index : List ℕ) → fileCheck index ≡ Good → Sound index
 file-sound index e =
@@ -73,4 +74,4 @@ module _ (index question out out′ : List ℕ) (r : Answer) (p : AnswersLine in
 pub written-counts : (out text out′ : List ℕ) (r : ℕ) → Written out text out′ r → Counts r out′
 written-counts out text out′ r w =
     let h : r ≤ length out′ = omega (arith, w .size, ap length (w .bytes), length-append text (drop (length text) out)) in
-    (h, sym (length-take-le r out′ h))
+    within-counts r out′ h

@@ -1,5 +1,6 @@
 // Answers the questions of standard input, one a line, over the index in `index.bin`.
 mod answer;
+mod transfer;
 
 use answer::check_file;
 use answer::write_answer;
@@ -10,17 +11,14 @@ use lines::line::LINE_ROOM;
 use lines::split::answered_end;
 use lines::split::is_past;
 use lines::split::line_end;
+use transfer::Reading;
+use transfer::read_whole;
+use transfer::write_whole;
 ghost use mathlib.Core.Path.{_≡_};
 ghost use Prim.Native.Nat.{_≤_};
 ghost use lib.ListN.{length};
 ghost use Rattle.io.specs.Counts.{Counts};
 ghost use Rattle.ask.specs.Output.{fileCheck};
-
-// Whether a file that gave no more bytes is at its end: one that cannot be read fails again.
-fn is_ended(fd: i32) -> bool {
-    let mut byte = [0u8; 1];
-    libc::read(fd, &mut byte) == 0
-}
 
 // Reads the file from its start, and answers how many bytes there are; one that is missing or cannot be read has none.
 fn read_index(bytes: &mut [u8]) -> usize
@@ -30,18 +28,22 @@ fn read_index(bytes: &mut [u8]) -> usize
     if fd < 0 {
         return 0;
     }
-    let count = io::read_full(fd, bytes);
-    let whole = is_ended(fd);
+    let reading = read_whole(fd, bytes);
     libc::close(fd);
-    if whole || count == bytes.len() {
-        count
-    } else {
-        0
+    match reading {
+        Reading::Bytes(count) => count,
+        Reading::Failed => 0,
     }
 }
 
-// Answers each line in order; `out` has room for every line.
-fn answer_lines(index: &[u8], checked: Checked, input: &[u8], cells: &mut [u32], out: &mut [u8])
+// Answers each line in order, and whether all of them were written; `out` has room for every line.
+fn answer_lines(
+    index: &[u8],
+    checked: Checked,
+    input: &[u8],
+    cells: &mut [u32],
+    out: &mut [u8],
+) -> bool
     requires { ⌜ (checked ≡ fileCheck (now index)) × (length (now input) ≤ 65536) × (length (now cells) ≡ 16384) × (344169 ≤ length (now out)) ⌝ }
 {
     let mut number: usize = 1;
@@ -49,10 +51,13 @@ fn answer_lines(index: &[u8], checked: Checked, input: &[u8], cells: &mut [u32],
     while from < input.len() {
         let end = line_end(input, from);
         let size = write_answer(index, checked, &input[from..end], number, cells, out);
-        io::write_all(STDOUT_FILENO, &out[..size]);
+        if write_whole(STDOUT_FILENO, &out[..size]) < size {
+            return false;
+        }
         number += 1;
         from = end + 1;
     }
+    true
 }
 
 // The cells that are lent for each answer.
@@ -69,16 +74,19 @@ fn line_bytes() -> [u8; LINE_ROOM]
     [0; LINE_ROOM]
 }
 
-// Answers the lines that are answered, and says where there is more.
-fn answer_input(index: &[u8], input: &[u8]) {
+// Answers the lines that are answered, says where there is more, and whether all of it was written.
+fn answer_input(index: &[u8], input: &[u8]) -> bool {
     let checked = check_file(index);
     let end = answered_end(input);
     let mut cells = answer_cells();
     let mut out = line_bytes();
-    answer_lines(index, checked, &input[..end], &mut cells, &mut out);
-    if is_past(input) {
-        io::write_all(STDOUT_FILENO, b"more\n");
+    if !answer_lines(index, checked, &input[..end], &mut cells, &mut out) {
+        return false;
     }
+    if is_past(input) {
+        return write_whole(STDOUT_FILENO, b"more\n") == 5;
+    }
+    true
 }
 
 // One byte more than is taken of each shows that there is more.
@@ -86,6 +94,12 @@ fn main() {
     let mut index = [0u8; 65_537];
     let index_size = read_index(&mut index);
     let mut input = [0u8; 65_537];
-    let input_size = io::read_full(STDIN_FILENO, &mut input);
-    answer_input(&index[..index_size], &input[..input_size]);
+    match read_whole(STDIN_FILENO, &mut input) {
+        Reading::Failed => os::fail(b"ask: cannot read the questions"),
+        Reading::Bytes(size) => {
+            if !answer_input(&index[..index_size], &input[..size]) {
+                os::fail(b"ask: cannot write the answers");
+            }
+        }
+    }
 }

@@ -43,20 +43,23 @@ answer-lines-requires c κs =
       omega (arith, lent .line-bytes .ensures),
     )
 
-is-past-requires : tie.Need-is-past-requires
-is-past-requires c κs = search needs
-
-slice-aggregate-write-all : tie.Need-slice-aggregate-write-all
-slice-aggregate-write-all c = search needs
-
-write-all-requires : tie.Need-write-all-requires
-write-all-requires c κs = search needs
-
 returns : tie.Need-returns
 returns c = search needs
 
+is-past-requires : tie.Need-is-past-requires
+is-past-requires c κs = search needs
+
+slice-aggregate-write-whole : tie.Need-slice-aggregate-write-whole
+slice-aggregate-write-whole c = search needs
+
+write-whole-requires : tie.Need-write-whole-requires
+write-whole-requires c κs = search needs
+
 returns-2 : tie.Need-returns-2
 returns-2 c = search needs
+
+returns-3 : tie.Need-returns-3
+returns-3 c = search needs
 
 pub answer-input-spec : {M : Type 1} → statement M
 answer-input-spec =
@@ -70,8 +73,9 @@ answer-input-spec =
     slice-aggregate-answer-lines-2
     slice-aggregate-answer-lines-3
     answer-lines-requires
-    is-past-requires
-    slice-aggregate-write-all
-    write-all-requires
     returns
-    returns-2)
+    is-past-requires
+    slice-aggregate-write-whole
+    write-whole-requires
+    returns-2
+    returns-3)

@@ -34,14 +34,23 @@ write-answer-requires c κs =
     let turn = c .before .before .before .before .before in
     (turn .before .before .before .before .before .pre .0, omega arith, omega arith)
 
-slice-reshare-prefix-write-all : tie.Need-slice-reshare-prefix-write-all Inv-loop μ-loop
-slice-reshare-prefix-write-all c = search needs
+slice-reshare-prefix-write-whole : tie.Need-slice-reshare-prefix-write-whole Inv-loop μ-loop
+slice-reshare-prefix-write-whole c = search needs
 
-slice-aggregate-write-all : tie.Need-slice-aggregate-write-all Inv-loop μ-loop
-slice-aggregate-write-all c = c .before .before .before .before .before .write-answer .ensures .1 .1
+slice-aggregate-write-whole : tie.Need-slice-aggregate-write-whole Inv-loop μ-loop
+slice-aggregate-write-whole c = c .before .before .before .before .before .write-answer .ensures .1 .1
 
-write-all-requires : tie.Need-write-all-requires Inv-loop μ-loop
-write-all-requires c κs = search needs
+write-whole-requires : tie.Need-write-whole-requires Inv-loop μ-loop
+write-whole-requires c κs = search needs
+
+same-length : tie.Need-same-length Inv-loop μ-loop
+same-length c = omega arith
+
+same-length-2 : tie.Need-same-length-2 Inv-loop μ-loop
+same-length-2 c = omega arith
+
+returns : tie.Need-returns Inv-loop μ-loop
+returns c = search needs
 
 add-number : tie.Need-add-number Inv-loop μ-loop
 add-number c = search needs
@@ -55,14 +64,14 @@ loop-less c = search needs
 loop-again : tie.Need-loop-again Inv-loop μ-loop
 loop-again c = (omega arith, omega arith, omega arith, omega arith)
 
-same-length : tie.Need-same-length Inv-loop μ-loop
-same-length c = c .before .loop .inv .2
+same-length-3 : tie.Need-same-length-3 Inv-loop μ-loop
+same-length-3 c = c .before .loop .inv .2
 
-same-length-2 : tie.Need-same-length-2 Inv-loop μ-loop
-same-length-2 c = c .before .loop .inv .3
+same-length-4 : tie.Need-same-length-4 Inv-loop μ-loop
+same-length-4 c = c .before .loop .inv .3
 
-returns : tie.Need-returns Inv-loop μ-loop
-returns c = search needs
+returns-2 : tie.Need-returns-2 Inv-loop μ-loop
+returns-2 c = search needs
 
 pub answer-lines-spec : {M : Type 1} → statement M
 answer-lines-spec =
@@ -76,13 +85,16 @@ answer-lines-spec =
     part-write-answer-start
     part-write-answer-end
     write-answer-requires
-    slice-reshare-prefix-write-all
-    slice-aggregate-write-all
-    write-all-requires
+    slice-reshare-prefix-write-whole
+    slice-aggregate-write-whole
+    write-whole-requires
+    same-length
+    same-length-2
+    returns
     add-number
     add-from
     loop-less
     loop-again
-    same-length
-    same-length-2
-    returns)
+    same-length-3
+    same-length-4
+    returns-2)

@@ -1,0 +1,20 @@
+/* The independent Rust implementation of document 01 (reference.rs): it checks the whole index, reads it into memory, and merges sorted intervals. */
+#ifndef REFERENCE_H
+#define REFERENCE_H
+
+#include "engine.h"
+
+/* Refusals 1 to 5. */
+struct engine_result reference_check(const uint8_t *index, size_t length);
+
+/* Refusals 1 to 12. */
+struct engine_result reference_ask(const uint8_t *index, size_t length, const uint8_t *question, size_t question_length, uint32_t *cells,
+                                   size_t room);
+
+/* Refusals 1 to 5, 13, 14, 12. */
+struct engine_result reference_union(const uint8_t *index, size_t length, const uint32_t *entries, size_t count, uint32_t *cells,
+                                     size_t room);
+struct engine_result reference_intersection(const uint8_t *index, size_t length, const uint32_t *entries, size_t count, uint32_t *cells,
+                                            size_t room);
+
+#endif

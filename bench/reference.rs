@@ -1,0 +1,86 @@
+//! The independent implementation of document 01, the one that the outside tests hold the library to, as calls for C.
+
+#![allow(dead_code)] // questions and joins are all that is asked of it here
+
+use std::slice::{from_raw_parts, from_raw_parts_mut};
+
+#[path = "../tests/outside/src/reference/mod.rs"]
+mod reference;
+
+use reference::join::{fit, join, Join};
+use reference::set::Set;
+use reference::Answer;
+
+/// `struct engine_result` of engine.h.
+#[repr(C)]
+pub struct EngineResult {
+    refusal: u64,
+    value: u64,
+    intervals: u64,
+    records: u64,
+}
+
+/// The answer as intervals from cell 0 on, or its refusal.
+fn written(answer: Answer<Set>, cells: &mut [u32]) -> EngineResult {
+    match answer.and_then(|set| fit(set, cells.len())) {
+        Ok(set) => {
+            let written = set.cells();
+            cells[..written.len()].copy_from_slice(&written);
+            EngineResult { refusal: 0, value: 0, intervals: set.intervals().len() as u64, records: set.records() }
+        }
+        Err(refusal) => EngineResult { refusal: refusal.number, value: refusal.value, intervals: 0, records: 0 },
+    }
+}
+
+/// # Safety
+/// In each of these calls a pointer with the length behind it is a slice; the cells overlap no other.
+#[no_mangle]
+pub unsafe extern "C" fn reference_check(index: *const u8, length: usize) -> EngineResult {
+    let checked = reference::index::read(from_raw_parts(index, length));
+    written(checked.map(|_| Set::default()), &mut [])
+}
+
+/// # Safety
+/// As `reference_check`.
+#[no_mangle]
+pub unsafe extern "C" fn reference_ask(
+    index: *const u8,
+    length: usize,
+    question: *const u8,
+    question_length: usize,
+    cells: *mut u32,
+    room: usize,
+) -> EngineResult {
+    let answer = reference::question::ask(from_raw_parts(index, length), from_raw_parts(question, question_length));
+    written(answer, from_raw_parts_mut(cells, room))
+}
+
+/// # Safety
+/// As `reference_check`.
+#[no_mangle]
+pub unsafe extern "C" fn reference_union(
+    index: *const u8,
+    length: usize,
+    entries: *const u32,
+    count: usize,
+    cells: *mut u32,
+    room: usize,
+) -> EngineResult {
+    let answer = join(from_raw_parts(index, length), Join::Union, from_raw_parts(entries, count));
+    written(answer, from_raw_parts_mut(cells, room))
+}
+
+/// # Safety
+/// As `reference_check`.
+#[no_mangle]
+pub unsafe extern "C" fn reference_intersection(
+    index: *const u8,
+    length: usize,
+    entries: *const u32,
+    count: usize,
+    cells: *mut u32,
+    room: usize,
+) -> EngineResult {
+    let answer = join(from_raw_parts(index, length), Join::Intersection, from_raw_parts(entries, count));
+    written(answer, from_raw_parts_mut(cells, room))
+}
