@@ -2,6 +2,7 @@
  * of a ratio are timed in turns, best of many. */
 #include "corpus.h"
 #include "engine.h"
+#include "methods.h"
 #include "naburain.h"
 #include "others.h"
 #include "reference.h"
@@ -257,9 +258,17 @@ static const struct method METHODS[] = {
     {"intersect, probing", naburain_intersection_probing, engine_intersection, reference_intersection},
 };
 
+/* The heap methods against the same methods in C. */
+static const struct method IN_C[] = {
+    {"scan line", naburain_union_scan_line, method_scan_line, NULL},
+    {"scan line, by value", naburain_union_scan_line, method_scan_line_by_value, NULL},
+    {"active interval", naburain_union_active_interval, method_active_interval, NULL},
+    {"twin heap", naburain_intersection_twin_heap, method_twin_heap, NULL},
+};
+
 struct lists {
     const char *what;
-    uint32_t entries[4];
+    uint32_t entries[16];
     size_t count;
 };
 
@@ -267,6 +276,8 @@ static const struct lists LISTS[] = {
     {"c0 c1 c2 c3", {0, 1, 2, 3}, 4},
     {"c0 m0 r0", {0, 10, 20}, 3},
 };
+
+static const struct lists SIXTEEN = {"16 lists", {0, 1, 2, 3, 4, 5, 6, 7, 8, 9, 10, 11, 12, 13, 14, 15}, 16};
 
 /* One join against the C engine, or against the reference. */
 static void bench_join(const struct corpus *corpus, const struct method *method, const struct lists *lists, int against_reference,
@@ -291,6 +302,14 @@ static void bench_joins(const struct corpus *corpus, int against_reference, uint
         for (size_t i = 0; i < sizeof LISTS / sizeof LISTS[0]; i++) {
             bench_join(corpus, &METHODS[k], &LISTS[i], against_reference, ours, theirs, room);
         }
+    }
+}
+
+static void bench_methods(const struct corpus *corpus, uint32_t *ours, uint32_t *theirs, size_t room)
+{
+    for (size_t k = 0; k < sizeof IN_C / sizeof IN_C[0]; k++) {
+        bench_join(corpus, &IN_C[k], &LISTS[0], 0, ours, theirs, room);
+        bench_join(corpus, &IN_C[k], &SIXTEEN, 0, ours, theirs, room);
     }
 }
 
@@ -486,6 +505,12 @@ int main(void)
            "C answer", "ratio");
     for (size_t i = 0; i < COUNT; i++) {
         bench_joins(&corpora[i], 0, ours, theirs, room);
+    }
+    printf("\nJoins by the same method in C: places moved on in one array, and, `by value`, all 16 handed on at each step\n");
+    printf("%-10s %-22s %-12s %9s %9s %9s %6s %9s %9s %6s\n", "corpus", "method", "lists", "intervals", "naburain", "C", "ratio", "answer", "C answer",
+           "ratio");
+    for (size_t i = 0; i < COUNT; i++) {
+        bench_methods(&corpora[i], ours, theirs, room);
     }
     bench_growth(ours, room);
     printf("\nThe independent Rust implementation (microseconds; best of 12): both sides check the whole index and answer; `answer` is without the check\n");
