@@ -5,7 +5,7 @@ use native.Mathlib.Nat.{pow-suc, lt-of-not-le}
 use native.Mathlib.Decide.{decLe, ℕ-discrete}
 use native.Mathlib.Omega.{arith}
 use mathlib.Core.List.{List, [], _∷_}
-use mathlib.Core.Bool.{Bool, false, not, _||_}
+use mathlib.Core.Bool.{Bool, false, not, _||_, or-false, or-assoc}
 use lib.Bits.{bitOr, or-add-and, and-le-l, and-le-r}
 use lib.Dec.{eqb}
 use lib.ListN.{length, getD, drop, List·getD-eq-default}
@@ -14,7 +14,6 @@ use Rattle.laws.proofs.Tests.{true-false, or-neither}
 use Rattle.laws.proofs.Lists.{drop-next, drop-none}
 use Rattle.window.specs.Bit.{on, set?}
 use Rattle.window.specs.Window.{bitAt, Holds, anySet}
-use Rattle.window.proofs.TruthLaws.{or-false, or-assoc}
 use Rattle.window.proofs.BitLaws.{on-zero, on-suc}
 use Rattle.window.proofs.FillLaws.{bit-word}
 use Rattle.window.proofs.HoldLaws.{zero-off}
@@ -85,7 +84,7 @@ or-some a b = go (ℕ-discrete a 0) (ℕ-discrete b 0)
 pub any-turn : (ws : List ℕ) (i a : ℕ) → i < length ws →
     not (eqb a 0) || anySet (drop i ws) ≡ not (eqb (bitOr a (getD ws i 0)) 0) || anySet (drop (i + 1) ws)
 unfolding anySet
-any-turn ws i a h = rw (drop-next ws i h, or-some a (getD ws i 0)) (or-assoc (not (eqb a 0)) (not (eqb (getD ws i 0) 0)) (anySet (drop (i + 1) ws)))
+any-turn ws i a h = rw (drop-next ws i h, or-some a (getD ws i 0)) (sym (or-assoc (not (eqb a 0)) (not (eqb (getD ws i 0) 0)) (anySet (drop (i + 1) ws))))
 
 pub any-end : (ws : List ℕ) (i a : ℕ) → length ws ≤ i → not (eqb a 0) || anySet (drop i ws) ≡ not (eqb a 0)
 unfolding anySet

@@ -1,5 +1,3 @@
-pub mod TruthLaws
-pub mod ListLaws
 pub mod BitLaws
 pub mod MarkLaws
 pub mod FlipLaws

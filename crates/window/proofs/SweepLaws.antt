@@ -6,10 +6,10 @@ use mathlib.Core.List.{List, [], _∷_, _++_}
 use mathlib.Core.Bool.{Bool, true, false}
 use lib.ListN.{length, length-append}
 use lib.Seq.{sets}
+use Rattle.laws.proofs.Lists.{sets-append}
 use Rattle.list.specs.Stretches.{turned, stretches}
 use Rattle.window.specs.Window.{member, Holds}
 use Rattle.window.specs.Flips.{odd, flips}
-use Rattle.window.proofs.ListLaws.{sets-append}
 use Rattle.window.proofs.FlipLaws.{stretches-add, flips-constant, flips-parity}
 use Rattle.window.proofs.MemberLaws.{flips-held}
 
