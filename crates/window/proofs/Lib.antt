@@ -5,6 +5,5 @@ pub mod WordFlips
 pub mod CombineLaws
 pub mod FillLaws
 pub mod HoldLaws
-pub mod EmptyLaws
 pub mod MemberLaws
 pub mod SweepLaws
