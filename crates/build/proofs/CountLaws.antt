@@ -3,7 +3,7 @@ use mathlib.Core.Path.{_≡_, refl, ap, _∙_}
 use Prim.Native.Nat.{ℕ, zero, suc, _+_, _-_, _≤_, _<_}
 use native.Mathlib.Omega.{arith}
 use native.Mathlib.Numerals.{add-one}
-use mathlib.Core.Bool.{Bool, true, false, _||_}
+use mathlib.Core.Bool.{Bool, true, false, or-true}
 use mathlib.Core.List.{List}
 use lib.Dec.{eqb}
 use lib.ListN.{length, getD, take, drop}
@@ -74,11 +74,7 @@ begins-here counts zero i h = absurd (omega arith)
 begins-here counts (suc w) i h =
     leb-cases w i
     (λ g. let e : w ≡ i = omega arith in rw (e, eq-eqb (sumTo counts i) (sumTo counts i) refl))
-    (λ g. rw (begins-here counts w i g) (either (eqb (sumTo counts w) (sumTo counts i))))
-  where
-    either : (a : Bool) → a || true ≡ true
-    either true = refl
-    either false = refl
+    (λ g. rw (begins-here counts w i g) (or-true (eqb (sumTo counts w) (sumTo counts i))))
 
 module _ (n : ℕ) (counts numbers : List ℕ) (i : ℕ) (h : i < length counts) where
   abbrev begin : ℕ

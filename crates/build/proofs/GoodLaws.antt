@@ -24,6 +24,7 @@ use Rattle.index.specs.declared.Checked.{Checked}
 use Rattle.index.specs.declared.Checked.the-variants.{Good, Refused}
 use Rattle.index.specs.Check.{badPlace}
 use Rattle.index.specs.Format.{part}
+use Rattle.index.proofs.CheckLaws.{not-good, cond-good, place-none}
 use Rattle.build.specs.declared.words.Words.the-variants.{Counted, Bad}
 use Rattle.build.specs.declared.write.Spots.{Spots}
 use Rattle.build.specs.Lent.{wordsOf, wordTotal, badLent, badCount, badRest, badListed, sumTo, listsFrom}
@@ -45,11 +46,6 @@ words-bad Nowhere n i e = absurd (let z : _≡_ {A = ℕ} 0 1 = cc in omega arit
 pub words-counted : (f : Found) (n k : ℕ) → wordsAnswer f n ≡ Counted k → (f ≡ Nowhere) × (n ≡ k)
 words-counted (At j) n k e = absurd (let z : _≡_ {A = ℕ} 0 1 = cc in omega arith)
 words-counted Nowhere n k e = (refl, cc)
-
-pub place-none : (f : Found) (b : Bool) (n : ℕ) → badPlace f b n ≡ Nowhere → (f ≡ Nowhere) × (b ≡ false)
-place-none (At i) b n e = absurd (let z : _≡_ {A = ℕ} 0 1 = cc in omega arith)
-place-none Nowhere true n e = absurd (let z : _≡_ {A = ℕ} 0 1 = cc in omega arith)
-place-none Nowhere false n e = (refl, refl)
 
 -- there are as many counts as words
 pub counts-many : (counts : List ℕ) (total words : ℕ) → first (badCount counts total) words ≡ Nowhere → badRest counts total words ≡ false → length counts ≡ words
@@ -139,13 +135,6 @@ build-after n words counts numbers room =
     )
 
 -- ---- what is good
-
-not-good : {A : Type 0} (r : Refusal) → Refused r ≡ Good → A
-not-good r e = absurd (let z : _≡_ {A = ℕ} 0 1 = cc in omega arith)
-
-cond-good : (t : Bool) (r : Refusal) (c : Checked) → cond t (Refused r) c ≡ Good → (t ≡ false) × (c ≡ Good)
-cond-good true r c e = not-good r e
-cond-good false r c e = (refl, e)
 
 then-good : (refusal : ℕ → Refusal) (f : Found) (c : Checked) → faultThen refusal f c ≡ Good → (f ≡ Nowhere) × (c ≡ Good)
 then-good refusal (At i) c e = not-good (refusal i) e

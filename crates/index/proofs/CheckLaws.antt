@@ -66,9 +66,10 @@ module _ (index : List ℕ) where
 pub not-good : {A : Type 0} (r : Refusal) → Refused r ≡ Good → A
 not-good r e = absurd (let z : _≡_ {A = ℕ} 0 1 = cc in omega arith)
 
-passed : (t : Bool) (r : Refusal) (next : Checked) → cond t (Refused r) next ≡ Good → (t ≡ false) × (next ≡ Good)
-passed true r next e = not-good r e
-passed false r next e = (refl, e)
+-- a test before the rest
+pub cond-good : (t : Bool) (r : Refusal) (next : Checked) → cond t (Refused r) next ≡ Good → (t ≡ false) × (next ≡ Good)
+cond-good true r next e = not-good r e
+cond-good false r next e = (refl, e)
 
 entries-passed : (f : Found) (next : Checked) → entriesAnswer f next ≡ Good → (f ≡ Nowhere) × (next ≡ Good)
 entries-passed (At i) next e = not-good (Directory i) e
@@ -81,7 +82,7 @@ lists-passed Nowhere e = refl
 somewhere : {A : Type 0} (i : ℕ) → At i ≡ Nowhere → A
 somewhere i e = absurd (let z : _≡_ {A = ℕ} 0 1 = cc in omega arith)
 
-place-none : (f : Found) (ends : Bool) (n : ℕ) → badPlace f ends n ≡ Nowhere → (f ≡ Nowhere) × (ends ≡ false)
+pub place-none : (f : Found) (ends : Bool) (n : ℕ) → badPlace f ends n ≡ Nowhere → (f ≡ Nowhere) × (ends ≡ false)
 place-none (At i) ends n e = somewhere i e
 place-none Nowhere true n e = somewhere n e
 place-none Nowhere false n e = (refl, refl)
@@ -92,9 +93,9 @@ entries-good index e = first-none (badEntry index) (wordCount index) (place-none
 pub good-sound : (index : List ℕ) → checkOf index ≡ Good → Sound index
 unfolding checkOf contentsOf
 good-sound index e =
-    let a = passed (badLength index) (IndexLength (length index)) _ e in
-    let b = passed (badEdition index) (Edition (edition index)) _ (a .1) in
-    let c = passed (badTrailer index) Trailer _ (b .1) in
+    let a = cond-good (badLength index) (IndexLength (length index)) _ e in
+    let b = cond-good (badEdition index) (Edition (edition index)) _ (a .1) in
+    let c = cond-good (badTrailer index) Trailer _ (b .1) in
     let d = entries-passed (badEntryOf index) (listsAnswer (badListOf index)) (c .1) in
     record {
       size = a .0;

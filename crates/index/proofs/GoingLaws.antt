@@ -3,7 +3,7 @@ use Prim.Native.Nat.{ℕ, _+_, _-_, _*_, _≤_, _<_}
 use mathlib.Core.Path.{_≡_, refl, sym, ap, _∙_}
 use native.Mathlib.Omega.{arith}
 use native.Mathlib.Numerals.{add-one}
-use mathlib.Core.Bool.{true, false, not, cond, _&&_, _||_}
+use mathlib.Core.Bool.{true, false, not, cond, _&&_, _||_, Bool·not-not}
 use mathlib.Core.List.{List}
 use lib.Dec.{eqb}
 use lib.ListN.{take, drop}
@@ -18,7 +18,7 @@ use Rattle.index.specs.Read.{EntryOf}
 use Rattle.index.specs.Sound.{badDirectory, badWord, badEntry, badEnd, wordBefore}
 use Rattle.index.specs.Check.{badEntryOf}
 use Rattle.index.proofs.SoundLaws.{wordsEnd-next, listsEnd-next, directory-facts}
-use Rattle.index.proofs.RuleLaws.{twice, word-rule}
+use Rattle.index.proofs.RuleLaws.{word-rule}
 
 -- the first i entries are good, and add up to words and lists; the word before entry i's starts at prior and ends at words
 pub record Going (index : List ℕ) (prior words lists i : ℕ) : Type 0 where
@@ -81,7 +81,7 @@ module _ (index : List ℕ) (e : Entry) (prior words lists i : ℕ) (g : Going i
   going-word of d =
       let f = directory-facts index i d in
       let p = word-part index i words (words + e .«word_length») (g .words-sum ∙ sym (f .0)) (ap (λ n. words + n) (of .word-length)) in
-      rw (p, g .prior-word, word-rule index i) (sym (twice (isWord (wordOf index i) && before (wordBefore index i) (wordOf index i))))
+      rw (p, g .prior-word, word-rule index i) (sym (Bool·not-not (isWord (wordOf index i) && before (wordBefore index i) (wordOf index i))))
 
   pub going-step : EntryOf index i e → badDirectory index i ≡ false → badWord index i ≡ false →
       Going index words (words + e .«word_length») (lists + 4 * (e .singles + 2 * e .pairs)) (i + 1)

@@ -4,15 +4,14 @@ use Prim.Native.Nat.{ℕ, zero, suc, _+_, _≤_, _<_}
 use native.Mathlib.Omega.{arith}
 use native.Mathlib.Nat.{lt-of-not-le}
 use native.Mathlib.Decide.{decLe, ℕ-discrete}
-use mathlib.Core.Bool.{Bool, true, false, _&&_, _||_}
+use mathlib.Core.Bool.{Bool, true, false, _&&_, _||_, and-false, or-false}
 use mathlib.Core.List.{List}
 use Rattle.laws.proofs.Tests.{true-false, and-both, by-test}
 use Rattle.refusal.specs.declared.Found.the-variants.{At, Nowhere}
 use Rattle.refusal.specs.First.{first}
 use Rattle.refusal.proofs.FirstLaws.{first-is, first-none, first-none-is, first-at}
-use Rattle.word.specs.declared.Order.the-variants.{Before, Same, Behind}
-use Rattle.word.specs.Word.{same, before, orderOf}
-use Rattle.word.proofs.WordLaws.{same-equal, equal-same, before-irreflexive, before-transitive, order-is-same, order-is-before, order-is-behind}
+use Rattle.word.specs.Word.{same, before}
+use Rattle.word.proofs.WordLaws.{same-equal, equal-same, before-irreflexive, before-transitive}
 use Rattle.list.specs.Interval.{isProper, names}
 use Rattle.list.specs.Cell.{numbersIn}
 use Rattle.list.specs.Kept.{areLonger, walked, isKept}
@@ -39,10 +38,6 @@ none-within : (index word : List ℕ) (x k : ℕ) → ((j : ℕ) → j < k → s
 unfolding hasWithin
 none-within index word x zero f = refl
 none-within index word x (suc k) f = rw (f k (omega arith)) (none-within index word x k (λ j h. f j (omega arith)))
-
-or-false : (b : Bool) → b || false ≡ b
-or-false true = refl
-or-false false = refl
 
 one-within : (index word : List ℕ) (x k i : ℕ) → i < k → same (wordOf index i) word ≡ true →
     ((j : ℕ) → j < k → (j ≡ i → ⊥) → same (wordOf index j) word ≡ false) → hasWithin index k word x ≡ names (listOf index i) x
@@ -91,10 +86,6 @@ unfolding hasWithin
 false-within index word x zero f = refl
 false-within index word x (suc k) f =
     rw (f k (omega arith), and-false (same (wordOf index k) word)) (false-within index word x k (λ j h. f j (omega arith)))
-  where
-    and-false : (b : Bool) → b && false ≡ false
-    and-false true = refl
-    and-false false = refl
 
 pub has-zero : (index : List ℕ) → Sound index → (word : List ℕ) → has index word 0 ≡ false
 unfolding has
@@ -105,23 +96,6 @@ pub has-above : (index : List ℕ) → Sound index → (word : List ℕ) (x : �
 unfolding has
 has-above index s word x g =
     false-within index word x (wordCount index) (λ j h. proper-names-above (highest index) x (listOf index j) (list-proper index s j h) g)
-
--- ---- what the answers of a comparison exclude
-
-pub order-same-not : (a b : List ℕ) → orderOf a b ≡ Same → before a b ≡ false
-order-same-not a b e = let q : a ≡ b = order-is-same a b e in rw q (before-irreflexive b)
-
-pub order-behind-not : (a b : List ℕ) → orderOf a b ≡ Behind → before a b ≡ false
-order-behind-not a b e =
-    by-test (before a b)
-    (λ t. true-false (sym (before-transitive a b a t (order-is-behind a b e)) ∙ before-irreflexive a))
-    (λ t. t)
-
-pub order-before-differ : (a b : List ℕ) → orderOf a b ≡ Before → a ≡ b → ⊥
-order-before-differ a b o e = let t : before b b ≡ true = rw e at (order-is-before a b o) in true-false (sym t ∙ before-irreflexive b)
-
-pub order-behind-differ : (a b : List ℕ) → orderOf a b ≡ Behind → a ≡ b → ⊥
-order-behind-differ a b o e = let t : before b b ≡ true = rw e at (order-is-behind a b o) in true-false (sym t ∙ before-irreflexive b)
 
 -- ---- the place of a word
 

@@ -6,3 +6,4 @@ pub mod GoingLaws
 pub mod CheckLaws
 pub mod HasLaws
 pub mod AnswerLaws
+pub mod EntryIntervals

@@ -2,16 +2,13 @@
 use Prim.Native.Nat.{ℕ, _+_, _-_, _*_, _≤_}
 use mathlib.Core.Path.{_≡_, refl, sym, ap, _∙_}
 use native.Mathlib.Omega.{arith}
-use mathlib.Core.Bool.{Bool, true, false, not, cond, _&&_, _||_}
+use mathlib.Core.Bool.{Bool, true, false, not, _&&_, _||_, Bool·not-not}
 use mathlib.Core.List.{List}
 use lib.Dec.{eqb, leb, ltb}
 use lib.ListN.{length, take, drop}
 use borrow.Author.Tests.{le-leb, lt-leb, lt-ltb, le-ltb}
-use Rattle.laws.proofs.Tests.{true-false, or-neither, leb-cases}
-use Rattle.word.specs.declared.Order.{Order}
-use Rattle.word.specs.declared.Order.the-variants.{Before, Same, Behind}
-use Rattle.word.specs.Word.{same, before, isWord, orderOf}
-use Rattle.word.proofs.WordLaws.{same-equal, before-irreflexive}
+use Rattle.laws.proofs.Tests.{or-neither, leb-cases}
+use Rattle.word.specs.Word.{before, isWord}
 use Rattle.list.specs.Cell.{numbersIn}
 use Rattle.list.specs.Kept.{isKept}
 use Rattle.index.specs.declared.trailer.Trailer.{Trailer}
@@ -21,16 +18,12 @@ use Rattle.index.specs.Read.{TrailerOf, Framed, EntryOf}
 use Rattle.index.specs.Sound.{badDirectory, badWord, badEntry, badList, wordBefore}
 use Rattle.index.proofs.SoundLaws.{wordsEnd-next, listsEnd-next, directory-facts}
 
-pub twice : (t : Bool) → not (not t) ≡ t
-twice true = refl
-twice false = refl
-
 -- a test that answers whether a rule holds, refused and passed
 pub told-bad : (good bad : Bool) → good ≡ not bad → not good ≡ true → bad ≡ true
-told-bad good bad e h = sym (twice bad) ∙ ap not (sym e) ∙ h
+told-bad good bad e h = sym (Bool·not-not bad) ∙ ap not (sym e) ∙ h
 
 pub told-good : (good bad : Bool) → good ≡ not bad → not good ≡ false → bad ≡ false
-told-good good bad e h = sym (twice bad) ∙ ap not (sym e) ∙ h
+told-good good bad e h = sym (Bool·not-not bad) ∙ ap not (sym e) ∙ h
 
 not-ltb : (a b : ℕ) → leb b a ≡ not (ltb a b)
 not-ltb a b =
@@ -62,22 +55,6 @@ directory-rule index i t e words lists is of w l =
     )
     )
 
--- whether the order is the one that the word rule asks for
-abbrev pub ascends : Order → Bool
-ascends Before = true
-ascends Same = false
-ascends Behind = false
-
-pub before-ascends : (a b : List ℕ) → before a b ≡ ascends (orderOf a b)
-unfolding orderOf
-before-ascends a b = go (same a b) (before a b) refl refl
-  where
-    go : (s t : Bool) → same a b ≡ s → before a b ≡ t → t ≡ ascends (cond s Same (cond t Before Behind))
-    go true true p q = let e = same-equal a b p in true-false (sym q ∙ rw e (before-irreflexive b))
-    go true false p q = refl
-    go false true p q = refl
-    go false false p q = refl
-
 pub word-rule : (index : List ℕ) (i : ℕ) → badWord index i ≡ not (isWord (wordOf index i) && before (wordBefore index i) (wordOf index i))
 unfolding badWord
 word-rule index i = go (isWord (wordOf index i)) (before (wordBefore index i) (wordOf index i))
@@ -102,7 +79,7 @@ list-rule index i e limit of l =
     let b : x + 4 * e .singles + 4 * e .pairs - (x + 4 * e .singles) ≡ 4 * e .pairs = omega arith in
     let c : x + 4 * e .singles + 4 * e .pairs + 4 * e .pairs - (x + 4 * e .singles + 4 * e .pairs) ≡ 4 * e .pairs = omega arith in
     rw (a, b, c, of .list-start, of .singles, of .pairs, l)
-    (sym (twice (isKept (highest index) (numbersIn (singlesOf index i)) (numbersIn (lowerOf index i)) (numbersIn (upperOf index i)))))
+    (sym (Bool·not-not (isKept (highest index) (numbersIn (singlesOf index i)) (numbersIn (lowerOf index i)) (numbersIn (upperOf index i)))))
 
 pub list-room : (index : List ℕ) (t : Trailer) (i : ℕ) (e : Entry) → Framed index t → EntryOf index i e → badEntry index i ≡ false →
     e .«list_start» + 4 * e .singles + 8 * e .pairs ≤ length index

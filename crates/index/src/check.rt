@@ -123,13 +123,13 @@ fn first_bad_list(index: &[u8], trailer: Trailer) -> Found
     requires { ⌜ Framed (now index) trailer × ((i : ℕ) → i < wordCount (now index) → badEntry (now index) i ≡ false) ⌝ }
     ensures { λ r. ⌜ r ≡ badListOf (now (index .entry)) ⌝ }
 {
-    let mut i = 0;
-    while i < trailer.count {
-        let entry = entry_at(index, trailer, i);
+    let mut k = 0;
+    while k < trailer.count {
+        let entry = entry_at(index, trailer, k);
         if !list_good(index, entry, trailer.highest) {
-            return Found::At(i);
+            return Found::At(k);
         }
-        i += 1;
+        k += 1;
     }
     Found::Nowhere
 }

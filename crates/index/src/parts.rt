@@ -2,7 +2,8 @@
 ghost use mathlib.Core.Path.{_≡_};
 ghost use Prim.Native.Nat.{_+_, _*_, _≤_, _<_};
 ghost use lib.ListN.{length};
-ghost use Rattle.index.specs.Format.{wordCount, wordOf, singlesOf, lowerOf, upperOf};
+ghost use Rattle.list.specs.Interval.{intervals};
+ghost use Rattle.index.specs.Format.{wordCount, wordOf, singlesOf, lowerOf, upperOf, listOf};
 ghost use Rattle.index.specs.Read.{EntryOf};
 ghost use Rattle.index.specs.Sound.{Sound};
 use crate::entry::Entry;
@@ -56,4 +57,12 @@ pub fn upper_of<'a>(index: &'a [u8], i: usize) -> &'a [u8]
     let start = entry.list_start + 4 * entry.singles + 4 * entry.pairs;
     let end = start + 4 * entry.pairs;
     &index[start..end]
+}
+
+// How many intervals the list of entry i has: one for each single and for each pair.
+pub fn interval_count(index: &[u8], i: usize) -> usize
+    requires { ⌜ Sound (now index) × (i < wordCount (now index)) ⌝ }
+    ensures { λ r. ⌜ (r ≡ intervals (listOf (now (index .entry)) i)) × (r ≤ 4194304) ⌝ }
+{
+    singles_of(index, i).len() / 4 + lower_of(index, i).len() / 4
 }

@@ -10,9 +10,9 @@ use lib.Seq.{sets, length-sets}
 use Rattle.laws.proofs.Lists.{sets-append}
 use Rattle.list.specs.Interval.{intervals, records}
 use Rattle.list.specs.Stretches.{turned, stretches, cellsOf, kept, recordsFrom}
-use Rattle.list.proofs.StretchLaws.{cells-length}
-use Rattle.list.proofs.RecordLaws.{recordsFrom-length, stretches-records}
-use Rattle.list.proofs.SweepLaws.{Swept, swept-skip, members-on}
+use Rattle.list.proofs.StretchLaws.{turned-append}
+use Rattle.list.proofs.RecordLaws.{stretches-records}
+use Rattle.list.proofs.SweepLaws.{Swept, swept-cells-few, swept-records-few, swept-skip, members-on}
 use Rattle.join.specs.Probing.{between}
 
 -- ---- it has whole intervals
@@ -38,12 +38,6 @@ unfolding between
 between-even p a b = stretches-even p false 0 a (b + 1 - a)
 
 -- ---- what is left behind b, where b + 1 is out or nothing is left
-
-turned-append : (b v : Bool) (x : ℕ) (r s : List ℕ) → turned b v x (r ++ s) ≡ turned b v x r ++ s
-turned-append false false x r s = refl
-turned-append false true x r s = refl
-turned-append true false x r s = refl
-turned-append true true x r s = refl
 
 split-last : (p : ℕ → Bool) (v : Bool) (x k : ℕ) → (0 < k → p x ≡ false) → stretches p v x k ≡ turned v false x [] ++ stretches p false x k
 unfolding stretches
@@ -127,8 +121,7 @@ module _ (p : ℕ → Bool) (n : ℕ) (writing : Bool) (out₀ out : List ℕ) (
 
   -- neither the intervals nor the records are more than the numbers
   pub between-cells-few : k + length (between p a b) ≤ n + 1
-  between-cells-few =
-      omega (arith, ap length done-left, length-append (at-a .done ++ between p a b) (stretches p false (b + 1) (n + 1 - (b + 1))), done-count, cells-length p n)
+  between-cells-few = swept-cells-few swept-between
 
   pub between-records-few : recs + records (between p a b) ≤ n
-  between-records-few = omega (arith, done-members, recordsFrom-length p 1 (b + 1 - 1))
+  between-records-few = swept-records-few swept-between

@@ -1,11 +1,10 @@
 -- The walk of the shortest list, and the sweep that puts what of each of its intervals stands in every list.
-use mathlib.Core.Path.{_≡_, refl, ap, _∙_}
+use mathlib.Core.Path.{_≡_, refl}
 use Prim.Native.Nat.{ℕ, _+_, _*_, _≤_, _<_}
 use native.Mathlib.Omega.{arith}
-use mathlib.Core.Bool.{Bool, true, false, cond}
+use mathlib.Core.Bool.{Bool, true, false}
 use mathlib.Core.List.{List}
 use lib.ListN.{length, getD}
-use lib.Seq.{sets, length-sets}
 use Rattle.list.specs.declared.Place.{Place}
 use Rattle.list.specs.declared.answer.Tally.{Tally}
 use Rattle.list.specs.Interval.{top, names, intervals, records}
@@ -69,13 +68,6 @@ module _ (index entries : List ℕ) (asked : Asked index entries) (j : ℕ) (h :
 
     pub going-goes : i < length S + length L → Goes S L at
     going-goes m = read-goes (highest index) S L U at (g .k) (g .read) (let p = g .passed in omega arith)
-
-    pub going-long : length out ≡ length out₀
-    going-long = go writing (g .swept .written)
-      where
-        go : (w : Bool) → out ≡ cond w (sets out₀ 0 (g .swept .done)) out₀ → length out ≡ length out₀
-        go true e = ap length e ∙ length-sets out₀ 0 (g .swept .done)
-        go false e = ap length e
 
     -- every interval is passed
     pub going-end : length S + length L ≤ i → (writing ≡ true → length (intersectionOf (listsOf index entries)) ≤ length out₀) →

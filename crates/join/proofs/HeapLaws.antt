@@ -7,12 +7,12 @@ use native.Mathlib.Numerals.{add-one}
 use native.Mathlib.Decide.{ℕ-discrete}
 use mathlib.Core.List.{List, [], _∷_, _++_}
 use lib.Dec.{eqb}
-use lib.ListN.{length, getD, take, set, length-take, length-set}
-use lib.Seq.{getD-take, getD-set-same, getD-set-other, take-set-lt, take-suc, length-take-le}
-use borrow.Author.Tests.{eqb-true, eq-eqb, ne-eqb}
+use lib.ListN.{length, getD, take, set, length-take}
+use lib.Seq.{getD-take, take-set-lt, take-suc, length-take-le}
+use borrow.Author.Tests.{eqb-true, eq-eqb}
 use Rattle.laws.proofs.Tests.{by-test}
 use Rattle.list.specs.Ginix.{one}
-use Rattle.join.specs.Heap.{countOf, IsHeap, Pushed, Replaced, Dropped}
+use Rattle.join.specs.Heap.{countOf, IsHeap, Pushed}
 
 -- ---- how often a number stands in a list
 
@@ -39,17 +39,6 @@ count-set-take y n xs i v h g =
     let e = getD-take n xs i 0 h in
     let l = length-take-le n xs g in
     rw (take-set-lt n xs i v h, ← e) (count-set y (take n xs) i v (omega arith))
-
--- a swap of two cells keeps the bag
-pub count-swap : (y : ℕ) (xs : List ℕ) (i j : ℕ) → i < length xs → j < length xs → countOf y (set (set xs i (getD xs j 0)) j (getD xs i 0)) ≡ countOf y xs
-count-swap y xs i j h g =
-    let first = count-set y xs i (getD xs j 0) h in
-    let second = rw (kept (ℕ-discrete j i)) at (count-set y (set xs i (getD xs j 0)) j (getD xs i 0) (rw length-set g)) in
-    omega arith
-  where
-    kept : Dec (j ≡ i) → getD (set xs i (getD xs j 0)) j 0 ≡ getD xs j 0
-    kept (yes e) = rw e (getD-set-same xs i (getD xs i 0) 0 h)
-    kept (no ne) = getD-set-other xs i j (getD xs j 0) 0 ne
 
 -- one cell more
 pub count-more : (y : ℕ) (xs : List ℕ) (n : ℕ) → n < length xs → countOf y (take (n + 1) xs) ≡ one (eqb y (getD xs n 0)) + countOf y (take n xs)
@@ -111,9 +100,6 @@ front-counted n xs h g =
 one-itself : (x : ℕ) → one (eqb x x) ≡ 1
 one-itself x = rw (eq-eqb x x refl)
 
-one-other : (y x : ℕ) → (y ≡ x → ⊥) → one (eqb y x) ≡ 0
-one-other y x ne = rw (ne-eqb y x ne)
-
 -- a count that grows by one only at x
 came : (y x a b : ℕ) → b ≤ one (eqb y x) + a → 0 < b → (y ≡ x) ⊎ (0 < a)
 came y x a b h g = by-test (eqb y x) (λ e. inl (eqb-true y x e)) (λ e. inr (let k = rw e at h in omega arith))
@@ -127,26 +113,3 @@ module _ (size x : ℕ) (old new : List ℕ) (p : Pushed size x old new) where
 
   pub pushed-new : 0 < countOf x (take (size + 1) new)
   pushed-new = omega (arith, p .bag x, one-itself x)
-
-module _ (size x : ℕ) (old new : List ℕ) (p : Replaced size x old new) where
-  pub replaced-either : (y : ℕ) → 0 < countOf y (take size new) → (y ≡ x) ⊎ (0 < countOf y (take size old))
-  replaced-either y h = came y x (countOf y (take size old)) (countOf y (take size new)) (omega (arith, p .bag y)) h
-
-  -- every number but the least
-  pub replaced-kept : (y : ℕ) → (y ≡ getD old 0 0 → ⊥) → 0 < countOf y (take size old) → 0 < countOf y (take size new)
-  replaced-kept y ne h = omega (arith, p .bag y, one-other y (getD old 0 0) ne)
-
-  pub replaced-new : 0 < size → size ≤ length old → 0 < countOf x (take size new)
-  replaced-new h g = go (ℕ-discrete x (getD old 0 0))
-    where
-      go : Dec (x ≡ getD old 0 0) → 0 < countOf x (take size new)
-      go (yes e) = let k = rw (← e) at (front-counted size old h g) in omega (arith, rw (← e) at (p .bag x))
-      go (no ne) = omega (arith, p .bag x, one-itself x, one-other x (getD old 0 0) ne)
-
-module _ (size : ℕ) (old new : List ℕ) (p : Dropped size old new) where
-  pub dropped-was : (y : ℕ) → 0 < countOf y (take (size - 1) new) → 0 < countOf y (take size old)
-  dropped-was y h = omega (arith, p .bag y)
-
-  -- every number but the least
-  pub dropped-kept : (y : ℕ) → (y ≡ getD old 0 0 → ⊥) → 0 < countOf y (take size old) → 0 < countOf y (take (size - 1) new)
-  dropped-kept y ne h = omega (arith, p .bag y, one-other y (getD old 0 0) ne)

@@ -5,20 +5,17 @@ use native.Mathlib.Omega.{arith}
 use mathlib.Core.Bool.{true}
 use mathlib.Core.List.{List, [], _∷_}
 use lib.ListN.{length, getD, drop}
-use Rattle.laws.proofs.Tests.{and-both, both-and}
 use Rattle.laws.proofs.Lists.{drop-next, drop-none}
 use Rattle.list.specs.Interval.{top, isProper, names, intervals}
-use Rattle.list.specs.Kept.{areLonger, isKept}
 use Rattle.list.specs.Seek.{Ascends}
-use Rattle.list.specs.Reading.{KeptIn, listIn}
+use Rattle.list.specs.Reading.{listIn}
 use Rattle.list.proofs.CellLaws.{numbersIn-length}
 use Rattle.list.proofs.ProperLaws.{proper-facts, facts-proper, proper-weaker}
-use Rattle.list.proofs.WalkLaws.{walked-length}
 use Rattle.list.proofs.KeptLaws.{Kept, kept-facts}
 use Rattle.list.proofs.JoinLaws.{AllProper}
-use Rattle.index.specs.Format.{wordCount, highest, listStart, singleCount, pairCount, singlesOf, lowerOf, upperOf, listOf}
+use Rattle.index.specs.Format.{wordCount, highest, singleCount, pairCount, singlesOf, lowerOf, upperOf, listOf}
 use Rattle.index.specs.Sound.{Sound}
-use Rattle.index.proofs.SoundLaws.{sound-length, sound-trailer, sound-entry, sound-list, sound-list-room, singles-length, lower-length, upper-length}
+use Rattle.index.proofs.SoundLaws.{sound-trailer, sound-entry, sound-list, singles-length, lower-length, upper-length}
 use Rattle.index.proofs.HasLaws.{list-proper}
 use Rattle.join.specs.Join.{listsOf}
 use Rattle.join.specs.Asked.{Asked, intervalSum}
@@ -30,24 +27,8 @@ module _ (index : List ℕ) (s : Sound index) (i : ℕ) (h : i < wordCount index
   pub entry-kept : Kept (highest index) (singlesIn index i) (lowerIn index i) (upperIn index i)
   entry-kept = kept-facts (highest index) (singlesIn index i) (lowerIn index i) (upperIn index i) (sound-list index s i h)
 
-  pub entry-walked : intervals (listOf index i) ≡ length (singlesIn index i) + length (lowerIn index i)
-  unfolding listOf
-  entry-walked = let w = walked-length (singlesIn index i) (lowerIn index i) (upperIn index i) (entry-kept .long) in omega arith
-
   pub entry-regions : length (lowerOf index i) ≡ length (upperOf index i)
   entry-regions = lower-length index s i h ∙ sym (upper-length index s i h)
-
-  pub entry-intervals : intervals (listOf index i) ≡ length (singlesOf index i) / 4 + length (lowerOf index i) / 4
-  entry-intervals = let e = entry-walked in omega (arith, numbersIn-length (singlesOf index i), numbersIn-length (lowerOf index i))
-
-  -- four bytes an interval at least
-  pub entry-few : intervals (listOf index i) ≤ 4194304
-  entry-few =
-      few (listStart index i) (singleCount index i) (pairCount index i) (length index) (intervals (listOf index i)) (length (singlesOf index i)) (length (lowerOf index i))
-      (sound-list-room index s i h) (sound-length index s .1) (singles-length index s i h) (lower-length index s i h) entry-intervals
-    where
-      few : (x a b size n l m : ℕ) → x + 4 * a + 8 * b ≤ size → size ≤ 16777216 → l ≡ 4 * a → m ≡ 4 * b → n ≡ l / 4 + m / 4 → n ≤ 4194304
-      few x a b size n l m r z e f g = omega arith
 
   -- "s + m is at least 1"
   pub entry-some : 0 < length (singlesIn index i) + length (lowerIn index i)
@@ -64,12 +45,6 @@ module _ (index : List ℕ) (s : Sound index) (i : ℕ) (h : i < wordCount index
       facts-proper top 1 (listOf index i)
       (proper-weaker (highest index) top 1 1 (listOf index i) (sound-trailer index s .highest-bound) (omega arith)
       (proper-facts (highest index) 1 (listOf index i) (list-proper index s i h)))
-
-  pub entry-kept-in : KeptIn top (singlesOf index i) (lowerOf index i) (upperOf index i)
-  unfolding isKept listOf
-  entry-kept-in =
-      let k = and-both (areLonger (lowerIn index i) (upperIn index i)) (isProper (highest index) (listOf index i)) (sound-list index s i h) in
-      both-and (areLonger (lowerIn index i) (upperIn index i)) (isProper top (listOf index i)) (k .0) entry-proper
 
   pub entry-ascends : Ascends (singlesIn index i) × Ascends (upperIn index i)
   entry-ascends = let k = entry-kept in (k .singles-ascend, k .upper-ascend)

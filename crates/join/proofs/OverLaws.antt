@@ -12,6 +12,7 @@ use Rattle.laws.proofs.Tests.{true-false, by-test, leb-cases}
 use Rattle.list.specs.declared.Place.{Place}
 use Rattle.list.specs.Interval.{top}
 use Rattle.list.specs.Ginix.{one}
+use Rattle.list.proofs.SeekLaws.{one-small}
 use Rattle.index.proofs.SoundLaws.{sound-trailer}
 use Rattle.join.specs.Asked.{Asked}
 use Rattle.join.specs.Keys.{sumOf, lowerMark, upperMark, dueAt}
@@ -69,10 +70,6 @@ by-list {A = A} i j a b = go (ℕ-discrete i j)
     go (yes e) = a e
     go (no ne) = b ne
 
-one-most : (b : Bool) → one b ≤ 1
-one-most true = omega arith
-one-most false = omega arith
-
 one-true : (b : Bool) → 0 < one b → b ≡ true
 one-true true h = refl
 one-true false h = absurd (omega arith)
@@ -83,7 +80,7 @@ same-mark a b r q e = cc
 
 module _ (index entries : List ℕ) (asked : Asked index entries) (places : List Place) (f : ℕ → Bool) (s count lower : ℕ) (o : Over index entries places f s count lower) where
   pub over-few : count ≤ 16
-  over-few = let few = asked .few in let e = o .sum in omega (arith, sum-most (λ j. one (f j)) (length entries) (λ i. one-most (f i)))
+  over-few = let few = asked .few in let e = o .sum in omega (arith, sum-most (λ j. one (f j)) (length entries) (λ i. one-small (f i)))
 
   -- no list is in
   pub over-out : count ≡ 0 → (i : ℕ) → i < length entries → f i ≡ false

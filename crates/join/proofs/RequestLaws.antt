@@ -2,7 +2,7 @@
 use mathlib.Core.Path.{_≡_, refl, _∙_}
 use Prim.Native.Nat.{ℕ, _≤_, _<_}
 use native.Mathlib.Omega.{arith}
-use mathlib.Core.Bool.{Bool, true, false, cond}
+use mathlib.Core.Bool.{true, false}
 use mathlib.Core.List.{List}
 use lib.Dec.{eqb, ltb}
 use lib.ListN.{length, getD}
@@ -18,7 +18,7 @@ use Rattle.index.specs.declared.Checked.{Checked}
 use Rattle.index.specs.declared.Checked.the-variants.{Good, Refused}
 use Rattle.index.specs.Format.{wordCount}
 use Rattle.index.specs.Check.{checkOf}
-use Rattle.index.proofs.CheckLaws.{good-sound}
+use Rattle.index.proofs.CheckLaws.{not-good, cond-good, good-sound}
 use Rattle.join.specs.Join.{badListCount, badEntryNumber, entriesAfter, entriesOf, requestAfter, requestOf}
 use Rattle.join.specs.Asked.{Asked}
 
@@ -64,16 +64,9 @@ module _ (index entries : List ℕ) where
 
 -- ---- what is known of a request that is not refused
 
-not-good : {A : Type 0} (r : Refusal) → Refused r ≡ Good → A
-not-good r e = absurd (let z : _≡_ {A = ℕ} 0 1 = cc in omega arith)
-
 checked-good : (c next : Checked) → requestAfter c next ≡ Good → (c ≡ Good) × (next ≡ Good)
 checked-good (Refused r) next e = not-good r e
 checked-good Good next e = (refl, e)
-
-count-good : (t : Bool) (r : Refusal) (next : Checked) → cond t (Refused r) next ≡ Good → (t ≡ false) × (next ≡ Good)
-count-good true r next e = not-good r e
-count-good false r next e = (refl, e)
 
 numbers-good : (f : Found) → entriesAfter f ≡ Good → f ≡ Nowhere
 numbers-good (At i) e = not-good (EntryNumber i) e
@@ -83,7 +76,7 @@ pub request-asked : (index entries : List ℕ) → requestOf index entries ≡ G
 unfolding requestOf entriesOf badListCount badEntryNumber
 request-asked index entries e =
     let a = checked-good (checkOf index) (entriesOf index entries) e in
-    let b = count-good (badListCount entries) (ListCount (length entries)) (entriesAfter (first (badEntryNumber index entries) (length entries))) (a .1) in
+    let b = cond-good (badListCount entries) (ListCount (length entries)) (entriesAfter (first (badEntryNumber index entries) (length entries))) (a .1) in
     let d = or-neither (eqb (length entries) 0) (ltb 16 (length entries)) (b .0) in
     let f = numbers-good (first (badEntryNumber index entries) (length entries)) (b .1) in
     record {

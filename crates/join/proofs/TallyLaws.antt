@@ -1,17 +1,15 @@
 -- A tally on its way: the numbers below x are swept, by any test, and what was put is counted.
-use mathlib.Core.Path.{_≡_, refl, ap, _∙_}
+use mathlib.Core.Path.{_≡_, refl}
 use Prim.Native.Nat.{ℕ, _+_, _-_, _*_, _≤_, _<_}
 use native.Mathlib.Omega.{arith}
-use mathlib.Core.Bool.{Bool, true, false, cond}
+use mathlib.Core.Bool.{Bool, true, false}
 use mathlib.Core.List.{List}
 use lib.ListN.{length}
-use lib.Seq.{sets, length-sets}
 use Rattle.list.specs.declared.answer.Tally.{Tally}
 use Rattle.list.specs.declared.reading.Interval.{Interval}
 use Rattle.list.specs.Interval.{top, intervals, records}
 use Rattle.list.specs.Stretches.{cellsOf}
-use Rattle.list.proofs.RecordLaws.{recordsFrom-length}
-use Rattle.list.proofs.SweepLaws.{Swept, swept-start, swept-skip, swept-room, swept-put, swept-count, swept-records, swept-written}
+use Rattle.list.proofs.SweepLaws.{Swept, swept-start, swept-records-few, swept-skip, swept-room, swept-put, swept-count, swept-records, swept-written}
 use Rattle.join.specs.Put.{Fitting, Put}
 use Rattle.join.specs.Sweep.{Sweeps}
 
@@ -33,16 +31,6 @@ module _ (p : ℕ → Bool) (writing : Bool) (out₀ out : List ℕ) (t : Tally)
   pub tallied-near : (1 ≤ x) × (x ≤ top + 1)
   tallied-near = d .swept .near
 
-  small : t .records ≤ top
-  small = let n = d .swept .near in omega (arith, d .swept .members, recordsFrom-length p 1 (x - 1))
-
-  pub tallied-long : length out ≡ length out₀
-  tallied-long = go writing (d .swept .written)
-    where
-      go : (w : Bool) → out ≡ cond w (sets out₀ 0 (d .swept .done)) out₀ → length out ≡ length out₀
-      go true e = ap length e ∙ length-sets out₀ 0 (d .swept .done)
-      go false e = ap length e
-
   -- nothing is in from x to below y
   pub tallied-skip : (y : ℕ) → x ≤ y → y ≤ top + 1 → ((z : ℕ) → x ≤ z → z < y → p z ≡ false) → Tallied p writing out₀ out t y
   tallied-skip y h g q = record { swept = swept-skip p top writing out₀ out x (2 * t .intervals) (t .records) (d .swept) y h g q; few = d .few }
@@ -56,8 +44,8 @@ module _ (p : ℕ → Bool) (writing : Bool) (out₀ out : List ℕ) (t : Tally)
     pub tallied-fits : (writing ≡ true → length (cellsOf p top) ≤ length out₀) → Fitting writing out t i
     tallied-fits r = record {
       room = λ w. swept-room p top writing out₀ out x (2 * t .intervals) (t .records) (d .swept) (i .lower) (i .upper) (omega arith) order high none inside stop w (r w);
-      few = let a = d .few in let b = small in omega arith;
-      small = small;
+      few = let a = d .few in let b = swept-records-few (d .swept) in omega arith;
+      small = swept-records-few (d .swept);
       order = order;
       high = high;
     }

@@ -3,23 +3,21 @@ use mathlib.Core.Path.{_≡_, refl, sym, ap, _∙_}
 use Prim.Native.Nat.{ℕ, suc, _+_, _-_, _*_, _/_, _%_, _≤_, _<_}
 use native.Mathlib.Omega.{arith}
 use native.Mathlib.Decide.{ℕ-discrete}
-use mathlib.Core.Bool.{Bool, true, false, cond}
+use mathlib.Core.Bool.{Bool, true, false}
 use mathlib.Core.List.{List, [], _∷_}
-use lib.ListN.{length, getD, set, replicate, length-append, length-set, getD-replicate}
-use lib.Seq.{getD-set-same, getD-set-other, length-sets, sets}
+use lib.ListN.{length, getD, set, replicate, length-set, getD-replicate}
+use lib.Seq.{getD-set-same, getD-set-other}
 use borrow.Author.Tests.{leb-true, leb-false}
 use Rattle.laws.proofs.Tests.{leb-cases}
 use Rattle.list.specs.declared.Place.{Place}
 use Rattle.list.specs.declared.answer.Tally.{Tally}
 use Rattle.list.specs.Interval.{top, names, intervals, records}
-use Rattle.list.specs.Stretches.{stretches, cellsOf}
+use Rattle.list.specs.Stretches.{cellsOf}
 use Rattle.list.specs.Ginix.{inEvery, intersectionOf}
 use Rattle.list.specs.Kept.{start}
 use Rattle.list.specs.Reading.{Goes}
 use Rattle.list.proofs.LeftLaws.{ReadTo, read-start, read-goes, read-end, read-bounds, read-before, read-inside, read-behind, read-next}
-use Rattle.list.proofs.StretchLaws.{cells-length}
-use Rattle.list.proofs.RecordLaws.{recordsFrom-length}
-use Rattle.list.proofs.SweepLaws.{Swept, swept-start, swept-skip, swept-room, swept-put, swept-count, swept-records, swept-written}
+use Rattle.list.proofs.SweepLaws.{Swept, swept-start, swept-cells-few, swept-records-few, swept-skip, swept-room, swept-put, swept-count, swept-records, swept-written}
 use Rattle.index.specs.Format.{highest, listOf}
 use Rattle.index.proofs.SoundLaws.{sound-trailer}
 use Rattle.join.specs.Join.{listsOf}
@@ -40,22 +38,6 @@ pub every-in : (index entries : List ℕ) (x : ℕ) → ((j : ℕ) → j < lengt
 unfolding listsOf inEvery
 every-in index [] x f = refl
 every-in index (i ∷ es) x f = rw (f 0 (omega arith)) (every-in index es x (λ j h. f (suc j) (omega arith)))
-
--- ---- how much a sweep has counted
-
-module _ {p : ℕ → Bool} {n : ℕ} {writing : Bool} {out₀ out : List ℕ} {b : Bool} {x k recs : ℕ} (s : Swept p n writing out₀ out b x k recs) where
-  pub swept-cells-few : k ≤ n + 1
-  swept-cells-few = omega (arith, s .count, ap length (s .left), length-append (s .done) (stretches p b x (n + 1 - x)), cells-length p n)
-
-  pub swept-records-few : recs ≤ n
-  swept-records-few = let h = s .near in omega (arith, s .members, recordsFrom-length p 1 (x - 1))
-
-  pub swept-long : length out ≡ length out₀
-  swept-long = ap length (s .written) ∙ go writing
-    where
-      go : (w : Bool) → length (cond w (sets out₀ 0 (s .done)) out₀) ≡ length out₀
-      go true = length-sets out₀ 0 (s .done)
-      go false = refl
 
 -- ---- one list
 

@@ -6,7 +6,7 @@ ghost use Rattle.list.specs.Cell.{numbersIn};
 ghost use Rattle.list.specs.Kept.{start, nextPlace, lowerAt, upperAt};
 ghost use Rattle.list.specs.Reading.{Goes};
 ghost use Rattle.join.specs.Places.{singlesIn, lowerIn, upperIn, EntryIn, usedUp};
-use crate::request::interval_count;
+use index::parts::interval_count;
 use index::parts::lower_of;
 use index::parts::singles_of;
 use index::parts::upper_of;

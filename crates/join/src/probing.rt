@@ -1,7 +1,7 @@
 // The intersection by probing from the shortest list: each of its intervals is cut down to what stands in every other list.
 ghost use mathlib.Core.Path.{_≡_};
 ghost use mathlib.Core.Bool.{true};
-ghost use Prim.Native.Nat.{min, _+_, _≤_, _<_};
+ghost use Prim.Native.Nat.{_+_, _≤_, _<_};
 ghost use lib.ListN.{length, getD};
 ghost use Rattle.list.specs.Ginix.{intersectionOf};
 ghost use Rattle.list.specs.Interval.{top, names};
@@ -12,7 +12,7 @@ ghost use Rattle.join.specs.Join.{listsOf};
 ghost use Rattle.join.specs.Places.{EntryIn};
 ghost use Rattle.join.specs.Sweep.{Sweeps};
 ghost use Rattle.join.specs.Probing.{Shortest, between, Fits, Puts, inAll, Within, closing, lowerOn};
-use crate::request::interval_count;
+use index::parts::interval_count;
 use index::parts::lower_of;
 use index::parts::singles_of;
 use index::parts::upper_of;
@@ -27,12 +27,7 @@ use list::reading::next_place;
 use list::reading::place_of;
 use list::sense::Sense;
 use list::sense::sense_at;
-
-fn smaller(a: u32, b: u32) -> u32
-    ensures { λ r. ⌜ r ≡ min a b ⌝ }
-{
-    if a < b { a } else { b }
-}
+use list::sense::smaller;
 
 // The place in the request of a list with the fewest intervals.
 fn shortest(index: &[u8], entries: &[u32]) -> usize

@@ -1,16 +1,13 @@
 // The request of a join: when it is refused, and how many intervals its lists have.
 ghost use mathlib.Core.Path.{_≡_};
-ghost use Prim.Native.Nat.{_≤_, _<_};
+ghost use Prim.Native.Nat.{_≤_};
 ghost use lib.ListN.{length};
 ghost use Rattle.refusal.specs.First.{first};
-ghost use Rattle.list.specs.Interval.{intervals};
-ghost use Rattle.index.specs.Format.{wordCount, listOf};
 ghost use Rattle.index.specs.Sound.{Sound};
 ghost use Rattle.join.specs.Join.{badEntryNumber, entriesOf, requestOf, listsOf};
 ghost use Rattle.join.specs.Asked.{Asked, intervalSum};
 use index::Checked;
-use index::parts::lower_of;
-use index::parts::singles_of;
+use index::parts::interval_count;
 use refusal::Found;
 use refusal::Refusal;
 
@@ -56,14 +53,6 @@ pub fn check_request(index: &[u8], entries: &[u32]) -> Checked
         Checked::Refused(refusal) => Checked::Refused(refusal),
         Checked::Good => check_entries(index, entries),
     }
-}
-
-// How many intervals the list of an entry has.
-pub fn interval_count(index: &[u8], entry: usize) -> usize
-    requires { ⌜ Sound (now index) × (entry < wordCount (now index)) ⌝ }
-    ensures { λ r. ⌜ (r ≡ intervals (listOf (now (index .entry)) entry)) × (r ≤ 4194304) ⌝ }
-{
-    singles_of(index, entry).len() / 4 + lower_of(index, entry).len() / 4
 }
 
 // How many intervals the lists of a request have together.

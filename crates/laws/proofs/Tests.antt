@@ -1,12 +1,11 @@
 -- Laws of tests: what a conjunction and a disjunction say, and when two tests agree.
-use mathlib.Core.Path.{_≡_, refl, sym, ap, _∙_}
+use mathlib.Core.Path.{_≡_, refl, sym, ap}
 use mathlib.Core.Logic.{_⊎_, inl, inr, ⊎-elim}
 use Prim.Native.Nat.{ℕ, _+_, _≤_, _<_}
 use native.Mathlib.Omega.{arith}
-use native.Mathlib.Decide.{ℕ-discrete}
 use mathlib.Core.Bool.{Bool, true, false, not, _&&_, _||_}
 use lib.Dec.{eqb, leb, ltb}
-use borrow.Author.Tests.{eq-eqb, ne-eqb, le-leb, lt-leb, leb-true, leb-false, lt-ltb, le-ltb, ltb-true, ltb-false}
+use borrow.Author.Tests.{eqb-true, eq-eqb, le-leb, lt-leb, leb-true, leb-false, lt-ltb, le-ltb, ltb-true, ltb-false}
 
 pub true-false : {A : Type 0} → true ≡ false → A
 true-false e = absurd (let z : _≡_ {A = ℕ} 0 1 = cc in omega arith)
@@ -37,13 +36,13 @@ same-test true b f g = sym (f refl)
 same-test false true f g = g refl
 same-test false false f g = refl
 
-pub eqb-iff : (a b c d : ℕ) → (a ≡ b → c ≡ d) → (c ≡ d → a ≡ b) → eqb a b ≡ eqb c d
-eqb-iff a b c d f g = go (ℕ-discrete a b)
-  where
-    go : Dec (a ≡ b) → eqb a b ≡ eqb c d
-    go (yes h) = eq-eqb a b h ∙ sym (eq-eqb c d (f h))
-    go (no h) = ne-eqb a b h ∙ sym (ne-eqb c d (λ e. h (g e)))
-
 -- a number against another: which way a comparison falls
 pub leb-cases : {A : Type 0} (a b : ℕ) → (a ≤ b → A) → (b < a → A) → A
 leb-cases a b f g = by-test (leb a b) (λ e. f (leb-true a b e)) (λ e. g (leb-false a b e))
+
+-- neither below the other
+pub leb-both : (a b : ℕ) → leb b a && leb a b ≡ eqb a b
+leb-both a b =
+    same-test (leb b a && leb a b) (eqb a b)
+    (λ e. let w = and-both (leb b a) (leb a b) e in let p = leb-true b a (w .0) in let q = leb-true a b (w .1) in eq-eqb a b (omega arith))
+    (λ e. let p = eqb-true a b e in both-and (leb b a) (leb a b) (le-leb b a (omega arith)) (le-leb a b (omega arith)))

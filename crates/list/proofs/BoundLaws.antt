@@ -9,7 +9,7 @@ use lib.ListN.{length}
 use Rattle.laws.proofs.Tests.{true-false}
 use Rattle.list.specs.Interval.{intervals}
 use Rattle.list.specs.Stretches.{turned, stretches, cellsOf}
-use Rattle.list.proofs.StretchLaws.{cells-even}
+use Rattle.list.proofs.StretchLaws.{turned-length, cells-even}
 
 -- no test changes from x to x + 1
 abbrev pub Still : List (ℕ → Bool) → ℕ → Type 0
@@ -38,12 +38,6 @@ turned-still true false x r e = true-false e
 turned-still false true x r e = true-false (sym e)
 turned-still false false x r e = refl
 
-turned-most : (b v : Bool) (x : ℕ) (r : List ℕ) → length (turned b v x r) ≤ length r + 1
-turned-most false false x r = omega arith
-turned-most false true x r = omega arith
-turned-most true false x r = omega arith
-turned-most true true x r = omega arith
-
 turned-either : (b v : Bool) (x : ℕ) (r : List ℕ) → ((b ≡ v) × (length (turned b v x r) ≡ length r)) ⊎ (length (turned b v x r) ≡ length r + 1)
 turned-either false false x r = inl (refl, refl)
 turned-either false true x r = inr (omega arith)
@@ -64,13 +58,13 @@ ahead-step (q ∷ qs) w k =
 module _ (p : ℕ → Bool) (qs : List (ℕ → Bool)) (n : ℕ) (follows : (x : ℕ) → x < n → Still qs x → p x ≡ p (x + 1)) where
   ahead-bound : (w k : ℕ) → w + k ≤ n → length (stretches p (p w) (w + 1) k) ≤ ahead qs w k + 1
   unfolding stretches
-  ahead-bound w zero h = omega (arith, turned-most (p w) false (w + 1) [])
+  ahead-bound w zero h = omega (arith, turned-length (p w) false (w + 1) [])
   ahead-bound w (suc k) h =
       let r = stretches p (p (w + 1)) (w + 1 + 1) k in
       let ih = ahead-bound (w + 1) k (omega arith) in
       ⊎-elim
       (λ g. let e = turned-still (p w) (p (w + 1)) (w + 1) r (follows w (omega arith) (g .0)) in omega arith)
-      (λ g. let e = turned-most (p w) (p (w + 1)) (w + 1) r in omega arith)
+      (λ g. let e = turned-length (p w) (p (w + 1)) (w + 1) r in omega arith)
       (ahead-step qs w k)
 
 ahead-together : (qs : List (ℕ → Bool)) (n : ℕ) → AllOut qs 0 → ahead qs 0 n ≡ 2 * together qs n

@@ -1,5 +1,4 @@
 pub mod ProperLaws
-pub mod TestLaws
 pub mod CellLaws
 pub mod NamesLaws
 pub mod StretchLaws

@@ -21,10 +21,6 @@ pub names-past : (l u x : ℕ) (r : List ℕ) → u < x → names (l ∷ u ∷ r
 unfolding names
 names-past l u x r h = rw (lt-leb x u h, and-false (leb l x))
 
-pub names-before : (l u x : ℕ) (r : List ℕ) → x < l → names (l ∷ u ∷ r) x ≡ names r x
-unfolding names
-names-before l u x r h = rw (lt-leb l x h)
-
 -- what is named stands in the first interval, or the rest names it
 pub names-either : (l u x : ℕ) (r : List ℕ) → names (l ∷ u ∷ r) x ≡ true → ((l ≤ x) × (x ≤ u)) ⊎ (names r x ≡ true)
 unfolding names

@@ -3,7 +3,7 @@ use mathlib.Core.Path.{_≡_, refl, sym, _∙_}
 use mathlib.Core.Logic.{_⊎_, inl, inr, ⊎-elim}
 use Prim.Native.Nat.{ℕ, zero, suc, _+_, _-_, _≤_, _<_}
 use native.Mathlib.Omega.{arith}
-use mathlib.Core.Bool.{Bool, true, false, _&&_}
+use mathlib.Core.Bool.{Bool, true, false, _&&_, and-false}
 use mathlib.Core.List.{List, _∷_}
 use lib.Dec.{eqb, leb}
 use lib.ListN.{length, getD, drop, length-drop}
@@ -18,7 +18,6 @@ use Rattle.list.specs.Passed.{passed}
 use Rattle.list.proofs.ProperLaws.{proper-facts}
 use Rattle.list.proofs.WalkLaws.{placeAt, single-next-is, pair-next-is, walk-weaves}
 use Rattle.list.proofs.KeptLaws.{weave-pairs, pairs-at, longer-at}
-use Rattle.list.proofs.TestLaws.{and-none}
 
 -- ---- one turn of the pass
 
@@ -85,13 +84,13 @@ module _ (n : ℕ) (S L U : List ℕ) where
 
     pub kept-single-near : getD S p 0 < k → keptFrom n S L U k p q ≡ false
     unfolding keptFrom properFrom
-    kept-single-near a = rw (walk-single p q h f, lt-leb k (getD S p 0) a) (and-none (areLonger (drop q L) (drop q U)))
+    kept-single-near a = rw (walk-single p q h f, lt-leb k (getD S p 0) a) (and-false (areLonger (drop q L) (drop q U)))
 
     pub kept-single-over : n < getD S p 0 → keptFrom n S L U k p q ≡ false
     unfolding keptFrom properFrom
     kept-single-over a =
-        rw (walk-single p q h f, lt-leb (getD S p 0) n a, and-none (leb k (getD S p 0) && leb (getD S p 0) (getD S p 0)))
-        (and-none (areLonger (drop q L) (drop q U)))
+        rw (walk-single p q h f, lt-leb (getD S p 0) n a, and-false (leb k (getD S p 0) && leb (getD S p 0) (getD S p 0)))
+        (and-false (areLonger (drop q L) (drop q U)))
 
   -- a pair is next
   module _ (k p q : ℕ) (long : length L ≡ length U) (h : q < length L) (f : p < length S → getD L q 0 ≤ getD S p 0) where
@@ -110,7 +109,7 @@ module _ (n : ℕ) (S L U : List ℕ) where
 
     pub kept-pair-near : getD L q 0 < k → keptFrom n S L U k p q ≡ false
     unfolding keptFrom properFrom
-    kept-pair-near a = rw (walk-pair p q h f, lt-leb k (getD L q 0) a) (and-none (areLonger (drop q L) (drop q U)))
+    kept-pair-near a = rw (walk-pair p q h f, lt-leb k (getD L q 0) a) (and-false (areLonger (drop q L) (drop q U)))
 
   -- a pair that breaks the rule, whatever stands before it
   module _ (k p q : ℕ) (long : length L ≡ length U) (g : p ≤ length S) (h : q < length L) where

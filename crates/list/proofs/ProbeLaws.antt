@@ -2,7 +2,7 @@
 use mathlib.Core.Path.{_≡_, refl}
 use Prim.Native.Nat.{ℕ, _+_, _-_, _≤_}
 use native.Mathlib.Omega.{arith}
-use mathlib.Core.Bool.{_&&_}
+use mathlib.Core.Bool.{_&&_, and-true}
 use mathlib.Core.List.{List, [], _∷_}
 use lib.Dec.{leb, ltb}
 use borrow.Author.Tests.{lt-ltb, le-ltb, le-leb, lt-leb}
@@ -14,12 +14,11 @@ use Rattle.list.proofs.ProperLaws.{ProperFrom}
 use Rattle.list.proofs.SeekLaws.{count-length, count-over, count-passed}
 use Rattle.list.proofs.WalkLaws.{begunCount, walked-below, walked-begun}
 use Rattle.list.proofs.KeptLaws.{Kept}
-use Rattle.list.proofs.TestLaws.{and-whole}
 
 overlap-one : (a b l u : ℕ) → a ≤ b → l ≤ u → one (leb l b && leb a u) + one (ltb u a) ≡ one (leb l b)
 overlap-one a b l u h g =
     leb-cases a u
-    (λ e. rw (le-leb a u e, le-ltb u a e, and-whole (leb l b)) (omega arith))
+    (λ e. rw (le-leb a u e, le-ltb u a e, and-true (leb l b)) (omega arith))
     (λ e. rw (lt-leb a u e, lt-ltb u a e, le-leb l b (omega arith)))
 
 pub overlap-begun : (a b n k : ℕ) (c : List ℕ) → a ≤ b → ProperFrom n k c → overlapCount a b c + belowCount a c ≡ begunCount b c

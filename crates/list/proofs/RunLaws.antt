@@ -2,19 +2,18 @@
 use mathlib.Core.Path.{_≡_, refl, sym, ap, _∙_}
 use Prim.Native.Nat.{ℕ, _+_, _*_, _≤_, _<_}
 use native.Mathlib.Omega.{arith}
-use mathlib.Core.Bool.{Bool, true, false, cond, _&&_, _||_, or-false}
+use mathlib.Core.Bool.{Bool, true, false, cond, _&&_, _||_, or-false, or-assoc}
 use mathlib.Core.List.{List, [], _∷_}
 use lib.Dec.{eqb, leb}
 use lib.ListN.{length, getD, drop}
 use borrow.Author.Tests.{eqb-true, eqb-false, le-leb, lt-leb, eq-eqb, ne-eqb}
-use Rattle.laws.proofs.Tests.{leb-cases}
+use Rattle.laws.proofs.Tests.{leb-cases, leb-both}
 use Rattle.laws.proofs.Lists.{drop-next, drop-none}
 use Rattle.refusal.specs.declared.Found.the-variants.{Nowhere}
 use Rattle.refusal.specs.First.{first}
 use Rattle.list.specs.Interval.{isProper, names, intervals}
 use Rattle.list.specs.Stretches.{cellsOf}
 use Rattle.list.specs.Convert.{among, badNumber}
-use Rattle.list.proofs.TestLaws.{or-assoc}
 use Rattle.list.proofs.ProperLaws.{ProperFrom, facts-proper}
 use Rattle.list.proofs.StretchLaws.{is-cells}
 use Rattle.list.proofs.RecordLaws.{Ascends}
@@ -131,12 +130,6 @@ runs-proper n xs p = facts-proper n 1 (runs xs) (runs-proper-from n xs p)
 
 -- ---- the cells name just the numbers
 
-one-number : (x y : ℕ) → leb y x && leb x y ≡ eqb x y
-one-number x y =
-    leb-cases y x
-    (λ h. leb-cases x y (λ g. rw (le-leb y x h, le-leb x y g, eq-eqb x y (omega arith))) (λ g. rw (le-leb y x h, lt-leb x y g, ne-eqb x y (λ (e : x ≡ y). omega arith))))
-    (λ h. rw (lt-leb y x h, ne-eqb x y (λ (e : x ≡ y). omega arith)))
-
 -- a stretch with one number more
 one-more : (l u x : ℕ) → l ≤ u + 1 → leb l x && leb x (u + 1) ≡ leb l x && leb x u || eqb x (u + 1)
 one-more l u x b =
@@ -153,8 +146,8 @@ unfolding names
 names-step l u x y xs true e b ih =
     let q = eqb-true y (u + 1) e in
     let h = ih l (omega arith) in
-    h ∙ rw (q, one-more l u x (omega arith)) (sym (or-assoc (leb l x && leb x u) (eqb x (u + 1)) (among xs x)))
-names-step l u x y xs false e b ih = rw (ih y (omega arith), one-number x y)
+    h ∙ rw (q, one-more l u x (omega arith)) (or-assoc (leb l x && leb x u) (eqb x (u + 1)) (among xs x))
+names-step l u x y xs false e b ih = rw (ih y (omega arith), leb-both x y)
 
 runsFrom-names : (l u x : ℕ) (xs : List ℕ) → l ≤ u → names (runsFrom l u xs) x ≡ leb l x && leb x u || among xs x
 unfolding runsFrom names among
@@ -164,7 +157,7 @@ runsFrom-names l u x (y ∷ ys) b = names-step l u x y ys (eqb y (u + 1)) refl b
 pub runs-names : (xs : List ℕ) (x : ℕ) → names (runs xs) x ≡ among xs x
 unfolding runs names among
 runs-names [] x = refl
-runs-names (y ∷ ys) x = runsFrom-names y y x ys (omega arith) ∙ rw (one-number x y)
+runs-names (y ∷ ys) x = runsFrom-names y y x ys (omega arith) ∙ rw (leb-both x y)
 
 -- with no bad number the pass gives the proper list of the numbers
 pub runs-cells : (n : ℕ) (xs : List ℕ) → first (badNumber n xs) (length xs) ≡ Nowhere → runs xs ≡ cellsOf (among xs) n

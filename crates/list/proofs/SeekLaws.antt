@@ -21,7 +21,7 @@ ascends-at k [] p i h = absurd (omega arith)
 ascends-at k (y ∷ ys) p zero h = omega (arith, p .0)
 ascends-at k (y ∷ ys) p (suc i) h = let g = ascends-at (y + 1) ys (p .1) i (omega arith) in omega arith
 
-one-small : (t : Bool) → one t ≤ 1
+pub one-small : (t : Bool) → one t ≤ 1
 one-small true = omega arith
 one-small false = omega arith
 

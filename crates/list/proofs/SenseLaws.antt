@@ -3,7 +3,7 @@ use mathlib.Core.Path.{_≡_, refl, sym, _∙_}
 use mathlib.Core.Logic.{_⊎_, inl, inr}
 use Prim.Native.Nat.{ℕ, zero, suc, _+_, _≤_, _<_, min}
 use native.Mathlib.Omega.{arith}
-use mathlib.Core.Bool.{true, false, _&&_}
+use mathlib.Core.Bool.{true, false, _&&_, and-false, or-true}
 use mathlib.Core.List.{List, [], _∷_}
 use lib.Dec.{eqb, leb}
 use lib.ListN.{length, getD}
@@ -17,7 +17,6 @@ use Rattle.list.specs.Sense.{Steady, numberOrEnd}
 use Rattle.list.proofs.SeekLaws.{count-length, count-under, count-passed, count-ahead}
 use Rattle.list.proofs.WalkLaws.{pairs, walked-names}
 use Rattle.list.proofs.KeptLaws.{Kept}
-use Rattle.list.proofs.TestLaws.{and-none, or-right}
 
 -- the numbers from place i on reach x, where there are any
 next-count : (xs : List ℕ) (x i : ℕ) → Ascends xs → (i < length xs → x ≤ getD xs i 0) → countBelow x xs ≤ i
@@ -30,7 +29,7 @@ pub among-at : (xs : List ℕ) (y i : ℕ) → i < length xs → getD xs i 0 ≡
 unfolding among
 among-at [] y i h e = absurd (omega arith)
 among-at (x ∷ xs) y zero h e = rw (eq-eqb y x (sym e))
-among-at (x ∷ xs) y (suc i) h e = rw (among-at xs y i (omega arith) e) (or-right (eqb y x))
+among-at (x ∷ xs) y (suc i) h e = rw (among-at xs y i (omega arith) e) (or-true (eqb y x))
 
 pub among-none : (xs : List ℕ) (y : ℕ) → ((i : ℕ) → i < length xs → getD xs i 0 ≡ y → ⊥) → among xs y ≡ false
 unfolding among
@@ -43,11 +42,11 @@ unfolding names pairs
 names-at [] U y i e h a b = absurd (omega arith)
 names-at (l ∷ L) [] y i e h a b = absurd (omega arith)
 names-at (l ∷ L) (u ∷ U) y zero e h a b = rw (le-leb l y a, le-leb y u b)
-names-at (l ∷ L) (u ∷ U) y (suc i) e h a b = rw (names-at L U y i (omega arith) (omega arith) a b) (or-right (leb l y && leb y u))
+names-at (l ∷ L) (u ∷ U) y (suc i) e h a b = rw (names-at L U y i (omega arith) (omega arith) a b) (or-true (leb l y && leb y u))
 
 outside : (l u y : ℕ) → (y < l) ⊎ (u < y) → leb l y && leb y u ≡ false
 outside l u y (inl h) = rw (lt-leb l y h)
-outside l u y (inr h) = rw (lt-leb y u h) (and-none (leb l y))
+outside l u y (inr h) = rw (lt-leb y u h) (and-false (leb l y))
 
 pub names-none : (L U : List ℕ) (y : ℕ) → ((i : ℕ) → i < length L → (y < getD L i 0) ⊎ (getD U i 0 < y)) → names (pairs L U) y ≡ false
 unfolding names pairs
@@ -112,7 +111,7 @@ module _ (S L U : List ℕ) (n x : ℕ) (k : Kept n S L U) where
       record {
         later = omega arith;
         near = omega arith;
-        same = λ y l u. walked-names S L U (k .long) y ∙ rw (names-at L U y (countBelow x U) (k .long) h (omega arith) (omega arith)) (or-right (among S y));
+        same = λ y l u. walked-names S L U (k .long) y ∙ rw (names-at L U y (countBelow x U) (k .long) h (omega arith) (omega arith)) (or-true (among S y));
       }
 
   -- s and l are what is next on each side

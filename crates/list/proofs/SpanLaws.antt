@@ -6,10 +6,10 @@ use native.Mathlib.Nat.{lt-of-not-le}
 use native.Mathlib.Decide.{decLe}
 use mathlib.Core.Bool.{Bool, true, false}
 use mathlib.Core.List.{List, [], _∷_, _++_}
-use lib.ListN.{length, getD, drop, set, length-append}
+use lib.ListN.{length, getD, drop, length-append}
 use lib.Seq.{sets}
 use borrow.Author.Tests.{le-leb}
-use Rattle.laws.proofs.Lists.{drop-two, drop-none}
+use Rattle.laws.proofs.Lists.{drop-two, drop-none, sets-append}
 use Rattle.list.specs.Interval.{isProper, names, records}
 use Rattle.list.specs.Stretches.{kept, recordsFrom, recordsOf}
 use Rattle.list.proofs.ProperLaws.{ProperFrom, proper-facts}
@@ -76,14 +76,8 @@ spans-length (l ∷ []) = refl
 spans-length (l ∷ u ∷ r) = simp (length-append, count-up-length, spans-length r)
 
 -- what is stored in two parts, the first of them a range
-sets-parts : (out : List ℕ) (k : ℕ) (vs ws : List ℕ) → sets out k (vs ++ ws) ≡ sets (sets out k vs) (k + length vs) ws
-sets-parts out k [] ws = let e : k + 0 ≡ k = omega arith in rw e
-sets-parts out k (v ∷ vs) ws =
-    let e : suc k + length vs ≡ k + suc (length vs) = omega arith in
-    sets-parts (set out k v) (suc k) vs ws ∙ rw e
-
 pub sets-range : (out out′ : List ℕ) (k x m : ℕ) (ws : List ℕ) → out′ ≡ sets out k (countUp x m) → sets out k (countUp x m ++ ws) ≡ sets out′ (k + m) ws
-sets-range out out′ k x m ws e = sets-parts out k (countUp x m) ws ∙ rw (← e, count-up-length x m)
+sets-range out out′ k x m ws e = sets-append out k (countUp x m) ws ∙ rw (← e, count-up-length x m)
 
 -- ---- they are the numbers that a proper list names. p is a test that agrees with the list from x on
 

@@ -5,7 +5,7 @@ use native.Mathlib.Nat.{le-antisymm, lt-of-not-le, add-zero, sub-zero}
 use native.Mathlib.Decide.{decLe}
 use native.Mathlib.Omega.{arith}
 use mathlib.Core.Bool.{Bool, true, false}
-use mathlib.Core.List.{List, [], _∷_}
+use mathlib.Core.List.{List, [], _∷_, _++_}
 use lib.ListN.{length}
 use Rattle.laws.proofs.Tests.{true-false}
 use Rattle.list.specs.Interval.{isProper, names, intervals}
@@ -194,11 +194,25 @@ cells-limit p n m h f = is-cells p m (cellsOf p n) (cells-proper p n m h) (λ x 
     within x g w (yes d) = cells-names p n x g d
     within x g w (no d) = let a = lt-of-not-le d in cells-names-above p n x a ∙ sym (f x a w)
 
--- ---- the jump over numbers of one value
+-- ---- the cell that a number brings
 
-turned-same : (v : Bool) (x : ℕ) (r : List ℕ) → turned v v x r ≡ r
+pub turned-same : (v : Bool) (x : ℕ) (r : List ℕ) → turned v v x r ≡ r
 turned-same true x r = refl
 turned-same false x r = refl
+
+pub turned-append : (b v : Bool) (x : ℕ) (r s : List ℕ) → turned b v x (r ++ s) ≡ turned b v x r ++ s
+turned-append false false x r s = refl
+turned-append false true x r s = refl
+turned-append true false x r s = refl
+turned-append true true x r s = refl
+
+pub turned-length : (b v : Bool) (x : ℕ) (r : List ℕ) → length (turned b v x r) ≤ length r + 1
+turned-length false false x r = omega arith
+turned-length false true x r = omega arith
+turned-length true false x r = omega arith
+turned-length true true x r = omega arith
+
+-- ---- the jump over numbers of one value
 
 -- j numbers of the value before them bring no cell
 pub stretches-skip : (p : ℕ → Bool) (v : Bool) (j x k : ℕ) → j ≤ k → ((y : ℕ) → x ≤ y → y < x + j → p y ≡ v) →
@@ -255,12 +269,6 @@ proper-length n c e = proper-even n 1 c (proper-facts n 1 c e)
 
 pub cells-even : (p : ℕ → Bool) (n : ℕ) → 2 * intervals (cellsOf p n) ≡ length (cellsOf p n)
 cells-even p n = proper-even n 1 (cellsOf p n) (cells-proper-from p n n (omega arith))
-
-turned-length : (b v : Bool) (x : ℕ) (r : List ℕ) → length (turned b v x r) ≤ length r + 1
-turned-length false false x r = omega arith
-turned-length false true x r = omega arith
-turned-length true false x r = omega arith
-turned-length true true x r = omega arith
 
 pub stretches-length : (p : ℕ → Bool) (b : Bool) (x k : ℕ) → length (stretches p b x k) ≤ k + 1
 unfolding stretches

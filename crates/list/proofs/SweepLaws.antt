@@ -11,8 +11,8 @@ use Rattle.laws.proofs.Tests.{true-false, leb-cases}
 use Rattle.laws.proofs.Lists.{sets-two, sets-front, sets-append}
 use Rattle.list.specs.Interval.{intervals, records}
 use Rattle.list.specs.Stretches.{turned, stretches, cellsOf, recordsFrom, recordsOf}
-use Rattle.list.proofs.StretchLaws.{cells-start, stretches-on, stretches-end}
-use Rattle.list.proofs.RecordLaws.{recordsFrom-parts, records-count}
+use Rattle.list.proofs.StretchLaws.{cells-start, cells-length, stretches-on, stretches-end}
+use Rattle.list.proofs.RecordLaws.{recordsFrom-parts, recordsFrom-length, records-count}
 
 -- the numbers below x are swept: k cells are done, recs records are counted, and b says whether x - 1 is in
 pub record Swept (p : ℕ → Bool) (n : ℕ) (writing : Bool) (out₀ out : List ℕ) (b : Bool) (x k recs : ℕ) : Type 0 where
@@ -37,6 +37,22 @@ swept-start p n w out = record {
     by-mode : (w : Bool) → out ≡ cond w (sets out 0 []) out
     by-mode true = refl
     by-mode false = refl
+
+-- ---- how much is counted and written
+
+module _ {p : ℕ → Bool} {n : ℕ} {writing : Bool} {out₀ out : List ℕ} {b : Bool} {x k recs : ℕ} (s : Swept p n writing out₀ out b x k recs) where
+  pub swept-cells-few : k ≤ n + 1
+  swept-cells-few = omega (arith, s .count, ap length (s .left), length-append (s .done) (stretches p b x (n + 1 - x)), cells-length p n)
+
+  pub swept-records-few : recs ≤ n
+  swept-records-few = let h = s .near in omega (arith, s .members, recordsFrom-length p 1 (x - 1))
+
+  pub swept-length : length out ≡ length out₀
+  swept-length = ap length (s .written) ∙ go writing
+    where
+      go : (w : Bool) → length (cond w (sets out₀ 0 (s .done)) out₀) ≡ length out₀
+      go true = length-sets out₀ 0 (s .done)
+      go false = refl
 
 -- ---- the members of a stretch of one value
 

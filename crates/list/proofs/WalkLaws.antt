@@ -2,12 +2,12 @@
 use mathlib.Core.Path.{_≡_, refl, sym, ap}
 use Prim.Native.Nat.{ℕ, zero, suc, _+_, _-_, _*_, _≤_, _<_}
 use native.Mathlib.Omega.{arith}
-use mathlib.Core.Bool.{Bool, true, false, cond, _&&_, _||_}
+use mathlib.Core.Bool.{Bool, true, false, cond, _&&_, _||_, or-assoc}
 use mathlib.Core.List.{List, [], _∷_}
 use lib.Dec.{eqb, leb, ltb}
 use lib.ListN.{length, getD, drop}
-use borrow.Author.Tests.{lt-ltb, le-ltb, ltb-true, ltb-false, leb-true, le-leb, eqb-true, eq-eqb}
-use Rattle.laws.proofs.Tests.{true-false, and-both, both-and, by-test, same-test}
+use borrow.Author.Tests.{lt-ltb, le-ltb, ltb-true, ltb-false, leb-true, le-leb}
+use Rattle.laws.proofs.Tests.{true-false, by-test, same-test, leb-both}
 use Rattle.laws.proofs.Lists.{drop-next, drop-none}
 use Rattle.list.specs.declared.Place.{Place}
 use Rattle.list.specs.Interval.{names}
@@ -15,7 +15,6 @@ use Rattle.list.specs.Convert.{among}
 use Rattle.list.specs.Ginix.{one, belowCount}
 use Rattle.list.specs.Kept.{singleNext, moved, walkFrom, walked}
 use Rattle.list.specs.Seek.{countBelow}
-use Rattle.list.proofs.TestLaws.{or-assoc, or-swap}
 
 -- ---- which side is next
 
@@ -94,11 +93,11 @@ begunCount b [] = 0
 begunCount b (l ∷ []) = 0
 begunCount b (l ∷ u ∷ r) = one (leb l b) + begunCount b r
 
-equal-test : (x s : ℕ) → leb s x && leb x s ≡ eqb x s
-equal-test x s =
-    same-test (leb s x && leb x s) (eqb x s)
-    (λ e. let w = and-both (leb s x) (leb x s) e in let a = leb-true s x (w .0) in let b = leb-true x s (w .1) in eq-eqb x s (omega arith))
-    (λ e. let a = eqb-true x s e in both-and (leb s x) (leb x s) (le-leb s x (omega arith)) (le-leb x s (omega arith)))
+or-swap : (a b c : Bool) → a || (b || c) ≡ b || (a || c)
+or-swap true true c = refl
+or-swap true false c = refl
+or-swap false true c = refl
+or-swap false false c = refl
 
 leb-ltb : (l b : ℕ) → leb l b ≡ ltb l (b + 1)
 leb-ltb l b =
@@ -110,7 +109,7 @@ module _ (x : ℕ) where
   pub weave-names : {S L U c : List ℕ} → Weave S L U c → names c x ≡ among S x || names (pairs L U) x
   unfolding names among pairs
   weave-names none = refl
-  weave-names (single s S L U c w) = rw (weave-names w, equal-test x s) (or-assoc (eqb x s) (among S x) (names (pairs L U) x))
+  weave-names (single s S L U c w) = rw (weave-names w, leb-both x s) (sym (or-assoc (eqb x s) (among S x) (names (pairs L U) x)))
   weave-names (pair l u S L U c w) = rw (weave-names w) (or-swap (leb l x && leb x u) (among S x) (names (pairs L U) x))
 
   pub weave-below : {S L U c : List ℕ} → Weave S L U c → belowCount x c ≡ countBelow x S + countBelow x U

@@ -25,7 +25,8 @@ fn number_or_end(region: &[u8], i: usize) -> u32
     }
 }
 
-fn smaller(a: u32, b: u32) -> u32
+// The smaller of two numbers, as of two places up to which something stays so.
+pub fn smaller(a: u32, b: u32) -> u32
     ensures { λ r. ⌜ r ≡ min a b ⌝ }
 {
     if a < b { a } else { b }

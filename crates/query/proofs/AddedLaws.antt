@@ -2,12 +2,11 @@
 use mathlib.Core.Path.{_≡_, refl, sym, ap, _∙_}
 use Prim.Native.Nat.{ℕ, _+_, _*_, _<_}
 use native.Mathlib.Omega.{arith}
-use mathlib.Core.Bool.{Bool, false, _||_}
+use mathlib.Core.Bool.{Bool, false, _||_, or-false, or-assoc}
 use mathlib.Core.List.{List}
 use lib.ListN.{length, replicate}
 use Rattle.window.specs.Window.{bitAt, Holds}
 use Rattle.window.specs.Filled.{within, Filled}
-use Rattle.window.proofs.TruthLaws.{or-false, or-assoc}
 use Rattle.window.proofs.HoldLaws.{bits-zeros}
 use Rattle.query.specs.Engine.{Added}
 
@@ -25,7 +24,7 @@ pub added-both : (p q : ℕ → Bool) (base : ℕ) (xs ys zs : List ℕ) → Add
 added-both p q base xs ys zs a b = record {
   long = b .long ∙ a .long;
   bits = λ n h. let w = a .long in
-      b .bits n (omega arith) ∙ ap (λ (t : Bool). t || q (base + n)) (a .bits n h) ∙ sym (or-assoc (bitAt xs n) (p (base + n)) (q (base + n)));
+      b .bits n (omega arith) ∙ ap (λ (t : Bool). t || q (base + n)) (a .bits n h) ∙ or-assoc (bitAt xs n) (p (base + n)) (q (base + n));
 }
 
 -- a blank window holds what was added to it
@@ -51,7 +50,7 @@ module _ (p : ℕ → Bool) (base : ℕ) where
     long = g .long ∙ f .long;
     bits = λ n l. let w = f .long in
         ap (λ (t : Bool). t || next (base + n)) (g .bits n (omega arith))
-        ∙ sym (or-assoc (bitAt ws n) (within a e n) (next (base + n)))
+        ∙ or-assoc (bitAt ws n) (within a e n) (next (base + n))
         ∙ ap (λ (t : Bool). bitAt ws n || t) (sym (h n l))
         ∙ f .bits n l;
   }

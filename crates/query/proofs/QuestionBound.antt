@@ -1,5 +1,5 @@
 -- The list of a question has no more intervals than the lists of its words together: it can only change where one of them does.
-use Prim.Native.Nat.{ℕ, zero, suc, _+_, _*_, _-_, _/_, _≤_, _<_}
+use Prim.Native.Nat.{ℕ, zero, suc, _+_, _-_, _/_, _≤_, _<_}
 use native.Mathlib.Omega.{arith}
 use mathlib.Core.Path.{_≡_, refl, sym, ap, ap₂, _∙_}
 use mathlib.Core.Bool.{Bool, false}
@@ -9,18 +9,14 @@ use lib.ListN.{length, getD, length-append}
 use borrow.Author.Tests.{ltb-true, lt-ltb, le-ltb}
 use Rattle.laws.proofs.Tests.{by-test, leb-cases}
 use Rattle.list.specs.Interval.{properFrom, isProper, names, intervals}
-use Rattle.list.specs.Cell.{numbersIn}
 use Rattle.list.specs.Stretches.{cellsOf}
-use Rattle.list.proofs.CellLaws.{numbersIn-length}
-use Rattle.list.proofs.WalkLaws.{walked-length}
-use Rattle.list.proofs.KeptLaws.{kept-facts}
 use Rattle.list.proofs.NamesLaws.{proper-names-zero}
 use Rattle.list.proofs.StretchLaws.{cells-same, proper-cells, is-cells}
 use Rattle.list.proofs.BoundLaws.{Still, AllOut, together, cells-bound}
-use Rattle.index.specs.Format.{wordCount, highest, listStart, singleCount, pairCount, singlesOf, lowerOf, upperOf, listOf}
+use Rattle.index.specs.Format.{wordCount, highest, singlesOf, lowerOf, listOf}
 use Rattle.index.specs.Sound.{Sound}
 use Rattle.index.specs.Has.{has}
-use Rattle.index.proofs.SoundLaws.{sound-length, sound-list, sound-list-room, singles-length, lower-length}
+use Rattle.index.proofs.EntryIntervals.{entry-intervals, entry-few}
 use Rattle.index.proofs.HasLaws.{list-proper}
 use Rattle.question.specs.declared.token.Op.{Op}
 use Rattle.question.specs.declared.token.Op.the-variants.{And, Or, Not}
@@ -32,27 +28,6 @@ use Rattle.query.specs.Slots.{slotHas, slotFits}
 use Rattle.query.specs.Compile.{Slots}
 use Rattle.query.specs.Bound.{slotIntervals, slotsIntervals}
 use Rattle.query.proofs.WholeLaws.{slot-fits}
-
--- ---- one list
-
-module _ (index : List ℕ) (s : Sound index) (i : ℕ) (h : i < wordCount index) where
-  pub entry-intervals : intervals (listOf index i) ≡ length (singlesOf index i) / 4 + length (lowerOf index i) / 4
-  unfolding listOf
-  entry-intervals =
-      let S = numbersIn (singlesOf index i) in
-      let L = numbersIn (lowerOf index i) in
-      let U = numbersIn (upperOf index i) in
-      let w = walked-length S L U (kept-facts (highest index) S L U (sound-list index s i h) .long) in
-      omega (arith, numbersIn-length (singlesOf index i), numbersIn-length (lowerOf index i))
-
-  -- four bytes an interval at least
-  pub entry-few : intervals (listOf index i) ≤ 4194304
-  entry-few =
-      few (listStart index i) (singleCount index i) (pairCount index i) (length index) (intervals (listOf index i)) (length (singlesOf index i)) (length (lowerOf index i))
-      (sound-list-room index s i h) (sound-length index s .1) (singles-length index s i h) (lower-length index s i h) entry-intervals
-    where
-      few : (x a b size n l m : ℕ) → x + 4 * a + 8 * b ≤ size → size ≤ 16777216 → l ≡ 4 * a → m ≡ 4 * b → n ≡ l / 4 + m / 4 → n ≤ 4194304
-      few x a b size n l m r z e f g = omega arith
 
 -- ---- one slot
 

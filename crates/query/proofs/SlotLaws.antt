@@ -5,24 +5,15 @@ use mathlib.Core.Bool.{Bool, false}
 use mathlib.Core.List.{List}
 use lib.ListN.{length, getD}
 use borrow.Author.Tests.{lt-ltb, le-ltb}
-use Rattle.list.specs.Cell.{numbersIn}
-use Rattle.list.specs.Interval.{top, names}
-use Rattle.list.specs.Reading.{KeptIn, listIn}
-use Rattle.list.proofs.KeptLaws.{kept-weaker}
-use Rattle.index.specs.Format.{wordCount, highest, singlesOf, lowerOf, upperOf, listOf}
-use Rattle.index.specs.Sound.{Sound}
-use Rattle.index.proofs.SoundLaws.{sound-trailer, sound-list}
+use Rattle.list.specs.Interval.{names}
+use Rattle.list.specs.Reading.{listIn}
+use Rattle.index.specs.Format.{wordCount, singlesOf, lowerOf, upperOf, listOf}
 use Rattle.question.specs.declared.token.Op.{Op}
 use Rattle.question.specs.Grammar.{Tree, word, pair, part, wordsOf}
 use Rattle.question.specs.Meaning.{combine}
 use Rattle.query.specs.Slots.{slotHas, slotFits}
 
 -- ---- the list of a slot
-
-pub entry-kept : (index : List ℕ) → Sound index → (i : ℕ) → i < wordCount index → KeptIn top (singlesOf index i) (lowerOf index i) (upperOf index i)
-entry-kept index s i h =
-    kept-weaker (highest index) top (numbersIn (singlesOf index i)) (numbersIn (lowerOf index i)) (numbersIn (upperOf index i))
-    (sound-trailer index s .highest-bound) (sound-list index s i h)
 
 module _ (index entries : List ℕ) (k : ℕ) where
   pub slot-lists : getD entries k 0 < wordCount index → (x : ℕ) →

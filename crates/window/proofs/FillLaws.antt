@@ -5,7 +5,7 @@ use native.Mathlib.Nat.{lt-of-not-le}
 use native.Mathlib.Decide.{decLe, ℕ-discrete}
 use native.Mathlib.Omega.{arith}
 use mathlib.Core.List.{List}
-use mathlib.Core.Bool.{Bool, true, false, _||_, _&&_}
+use mathlib.Core.Bool.{Bool, true, false, _||_, _&&_, and-true, and-false, or-true, or-false, or-assoc}
 use lib.Bits.{bitAnd, bitOr}
 use lib.Dec.{leb, ltb}
 use lib.ListN.{length, getD, set, length-set}
@@ -14,7 +14,6 @@ use borrow.Author.Tests.{le-leb, lt-leb, lt-ltb, le-ltb}
 use Rattle.window.specs.Bit.{on}
 use Rattle.window.specs.Window.{bitAt}
 use Rattle.window.specs.Filled.{within, Filled}
-use Rattle.window.proofs.TruthLaws.{or-false, or-true, or-assoc, and-true, and-false}
 use Rattle.window.proofs.BitLaws.{on-and, on-or, on-from, on-upto, on-ones, on-one}
 
 pub within-in : (a e n : ℕ) → a ≤ n → n < e → within a e n ≡ true
@@ -131,7 +130,7 @@ pub filled-join : (xs ys zs : List ℕ) (a e e′ : ℕ) → a ≤ e → e ≤ e
 filled-join xs ys zs a e e′ p q f g = record {
   long = g .long ∙ f .long;
   bits = λ n h. let w = f .long in
-      g .bits n (omega arith) ∙ ap (λ (t : Bool). t || within e e′ n) (f .bits n h) ∙ sym (or-assoc (bitAt xs n) (within a e n) (within e e′ n))
+      g .bits n (omega arith) ∙ ap (λ (t : Bool). t || within e e′ n) (f .bits n h) ∙ or-assoc (bitAt xs n) (within a e n) (within e e′ n)
       ∙ ap (λ (t : Bool). bitAt xs n || t) (meet a e e′ n p q (decLe a n) (decLe e n));
 }
 

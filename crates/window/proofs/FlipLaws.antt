@@ -7,6 +7,7 @@ use mathlib.Core.List.{List, [], _∷_, _++_}
 use mathlib.Core.Bool.{Bool, true, false, not}
 use lib.ListN.{length}
 use Rattle.list.specs.Stretches.{turned, stretches}
+use Rattle.list.proofs.StretchLaws.{turned-same, turned-append, turned-length}
 use Rattle.window.specs.Bit.{set?}
 use Rattle.window.specs.Flips.{odd, flips, before}
 
@@ -19,12 +20,6 @@ flips-none p b x = refl
 pub before-next : (p : ℕ → Bool) (x k : ℕ) → before p (p x) (x + 1) k ≡ p (x + k)
 before-next p x zero = ap p (omega arith)
 before-next p x (suc k) = let e : x + 1 + k ≡ x + suc k = omega arith in ap p e
-
-turned-append : (b c : Bool) (x : ℕ) (r s : List ℕ) → turned b c x (r ++ s) ≡ turned b c x r ++ s
-turned-append false false x r s = refl
-turned-append false true x r s = refl
-turned-append true false x r s = refl
-turned-append true true x r s = refl
 
 pub flips-add : (p : ℕ → Bool) (b : Bool) (x m k : ℕ) → flips p b x (m + k) ≡ flips p b x m ++ flips p (before p b x m) (x + m) k
 unfolding flips
@@ -47,10 +42,10 @@ stretches-add p b x (suc m) k =
 -- ---- by agreeing tests
 
 -- tests that agree on the numbers from x on agree at x, and on those from x + 1 on
-pub agree-first : (p q : ℕ → Bool) (x k : ℕ) → ((i : ℕ) → i < suc k → p (x + i) ≡ q (x + i)) → p x ≡ q x
+agree-first : (p q : ℕ → Bool) (x k : ℕ) → ((i : ℕ) → i < suc k → p (x + i) ≡ q (x + i)) → p x ≡ q x
 agree-first p q x k h = let z : x + 0 ≡ x = omega arith in rw z at (h 0 (omega arith))
 
-pub agree-next : (p q : ℕ → Bool) (x k : ℕ) → ((i : ℕ) → i < suc k → p (x + i) ≡ q (x + i)) → (i : ℕ) → i < k → p (x + 1 + i) ≡ q (x + 1 + i)
+agree-next : (p q : ℕ → Bool) (x k : ℕ) → ((i : ℕ) → i < suc k → p (x + i) ≡ q (x + i)) → (i : ℕ) → i < k → p (x + 1 + i) ≡ q (x + 1 + i)
 agree-next p q x k h i l = let s : x + suc i ≡ x + 1 + i = omega arith in rw s at (h (suc i) (omega arith))
 
 pub flips-agree : (p q : ℕ → Bool) (b : Bool) (x k : ℕ) → ((i : ℕ) → i < k → p (x + i) ≡ q (x + i)) → flips p b x k ≡ flips q b x k
@@ -60,10 +55,6 @@ flips-agree p q b x (suc k) h =
     rw (agree-first p q x k h) (ap (turned b (q x) x) (flips-agree p q (q x) (x + 1) k (agree-next p q x k h)))
 
 -- ---- over a constant stretch
-
-turned-same : (v : Bool) (x : ℕ) (r : List ℕ) → turned v v x r ≡ r
-turned-same true x r = refl
-turned-same false x r = refl
 
 pub flips-still : (p : ℕ → Bool) (v : Bool) (x k : ℕ) → ((i : ℕ) → i < k → p (x + i) ≡ v) → flips p v x k ≡ []
 unfolding flips
@@ -119,16 +110,10 @@ flips-parity p b x zero k e = rw (add-zero k) e
 flips-parity p b x (suc m) k e =
     parity-turn b (p x) (p (x + m)) x k (flips p (p x) (x + 1) m) e (λ j g. flips-parity p (p x) (x + 1) m j g ∙ before-next p x m)
 
-turned-short : (b c : Bool) (x : ℕ) (r : List ℕ) → length (turned b c x r) ≤ suc (length r)
-turned-short false false x r = omega arith
-turned-short false true x r = omega arith
-turned-short true false x r = omega arith
-turned-short true true x r = omega arith
-
 pub flips-short : (p : ℕ → Bool) (b : Bool) (x k : ℕ) → length (flips p b x k) ≤ k
 unfolding flips
 flips-short p b x zero = omega arith
 flips-short p b x (suc k) =
     let h = flips-short p (p x) (x + 1) k in
-    let g = turned-short b (p x) x (flips p (p x) (x + 1) k) in
+    let g = turned-length b (p x) x (flips p (p x) (x + 1) k) in
     omega arith

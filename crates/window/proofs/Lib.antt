@@ -1,5 +1,3 @@
-pub mod TruthLaws
-pub mod ListLaws
 pub mod BitLaws
 pub mod MarkLaws
 pub mod FlipLaws
@@ -7,6 +5,5 @@ pub mod WordFlips
 pub mod CombineLaws
 pub mod FillLaws
 pub mod HoldLaws
-pub mod EmptyLaws
 pub mod MemberLaws
 pub mod SweepLaws

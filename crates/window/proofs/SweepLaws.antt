@@ -4,12 +4,10 @@ use Prim.Native.Nat.{ℕ, zero, suc, _+_, _-_, _*_, _%_, _≤_, _<_}
 use native.Mathlib.Omega.{arith}
 use mathlib.Core.List.{List, [], _∷_, _++_}
 use mathlib.Core.Bool.{Bool, true, false}
-use lib.ListN.{length, length-append}
-use lib.Seq.{sets}
+use lib.ListN.{length}
 use Rattle.list.specs.Stretches.{turned, stretches}
 use Rattle.window.specs.Window.{member, Holds}
 use Rattle.window.specs.Flips.{odd, flips}
-use Rattle.window.proofs.ListLaws.{sets-append}
 use Rattle.window.proofs.FlipLaws.{stretches-add, flips-constant, flips-parity}
 use Rattle.window.proofs.MemberLaws.{flips-held}
 
@@ -22,26 +20,12 @@ module _ (p : ℕ → Bool) (x m n k : ℕ) (le : m ≤ n) (vs : List ℕ) (same
       (ap (stretches p (odd k) x) e ∙ stretches-add p (odd k) x m (n - m)
       ∙ ap (λ (b : Bool). flips p (odd k) x m ++ stretches p b (x + m) (n - m)) (sym (flips-parity p (odd k) x m k refl)))
 
-  pub part-count : k + length (stretches p (odd k) x n) ≡ k + length vs + length (stretches p (odd (k + length vs)) (x + m) (n - m))
-  part-count =
-      ap (λ (l : List ℕ). k + length l) part-turn
-      ∙ rw (length-append vs (stretches p (odd (k + length vs)) (x + m) (n - m))) (omega arith)
-
-  pub part-sets : (out : List ℕ) → sets out k (stretches p (odd k) x n) ≡ sets (sets out k vs) (k + length vs) (stretches p (odd (k + length vs)) (x + m) (n - m))
-  part-sets out = ap (sets out k) part-turn ∙ sets-append out k vs (stretches p (odd (k + length vs)) (x + m) (n - m))
-
 -- the cells of a window that holds p, and of a jump over numbers at which p is v
 pub window-part : (p : ℕ → Bool) (x k m : ℕ) (ws : List ℕ) → m ≡ 64 * length ws → Holds p x ws → flips (member ws x) (odd k) x (64 * length ws) ≡ flips p (odd k) x m
 window-part p x k m ws e h = rw e (flips-held p (odd k) x (64 * length ws) ws (omega arith) h)
 
 pub jump-part : (p : ℕ → Bool) (v : Bool) (x k m : ℕ) → 1 ≤ m → ((i : ℕ) → i < m → p (x + i) ≡ v) → turned (odd k) v x [] ≡ flips p (odd k) x m
 jump-part p v x k m l h = sym (flips-constant p (odd k) v x m l h)
-
--- behind a jump the parity of the count is the value jumped over
-pub jump-parity : (v : Bool) (x k : ℕ) → odd (k + length (turned (odd k) v x [])) ≡ v
-jump-parity v x k =
-    let h = jump-part (λ n. v) v x k 1 (omega arith) (λ i l. refl) in
-    rw h (flips-parity (λ n. v) (odd k) x 1 k refl)
 
 -- ---- the cell of a jump, by the parity
 

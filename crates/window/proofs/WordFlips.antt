@@ -5,18 +5,16 @@ use native.Mathlib.Nat.{add-zero, pow-suc, mod-lt}
 use native.Mathlib.Numerals.{one-add}
 use native.Mathlib.Omega.{arith}
 use mathlib.Core.List.{List, [], _∷_, _++_}
-use mathlib.Core.Bool.{Bool, true, false, _||_}
+use mathlib.Core.Bool.{Bool, true, false, _||_, or-false}
 use lib.Bits.{bitOr, bitXor, or-lt, xor-lt}
 use lib.Count.{trailingZeros, ones, ones-le}
 use lib.ListN.{length, set, length-append}
 use lib.Pow.{pow-pos, shr-lt}
 use lib.Seq.{sets}
-use Rattle.laws.proofs.Lists.{sets-one}
+use Rattle.laws.proofs.Lists.{sets-one, sets-append}
 use Rattle.list.specs.Stretches.{turned, kept}
 use Rattle.window.specs.Bit.{on, set?}
 use Rattle.window.specs.Flips.{odd, flips, before, marks, cellsAt}
-use Rattle.window.proofs.ListLaws.{sets-append}
-use Rattle.window.proofs.TruthLaws.{or-false}
 use Rattle.window.proofs.BitLaws.{differs, on-or, on-xor, on-suc, on-zero, on-low, on-up, on-below, on-high}
 use Rattle.window.proofs.MarkLaws.{places, marks-places, cleared, marks-next, marks-none}
 use Rattle.window.proofs.FlipLaws.{flips-add, flips-parity, before-next}

@@ -1,9 +1,8 @@
 -- A window: words of 64 bits, whose bits say of the records from a base on which are in.
 use mathlib.Core.Path.{_≡_}
 use Prim.Native.Nat.{ℕ, _+_, _-_, _*_, _/_, _%_, _<_}
-use mathlib.Core.List.{List, [], _∷_}
-use mathlib.Core.Bool.{Bool, false, not, _&&_, _||_}
-use lib.Dec.{eqb}
+use mathlib.Core.List.{List}
+use mathlib.Core.Bool.{Bool, not, _&&_}
 use lib.ListN.{length, getD}
 use Rattle.window.specs.Bit.{on}
 
@@ -27,8 +26,3 @@ pub record Combined (f : Bool → Bool → Bool) (xs ys zs : List ℕ) : Type 0 
 -- in the first and not in the second
 abbrev pub without : Bool → Bool → Bool
 without a b = a && not b
-
--- whether a bit is set in any of the words
-unfoldable pub anySet : List ℕ → Bool
-anySet [] = false
-anySet (w ∷ ws) = not (eqb w 0) || anySet ws

@@ -1,11 +1,11 @@
-// How many records a window has, and whether it has any.
+// How many records a window has.
 ghost use mathlib.Core.Path.{_≡_};
 ghost use Prim.Native.Nat.{ℕ, _*_, _^_, _<_};
 ghost use lib.ListN.{length};
 ghost use Rattle.list.specs.Stretches.{recordsFrom};
-ghost use Rattle.window.specs.Window.{member, anySet};
+ghost use Rattle.window.specs.Window.{member};
 
-// How many records a window has, whichever record base is its first bit.
+// The number is the same whichever record base is its first bit.
 pub fn count_members(ws: &[u64]) -> usize
     requires { ⌜ 64 * length (now ws) < 2 ^ 64 ⌝ }
     ensures { λ r. ⌜ ((base : ℕ) → r ≡ length (recordsFrom (member (now (ws .entry)) base) base (64 * length (now (ws .entry))))) ⌝ }
@@ -17,17 +17,4 @@ pub fn count_members(ws: &[u64]) -> usize
         i += 1;
     }
     n
-}
-
-// Whether a window has any record: all words gathered without a branch, and looked at once.
-pub fn any_set(ws: &[u64]) -> bool
-    ensures { λ r. ⌜ r ≡ anySet (now (ws .entry)) ⌝ }
-{
-    let mut all: u64 = 0;
-    let mut i: usize = 0;
-    while i < ws.len() {
-        all = all | ws[i];
-        i += 1;
-    }
-    all != 0
 }

@@ -4,7 +4,7 @@ use native.Mathlib.Omega.{arith}
 use mathlib.Core.Path.{_≡_, refl, sym, ap, ap₂, _∙_}
 use mathlib.Core.Logic.{_⊎_, inl, inr, ⊎-elim}
 use mathlib.Core.List.{List, [], _∷_}
-use mathlib.Core.Bool.{Bool, true, false, not, cond, _&&_, _||_}
+use mathlib.Core.Bool.{Bool, true, false, not, cond, _&&_, _||_, and-true}
 use lib.Dec.{eqb, ltb}
 use lib.ListN.{length, getD, drop}
 use borrow.Author.Tests.{eqb-true, eqb-false, ltb-true, ltb-false, lt-ltb, le-ltb, eq-eqb, ne-eqb, le-leb, lt-leb}
@@ -12,6 +12,7 @@ use Rattle.laws.proofs.Tests.{true-false, and-both, both-and, or-either, by-tes
 use Rattle.laws.proofs.Lists.{drop-next, drop-none}
 use Rattle.word.specs.declared.Operator.{Operator}
 use Rattle.word.specs.declared.Operator.the-variants.{And, Or, Not, Neither}
+use Rattle.word.specs.declared.Order.{Order}
 use Rattle.word.specs.declared.Order.the-variants.{Before, Same, Behind}
 use Rattle.word.specs.Word.{isWordByte, allWordBytes, same, before, isAnd, isOr, isNot, isOperator, isWord, operatorOf, orderOf}
 
@@ -116,10 +117,6 @@ bytes-end s true i h = rw (drop-none s i h)
 bytes-end s false i h = refl
 
 -- ---- the operators, by length and bytes
-
-and-true : (a : Bool) → a && true ≡ a
-and-true true = refl
-and-true false = refl
 
 and-three : (a b c : Bool) → a && (b && (c && true)) ≡ a && b && c
 and-three true true c = and-true c
@@ -230,6 +227,38 @@ order-is-behind a b h = go (same a b) (before a b) (before b a) h (before-total 
     go true t u e f = absurd (let z : _≡_ {A = ℕ} 0 1 = cc in omega arith)
     go false true u e f = absurd (let z : _≡_ {A = ℕ} 0 1 = cc in omega arith)
     go false false u e f = f
+
+-- what an answer excludes
+pub order-same-not : (a b : List ℕ) → orderOf a b ≡ Same → before a b ≡ false
+order-same-not a b e = let q : a ≡ b = order-is-same a b e in rw q (before-irreflexive b)
+
+pub order-behind-not : (a b : List ℕ) → orderOf a b ≡ Behind → before a b ≡ false
+order-behind-not a b e =
+    by-test (before a b)
+    (λ t. true-false (sym (before-transitive a b a t (order-is-behind a b e)) ∙ before-irreflexive a))
+    (λ t. t)
+
+pub order-before-differ : (a b : List ℕ) → orderOf a b ≡ Before → a ≡ b → ⊥
+order-before-differ a b o e = let t : before b b ≡ true = rw e at (order-is-before a b o) in true-false (sym t ∙ before-irreflexive b)
+
+pub order-behind-differ : (a b : List ℕ) → orderOf a b ≡ Behind → a ≡ b → ⊥
+order-behind-differ a b o e = let t : before b b ≡ true = rw e at (order-is-behind a b o) in true-false (sym t ∙ before-irreflexive b)
+
+-- whether an answer is that the first stands before the second
+abbrev pub ascends : Order → Bool
+ascends Before = true
+ascends Same = false
+ascends Behind = false
+
+pub before-ascends : (a b : List ℕ) → before a b ≡ ascends (orderOf a b)
+unfolding orderOf
+before-ascends a b = go (same a b) (before a b) refl refl
+  where
+    go : (s t : Bool) → same a b ≡ s → before a b ≡ t → t ≡ ascends (cond s Same (cond t Before Behind))
+    go true true p q = let e = same-equal a b p in true-false (sym q ∙ rw e (before-irreflexive b))
+    go true false p q = refl
+    go false true p q = refl
+    go false false p q = refl
 
 -- ---- what may stand as a word, test by test
 

@@ -5,7 +5,8 @@ use denote.Ref.{now}
 use borrow.Author.Needs.{needs}
 use Rattle.refusal.specs.First.{first}
 use Rattle.build.specs.Lent.{wordsOf, wordTotal, badLent}
-use Rattle.build.proofs.GoodLaws.{words-bad, words-counted, place-none, counts-many, fair-counts, refused-limit, refused-word, refused-count, refused-number, none-refused}
+use Rattle.index.proofs.CheckLaws.{place-none}
+use Rattle.build.proofs.GoodLaws.{words-bad, words-counted, counts-many, fair-counts, refused-limit, refused-word, refused-count, refused-number, none-refused}
 use Rattle.build.proofs.build.check_lent.Statement.{statement}
 use Rattle.build.proofs.build.check_lent.Tie as tie
 

@@ -1,4 +1,4 @@
--- The invariant: the first bad list is the first from entry i on.
+-- The invariant: the first bad list is the first from entry k on.
 use Prim.Native.Nat.{_-_, _≤_}
 use mathlib.Core.Path.{_≡_, sym, _∙_}
 use native.Mathlib.Omega.{arith}
@@ -13,10 +13,10 @@ use Rattle.index.proofs.check.first_bad_list.Statement.{statement}
 use Rattle.index.proofs.check.first_bad_list.Tie as tie
 
 abbrev Inv-loop : tie.InvT-loop
-Inv-loop index trailer i₀ i = (i ≤ wordCount index) × (first (badList index) (wordCount index) ≡ firstFrom (badList index) i (wordCount index - i))
+Inv-loop index trailer k₀ k = (k ≤ wordCount index) × (first (badList index) (wordCount index) ≡ firstFrom (badList index) k (wordCount index - k))
 
 abbrev μ-loop : tie.MeasureT-loop
-μ-loop index trailer i₀ i = trailer .count - i
+μ-loop index trailer k₀ k = trailer .count - k
 
 loop-holds : tie.Need-loop-holds Inv-loop μ-loop
 loop-holds c =
@@ -30,7 +30,7 @@ list-good-requires c κs =
     let start = c .before .before .before .before .before in
     let at = c .before .before .before .loop in
     let index = now (start .args .index) in
-    let room = list-room index (start .args .trailer) (at .i) (c .entry-at .result) (start .pre .0) (c .entry-at .ensures) (start .pre .1 (at .i) (omega arith)) in
+    let room = list-room index (start .args .trailer) (at .k) (c .entry-at .result) (start .pre .0) (c .entry-at .ensures) (start .pre .1 (at .k) (omega arith)) in
     search needs
 
 returns : tie.Need-returns Inv-loop μ-loop
@@ -38,11 +38,11 @@ returns c =
     let start = c .before .before .before .before .before .before .before in
     let at = c .before .before .before .before .before .loop in
     let index = now (start .args .index) in
-    let rule = c .before .list-good .ensures (at .i) (c .before .before .entry-at .ensures) (start .pre .0 .is .highest) in
-    sym (at .inv .1 ∙ first-hit (badList index) (at .i) (wordCount index) (omega arith) (told-bad _ _ rule (c .if2 .taken)))
+    let rule = c .before .list-good .ensures (at .k) (c .before .before .entry-at .ensures) (start .pre .0 .is .highest) in
+    sym (at .inv .1 ∙ first-hit (badList index) (at .k) (wordCount index) (omega arith) (told-bad _ _ rule (c .if2 .taken)))
 
-add-i : tie.Need-add-i Inv-loop μ-loop
-add-i c = search needs
+add-k : tie.Need-add-k Inv-loop μ-loop
+add-k c = search needs
 
 loop-less : tie.Need-loop-less Inv-loop μ-loop
 loop-less c = search needs
@@ -52,14 +52,14 @@ loop-again c =
     let start = c .before .before .before .before .before .before .before in
     let at = c .before .before .before .before .before .loop in
     let index = now (start .args .index) in
-    let rule = c .before .list-good .ensures (at .i) (c .before .before .entry-at .ensures) (start .pre .0 .is .highest) in
-    (omega arith, at .inv .1 ∙ first-miss (badList index) (at .i) (wordCount index) (omega arith) (told-good _ _ rule (c .if2 .left)))
+    let rule = c .before .list-good .ensures (at .k) (c .before .before .entry-at .ensures) (start .pre .0 .is .highest) in
+    (omega arith, at .inv .1 ∙ first-miss (badList index) (at .k) (wordCount index) (omega arith) (told-good _ _ rule (c .if2 .left)))
 
 returns-2 : tie.Need-returns-2 Inv-loop μ-loop
 returns-2 c =
     let index = now (c .before .before .before .before .args .index) in
     let at = c .before .before .loop in
-    sym (at .inv .1 ∙ first-end (badList index) (at .i) (wordCount index) (omega arith))
+    sym (at .inv .1 ∙ first-end (badList index) (at .k) (wordCount index) (omega arith))
 
 pub first-bad-list-spec : {M : Type 1} → statement M
 first-bad-list-spec =
@@ -71,7 +71,7 @@ first-bad-list-spec =
     entry-at-requires
     list-good-requires
     returns
-    add-i
+    add-k
     loop-less
     loop-again
     returns-2)

@@ -1,14 +1,13 @@
 -- Test by test, in the definition's order.
 use Prim.Native.Nat.{_+_, _*_}
 use mathlib.Core.Path.{_≡_, sym, ap, _∙_}
-use mathlib.Core.Bool.{not}
+use mathlib.Core.Bool.{not, Bool·not-not}
 use native.Mathlib.Omega.{arith}
 use lib.Dec.{eqb}
 use lib.ListN.{length}
 use denote.Ref.{now}
 use borrow.Author.Needs.{needs}
 use Rattle.index.specs.Format.{directoryStart, wordCount, edition, entrySize}
-use Rattle.index.proofs.RuleLaws.{twice}
 use Rattle.index.proofs.FrameLaws.{trailer-highest, trailer-count, trailer-order, trailer-else}
 use Rattle.index.proofs.check.trailer_good.Statement.{statement}
 use Rattle.index.proofs.check.trailer_good.Tie as tie
@@ -34,7 +33,7 @@ returns-4 : tie.Need-returns-4
 returns-4 c =
     let index = now (c .before .before .before .before .before .before .before .before .args .index) in
     let e : c .place-of .result + 20 ≡ directoryStart index + entrySize (edition index) * wordCount index + 20 = omega arith in
-    ap (λ n. eqb n (length index)) e ∙ sym (ap not (trailer-else index (omega arith) (omega arith) (omega arith)) ∙ twice (eqb (directoryStart index + entrySize (edition index) * wordCount index + 20) (length index)))
+    ap (λ n. eqb n (length index)) e ∙ sym (ap not (trailer-else index (omega arith) (omega arith) (omega arith)) ∙ Bool·not-not (eqb (directoryStart index + entrySize (edition index) * wordCount index + 20) (length index)))
 
 pub trailer-good-spec : {M : Type 1} → statement M
 trailer-good-spec =

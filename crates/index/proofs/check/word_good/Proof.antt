@@ -2,7 +2,7 @@
 use mathlib.Core.Path.{sym, ap, _∙_}
 use denote.Ref.{now}
 use borrow.Author.Tests.{not-true, not-false}
-use Rattle.index.proofs.RuleLaws.{ascends, before-ascends}
+use Rattle.word.proofs.WordLaws.{ascends, before-ascends}
 use borrow.Author.Needs.{needs}
 use Rattle.index.proofs.check.word_good.Statement.{statement}
 use Rattle.index.proofs.check.word_good.Tie as tie

@@ -2,9 +2,9 @@
 use Prim.Native.Nat.{_<_}
 use mathlib.Core.Path.{sym, _∙_}
 use native.Mathlib.Omega.{arith}
-use Rattle.word.proofs.WordLaws.{order-is-same}
+use Rattle.word.proofs.WordLaws.{order-is-same, order-before-differ, order-behind-differ}
 use Rattle.index.specs.Format.{wordCount, wordOf}
-use Rattle.index.proofs.HasLaws.{order-before-differ, order-behind-differ, entry-found, place-nowhere}
+use Rattle.index.proofs.HasLaws.{entry-found, place-nowhere}
 use borrow.Author.Needs.{needs}
 use Rattle.index.proofs.find.find_word.Statement.{statement}
 use Rattle.index.proofs.find.find_word.Tie as tie

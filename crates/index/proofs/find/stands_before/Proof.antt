@@ -1,8 +1,7 @@
 -- Each answer of the comparison says which way the order falls.
 use mathlib.Core.Path.{sym, _∙_}
-use Rattle.word.proofs.WordLaws.{order-is-before}
+use Rattle.word.proofs.WordLaws.{order-is-before, order-same-not, order-behind-not}
 use Rattle.index.specs.Format.{wordOf}
-use Rattle.index.proofs.HasLaws.{order-same-not, order-behind-not}
 use borrow.Author.Needs.{needs}
 use Rattle.index.proofs.find.stands_before.Statement.{statement}
 use Rattle.index.proofs.find.stands_before.Tie as tie

@@ -6,8 +6,7 @@ use denote.Ref.{now}
 use lib.ListN.{getD}
 use borrow.Author.Needs.{needs}
 use Rattle.join.proofs.DueLaws.{leftSum}
-use Rattle.join.proofs.AnyLaws.{inAny}
-use Rattle.join.proofs.TallyLaws.{tallied-long}
+use Rattle.list.proofs.SweepLaws.{swept-length}
 use Rattle.join.proofs.ActiveLaws.{Line, line-start, line-list, line-goes, line-next, line-on, line-less, line-step, line-last, line-end, active-fits}
 use Rattle.join.proofs.active.sweep_active.Statement.{statement}
 use Rattle.join.proofs.active.sweep_active.Tie as tie
@@ -160,7 +159,7 @@ same-length c =
     let s = at .before .before .before .before .before .before .before .before in
     let a = s .args in
     let line = at .loop in
-    omega (arith, c .before .before .put .kept .0, tallied-long (inAny (now (a .index)) (now (a .entries))) (a .writing) (now (a .out)) (line .out) (line .tally) (line .active .lower) (line .inv .state .below))
+    omega (arith, c .before .before .put .kept .0, swept-length (line .inv .state .below .swept))
 
 returns : tie.Need-returns Inv-loop μ-loop
 returns c =

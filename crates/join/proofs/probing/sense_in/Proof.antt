@@ -1,5 +1,6 @@
 -- The three regions are the entry's, and keep the list rule.
-use Rattle.join.proofs.ListsLaws.{entry-ascends, entry-kept-in, entry-names}
+use Rattle.index.proofs.AnswerLaws.{list-kept}
+use Rattle.join.proofs.ListsLaws.{entry-ascends, entry-names}
 use borrow.Author.Needs.{needs}
 use Rattle.join.proofs.probing.sense_in.Statement.{statement}
 use Rattle.join.proofs.probing.sense_in.Tie as tie
@@ -24,7 +25,7 @@ sense-at-requires c κs =
     let start = c .before .before .before .before .before in
     let pre = start .pre in (
       rw (c .before .before .before .singles-of .ensures, c .before .before .lower-of .ensures, c .before .upper-of .ensures)
-          (entry-kept-in (start .args .index .now) (pre .0 .0) (start .args .entry) (pre .0 .1)),
+          (list-kept (start .args .index .now) (pre .0 .0) (start .args .entry) (pre .0 .1)),
       c .place-of .ensures,
       pre .1,
     )

@@ -7,8 +7,10 @@ use lib.ListN.{length, getD}
 use borrow.Author.Needs.{needs}
 use Rattle.list.specs.Reading.{Goes}
 use Rattle.join.specs.Places.{singlesIn, lowerIn}
-use Rattle.join.proofs.ListsLaws.{entry-walked, entry-intervals, entry-regions}
-use Rattle.join.proofs.GoingLaws.{Going, going-start, going-goes, going-long, going-end, going-within, going-ordered, going-fits, going-next}
+use Rattle.list.proofs.SweepLaws.{swept-length}
+use Rattle.index.proofs.EntryIntervals.{entry-walked, entry-intervals}
+use Rattle.join.proofs.ListsLaws.{entry-regions}
+use Rattle.join.proofs.GoingLaws.{Going, going-start, going-goes, going-end, going-within, going-ordered, going-fits, going-next}
 use Rattle.join.proofs.probing.sweep_probing.Statement.{statement}
 use Rattle.join.proofs.probing.sweep_probing.Tie as tie
 use Rattle.join.proofs.probing.sweep_probing.Reads as reads
@@ -166,7 +168,7 @@ same-length c =
     let j = first .shortest .result in
     let h = first .shortest .ensures .inside in
     let at = loop .loop in
-    going-long index entries (start .pre .0) j h (start .args .writing) (now (start .args .out)) (at .out) (at .tally) (at .at) (at .i) (at .inv .1)
+    swept-length (at .inv .1 .swept)
 
 returns : tie.Need-returns Inv-loop μ-loop
 returns c =

@@ -6,8 +6,7 @@ use denote.Ref.{now}
 use lib.ListN.{getD}
 use borrow.Author.Needs.{needs}
 use Rattle.join.proofs.DueLaws.{leftSum}
-use Rattle.join.proofs.AnyLaws.{inAny}
-use Rattle.join.proofs.TallyLaws.{tallied-long}
+use Rattle.list.proofs.SweepLaws.{swept-length}
 use Rattle.join.proofs.ScanLaws.{
   Scan,
   scan-start,
@@ -202,7 +201,7 @@ same-length c =
     let s = at .before .before .before .before .before .before .before .before in
     let a = s .args in
     let line = at .loop in
-    tallied-long (inAny (now (a .index)) (now (a .entries))) (a .writing) (now (a .out)) (line .out) (line .tally) (line .inv .stretch .x) (line .inv .stretch .below)
+    swept-length (line .inv .stretch .below .swept)
 
 returns : tie.Need-returns Inv-loop μ-loop
 returns c =

@@ -6,8 +6,9 @@ use denote.Ref.{now}
 use lib.ListN.{length, getD}
 use borrow.Author.Needs.{needs}
 use Rattle.list.specs.Kept.{start}
+use Rattle.list.proofs.SweepLaws.{swept-length}
 use Rattle.join.specs.Twin.{Lowers}
-use Rattle.join.proofs.TwinLaws.{Turning, standing-start, turning-start, turn-standing, turn-list, turn-goes, turn-few, turn-front, turn-largest, turn-room, turn-fits, turn-end, turn-next-goes, turn-next-small, turn-next-lower, turn-lowers, turn-next, turn-falls, turned-out, swept-long}
+use Rattle.join.proofs.TwinLaws.{Turning, standing-start, turning-start, turn-standing, turn-list, turn-goes, turn-few, turn-front, turn-largest, turn-room, turn-fits, turn-end, turn-next-goes, turn-next-small, turn-next-lower, turn-lowers, turn-next, turn-falls, turned-out}
 use Rattle.join.proofs.twin.sweep_twin.Statement.{statement}
 use Rattle.join.proofs.twin.sweep_twin.Tie as tie
 
@@ -143,7 +144,7 @@ same-length c =
     let moved = c .before .before .before .moved-on .ensures in
     let put = c .before .before .before .before .before .before .put-overlap in
     let e = sym (c .before .used-up .ensures) ∙ c .if1 .taken in
-    swept-long (turn-end asked w refl moved g (put .ensures) e)
+    swept-length (turn-end asked w refl moved g (put .ensures) e)
 
 returns : tie.Need-returns Inv-loop μ-loop
 returns c =

@@ -10,7 +10,8 @@ use Rattle.list.proofs.KeptLaws.{kept-facts}
 use Rattle.index.specs.Format.{wordCount, singlesOf, lowerOf, upperOf}
 use Rattle.query.specs.Slots.{slotHas}
 use Rattle.query.proofs.AddedLaws.{added-agree, added-none}
-use Rattle.query.proofs.SlotLaws.{entry-kept, slot-lists, slot-lacks}
+use Rattle.index.proofs.AnswerLaws.{list-kept as entry-kept}
+use Rattle.query.proofs.SlotLaws.{slot-lists, slot-lacks}
 use borrow.Author.Needs.{needs}
 use Rattle.query.proofs.fill.fill_slot.Statement.{statement}
 use Rattle.query.proofs.fill.fill_slot.Tie as tie

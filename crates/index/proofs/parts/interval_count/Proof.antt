@@ -4,9 +4,9 @@ use native.Mathlib.Omega.{arith}
 use denote.Ref.{now}
 use lib.ListN.{length}
 use borrow.Author.Needs.{needs}
-use Rattle.join.proofs.ListsLaws.{entry-intervals, entry-few}
-use Rattle.join.proofs.request.interval_count.Statement.{statement}
-use Rattle.join.proofs.request.interval_count.Tie as tie
+use Rattle.index.proofs.EntryIntervals.{entry-intervals, entry-few}
+use Rattle.index.proofs.parts.interval_count.Statement.{statement}
+use Rattle.index.proofs.parts.interval_count.Tie as tie
 
 singles-of-requires : tie.Need-singles-of-requires
 singles-of-requires c κs = search needs
@@ -21,7 +21,7 @@ returns : tie.Need-returns
 returns c =
     let start = c .before .before .before in
     let index = now (start .args .index) in
-    let i = start .args .entry in
+    let i = start .args .i in
     let pre = start .pre in
     let s = ap length (c .before .singles-of .ensures) in
     let l = ap length (c .lower-of .ensures) in
