@@ -49,7 +49,7 @@ extern "C" {
 #define NABURAIN_ENTRY 14          /* entry number not below n: its place in the request */
 #define NABURAIN_NUMBER 15         /* record number 0, above its limit, or not above the one before: its place */
 #define NABURAIN_INTERVAL 16       /* interval cells are not a proper list: the first bad interval */
-#define NABURAIN_BUILD_WORD 17     /* word to build: its number */
+#define NABURAIN_BUILD_WORD 17     /* word to build is no word, not above the one before, not ended by byte 10, or the 65,536th: its number */
 #define NABURAIN_BUILD_COUNT 18    /* counts to build: the first bad count, or the word count if surplus or numbers are left over */
 #define NABURAIN_BUILD_SIZE 19     /* N too large: 0; index over 16,777,216 bytes: 1 */
 #define NABURAIN_PROBE 20          /* probe with a = 0, a > b or b > 16,777,215: 0 */

@@ -231,11 +231,26 @@ static void forget(struct catalogue *catalogue, struct lent *lent)
     free(lent->words), free(lent->counts), free(lent->numbers);
 }
 
+/* What fits in 32 bits is handed on: that it is above the highest record that there can be is for the library to refuse. */
+static int read_highest(const char *text, uint32_t *highest)
+{
+    char *end;
+    errno = 0;
+    unsigned long value = strtoul(text, &end, 10);
+    *highest = (uint32_t)value;
+    return isdigit((unsigned char)*text) && *end == 0 && errno == 0 && value <= UINT32_MAX;
+}
+
 enum ended build_catalogue(const char *text_path, const char *index_path, const char *highest)
 {
     struct catalogue catalogue = {NULL, 0, 0};
     struct lent lent = {NULL, 0, NULL, NULL, 0};
     enum ended ended = UNUSABLE;
+    uint32_t n = 0;
+    if (highest != NULL && !read_highest(highest, &n)) {
+        fprintf(stderr, "desk: %s is no record number\n", highest);
+        return UNUSABLE;
+    }
     FILE *text = fopen(text_path, "r");
     if (text == NULL) {
         fprintf(stderr, "desk: cannot read %s\n", text_path);
@@ -244,8 +259,7 @@ enum ended build_catalogue(const char *text_path, const char *index_path, const 
     if (read_text(text, text_path, &catalogue)) {
         sort_and_merge(&catalogue);
         lent = lay_out(&catalogue);
-        uint32_t n = highest == NULL ? highest_number(&lent) : (uint32_t)strtoul(highest, NULL, 10);
-        ended = build(&catalogue, &lent, n, index_path);
+        ended = build(&catalogue, &lent, highest == NULL ? highest_number(&lent) : n, index_path);
     }
     fclose(text);
     forget(&catalogue, &lent);

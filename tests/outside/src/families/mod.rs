@@ -1,4 +1,4 @@
-//! The families of cases. Each draws one case from a seed; `limits` and `damage` run a fixed table instead.
+//! The families of cases. Each draws one case from a seed; `limits` runs a fixed table instead.
 
 pub mod ask;
 pub mod build;
