@@ -45,19 +45,19 @@ fn gap(u: u32, x: u32) -> usize
     if x == u + 1 { 0 } else { 1 }
 }
 
-// How many intervals the numbers make.
-fn count_intervals(numbers: &[u32]) -> usize
-    requires { ⌜ badNumberOf (now numbers) ≡ Found.Nowhere ⌝ }
-    ensures { λ r. ⌜ r ≡ intervals (intervalsOf (now (numbers .entry))) ⌝ }
+// How many intervals the numbers listed make.
+fn count_intervals(listed: &[u32]) -> usize
+    requires { ⌜ badNumberOf (now listed) ≡ Found.Nowhere ⌝ }
+    ensures { λ r. ⌜ r ≡ intervals (intervalsOf (now (listed .entry))) ⌝ }
 {
-    if numbers.len() == 0 {
+    if listed.len() == 0 {
         return 0;
     }
-    let mut u = numbers[0];
+    let mut u = listed[0];
     let mut n: usize = 1;
     let mut i = 1;
-    while i < numbers.len() {
-        let x = numbers[i];
+    while i < listed.len() {
+        let x = listed[i];
         n += gap(u, x);
         u = x;
         i += 1;

@@ -22,7 +22,7 @@ abbrev μ-loop : tie.MeasureT-loop
 returns : tie.Need-returns Inv-loop μ-loop
 returns c =
     let start = c .before .before in
-    let xs = now (start .args .numbers) in
+    let xs = now (start .args .listed) in
     sym (ap (λ (cells : List ℕ). intervals cells) (sym (runs-cells top xs (start .pre)) ∙ runs-none xs (c .if1 .taken)))
 
 shared-slice-read-u : tie.Need-shared-slice-read-u Inv-loop μ-loop
@@ -31,7 +31,7 @@ shared-slice-read-u c = search needs
 loop-holds : tie.Need-loop-holds Inv-loop μ-loop
 loop-holds c =
     let start = c .before .before .before in
-    let xs = now (start .args .numbers) in
+    let xs = now (start .args .listed) in
     (search needs, search needs, good-number-small top xs (start .pre) 0 (omega arith), runs-count xs (omega arith))
 
 mul-x : tie.Need-mul-x Inv-loop μ-loop
@@ -56,7 +56,7 @@ loop-again : tie.Need-loop-again Inv-loop μ-loop
 loop-again c =
     let at = c .before .before .before in
     let start = at .before .before .before .before in
-    let xs = now (start .args .numbers) in
+    let xs = now (start .args .listed) in
     let h = breaks-at (at .loop .u) xs (at .loop .i) (omega arith) in
     (search needs, search needs, good-number-small top xs (start .pre) (at .loop .i) (omega arith), omega arith)
 
@@ -64,7 +64,7 @@ returns-2 : tie.Need-returns-2 Inv-loop μ-loop
 returns-2 c =
     let at = c .before in
     let start = at .before .before .before .before in
-    let xs = now (start .args .numbers) in
+    let xs = now (start .args .listed) in
     omega (arith, breaks-end (at .loop .u) xs (at .loop .i) (c .loop-test .left), ap length (runs-cells top xs (start .pre)))
 
 pub count-intervals-spec : {M : Type 1} → statement M
