@@ -32,7 +32,7 @@ use Rattle.index.proofs.CheckLaws.{good-sound}
 use Rattle.question.specs.Grammar.{Tree, Rule}
 use Rattle.question.specs.Meaning.{fits, Respects}
 use Rattle.question.specs.Reading.{asks, asked}
-use Rattle.question.proofs.SplitLaws.{around}
+use Rattle.question.specs.Exchange.{around}
 use Rattle.question.proofs.Exchange.{exchange-fits}
 use Rattle.query.specs.Ask.{satisfying, Asks}
 use Rattle.query.specs.Demand3.{written, Answered, SameRecords}

@@ -17,18 +17,12 @@ use Rattle.question.specs.Grammar.{Tree, Rule, fromLeft, Out, good, bad,
 use Rattle.question.specs.Meaning.{Same, Respects}
 use Rattle.question.specs.Reading.{asks, asked}
 use Rattle.question.specs.Limits.{WithinLimits}
+use Rattle.question.specs.Exchange.{around, AcceptedToo, Exchangeable, Exchanged}
 use Rattle.question.proofs.Lockstep as lock
 use Rattle.question.proofs.LimitLaws.{B, Why, grammar, words, brackets, bounds-question, tokens-length}
 use Rattle.question.proofs.AskedLaws.{asked-accepts, accepts-asked}
 use Rattle.question.proofs.RuleLaws.{from-left-respects}
-use Rattle.question.proofs.SplitLaws.{bare, bares, bareOut, bare-question, around, tokens-around, none-proper, proper-none, proper-around, none-short, short-none, short-around}
-
--- the second question is accepted, and the records that fit t fit it
-pub record AcceptedToo (rule : Rule) (has : List ℕ → ℕ → Bool) (s : List ℕ) (t : Tree) : Type 0 where
-  pub tree : Tree
-  pub count : ℕ
-  pub accepted : asked rule s ≡ asks tree count
-  pub fits-same : Same has t tree
+use Rattle.question.proofs.SplitLaws.{bare, bares, bareOut, bare-question, tokens-around, none-proper, proper-none, proper-around, none-short, short-none, short-around}
 
 module _ (rule : Rule) (respects : Respects rule) (has : List ℕ → ℕ → Bool)
     (before a b behind : List ℕ)
@@ -114,21 +108,6 @@ module _ (rule : Rule) (respects : Respects rule) (has : List ℕ → ℕ → Bo
       by-reading limits reading refl (bounds-question rule fuel 8 0 0 (tokens second) refl (omega (arith, tokens-length second)))
 
 -- ---- both in one statement
-
--- a and b are accepted by themselves, and the same records fit them
-pub record Exchangeable (rule : Rule) (has : List ℕ → ℕ → Bool) (a b : List ℕ) : Type 0 where
-  pub tree-a : Tree
-  pub tree-b : Tree
-  pub words-a : ℕ
-  pub words-b : ℕ
-  pub a-accepted : asked rule a ≡ asks tree-a words-a
-  pub b-accepted : asked rule b ≡ asks tree-b words-b
-  pub same : Same has tree-a tree-b
-
--- what follows of `before ( a ) behind`, which is accepted with tree t, and of s, which is `before ( b ) behind`
-pub record Exchanged (rule : Rule) (has : List ℕ → ℕ → Bool) (t : Tree) (s : List ℕ) : Type 0 where
-  pub fits-same : (u : Tree) (m : ℕ) → asked rule s ≡ asks u m → Same has t u
-  pub accepted : WithinLimits s → AcceptedToo rule has s t
 
 pub exchange : (rule : Rule) → Respects rule → (has : List ℕ → ℕ → Bool) (a b : List ℕ) → Exchangeable rule has a b →
     (before behind : List ℕ) (t : Tree) (n : ℕ) → asked rule (around before a behind) ≡ asks t n → Exchanged rule has t (around before b behind)

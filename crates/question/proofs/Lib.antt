@@ -12,4 +12,3 @@ pub mod PlaceLaws
 pub mod TreeWords
 pub mod MeaningLaws
 pub mod LevelLaws
-pub mod Examples

@@ -18,6 +18,7 @@ use Rattle.refusal.proofs.FirstLaws.{first-none, first-none-is}
 use Rattle.question.specs.Token.{choose, run, Tok, wordT, opT, openT, closeT, otherT, runTok, flush, mark, gather, tokensAt, tokens}
 use Rattle.question.specs.Grammar.{Tree, word, Link, link, Rule, Out, good, bad, bind, closed, question, operand, links}
 use Rattle.question.specs.Reading.{isForeign, foreignAt, longAt}
+use Rattle.question.specs.Exchange.{around}
 use Rattle.question.proofs.RunLaws.{run-end}
 
 -- ---- bytes
@@ -256,9 +257,6 @@ unfolding isForeign isWordByte
 no-foreign-41 = refl
 
 -- ---- a question with a part in brackets
-
-abbrev pub around : List ℕ → List ℕ → List ℕ → List ℕ
-around before a behind = before ++ 40 ∷ (a ++ 41 ∷ behind)
 
 pub tokens-around : (p q t : List ℕ) → bares (tokens (around p q t)) ≡ bares (tokens p) ++ openT 0 ∷ (bares (tokens q) ++ closeT 0 ∷ bares (tokens t))
 tokens-around p q t =

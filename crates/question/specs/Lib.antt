@@ -6,3 +6,4 @@ pub mod Limits
 pub mod Words
 pub mod Next
 pub mod Readers
+pub mod Exchange

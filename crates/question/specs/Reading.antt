@@ -40,6 +40,7 @@ placeOf len (openT p ∷ r) = p
 placeOf len (closeT p ∷ r) = p
 placeOf len (otherT p ∷ r) = p
 
+-- The bound on the calls, 0, is never used up by a whole question: its bytes twice are enough (`bounds-question` in proofs/LimitLaws.antt).
 unfoldable pub refusalOf : ℕ → ℕ → Refusal
 refusalOf number place = cond (eqb number 10) (WordLimit place) (cond (eqb number 11) (BracketLimit place) (Grammar place))
 
