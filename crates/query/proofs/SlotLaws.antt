@@ -5,24 +5,16 @@ use mathlib.Core.Bool.{Bool, false}
 use mathlib.Core.List.{List}
 use lib.ListN.{length, getD}
 use borrow.Author.Tests.{lt-ltb, le-ltb}
-use Rattle.list.specs.Cell.{numbersIn}
-use Rattle.list.specs.Interval.{top, names}
-use Rattle.list.specs.Reading.{KeptIn, listIn}
-use Rattle.list.proofs.KeptLaws.{kept-weaker}
-use Rattle.index.specs.Format.{wordCount, highest, singlesOf, lowerOf, upperOf, listOf}
-use Rattle.index.specs.Sound.{Sound}
-use Rattle.index.proofs.SoundLaws.{sound-trailer, sound-list}
+use Rattle.list.specs.Interval.{names}
+use Rattle.list.specs.Reading.{listIn}
+use Rattle.index.specs.Format.{wordCount, singlesOf, lowerOf, upperOf, listOf}
 use Rattle.question.specs.declared.token.Op.{Op}
 use Rattle.question.specs.Grammar.{Tree, word, pair, part, wordsOf}
 use Rattle.question.specs.Meaning.{combine}
 use Rattle.query.specs.Slots.{slotHas, slotFits}
+use Rattle.query.proofs.SatisfyLaws.{combine-none}
 
 -- ---- the list of a slot
-
-pub entry-kept : (index : List ℕ) → Sound index → (i : ℕ) → i < wordCount index → KeptIn top (singlesOf index i) (lowerOf index i) (upperOf index i)
-entry-kept index s i h =
-    kept-weaker (highest index) top (numbersIn (singlesOf index i)) (numbersIn (lowerOf index i)) (numbersIn (upperOf index i))
-    (sound-trailer index s .highest-bound) (sound-list index s i h)
 
 module _ (index entries : List ℕ) (k : ℕ) where
   pub slot-lists : getD entries k 0 < wordCount index → (x : ℕ) →
@@ -49,3 +41,10 @@ module _ (v : ℕ → ℕ → Bool) (k x : ℕ) where
   pub slot-pair : (o : Op) (a b : Tree) (j : ℕ) → j ≡ k + length (wordsOf a) → slotFits v (pair o a b) k x ≡ combine o (slotFits v a k x) (slotFits v b j x)
   unfolding slotFits
   slot-pair o a b j e = rw e
+
+-- a record that no slot has fits no tree
+pub slots-none : (v : ℕ → ℕ → Bool) (x : ℕ) → ((k : ℕ) → v k x ≡ false) → (t : Tree) (k : ℕ) → slotFits v t k x ≡ false
+unfolding slotFits
+slots-none v x h (word w) k = h k
+slots-none v x h (pair o a b) k = rw (slots-none v x h a k) (combine-none o (slotFits v b (k + length (wordsOf a)) x) (slots-none v x h b (k + length (wordsOf a))))
+slots-none v x h (part t) k = slots-none v x h t k
