@@ -32,8 +32,9 @@ use Rattle.question.proofs.AskedLaws.{asked-accepts}
 use Rattle.query.specs.Ask.{satisfying, Answers, Asks}
 use Rattle.query.specs.Code.{codesOf}
 use Rattle.query.specs.Compile.{Coded, Slots}
-use Rattle.query.specs.Drive.{testOf, Tallied}
+use Rattle.query.specs.Drive.{TreeOf, testOf, Tallied}
 use Rattle.query.specs.Prepared.{Prepared, Listing}
+use Rattle.query.proofs.DriveLaws.{tree-words}
 use Rattle.query.proofs.QuestionBound.{slots-bound}
 use Rattle.query.proofs.SatisfyLaws.{satisfying-even}
 use Rattle.query.proofs.WholeLaws.{asked-fits}
@@ -44,10 +45,14 @@ use Rattle.query.proofs.WholeLaws.{asked-fits}
 pub part-codes : (question codes codes′ : List ℕ) (n : ℕ) → Coded question codes codes′ n → take (n - 0) codes′ ≡ codesOf (tokens question)
 part-codes question codes codes′ n c = rw (sub-zero n) (c .are)
 
+asked-tree : (s codes : List ℕ) (t : Tree) (k : ℕ) → asked fromLeft s ≡ asks t k → codes ≡ codesOf (tokens s) → TreeOf codes t
+asked-tree s codes t k is e = record { toks = tokens s; are = sym e; fuel = 2 * length s + 2; words = k; reads = asked-accepts fromLeft s t k is .reads }
+
 pub asked-prepared : (s index entries₀ entries codes : List ℕ) (count : ℕ) (t : Tree) (k : ℕ) → asked fromLeft s ≡ asks t k → Sound index →
     Slots index s entries₀ entries count → codes ≡ codesOf (tokens s) → Prepared codes index entries count t
 asked-prepared s index entries₀ entries codes count t k is sound slots e = record {
-  reads = record { toks = tokens s; are = sym e; fuel = 2 * length s + 2; words = k; reads = asked-accepts fromLeft s t k is .reads };
+  reads = asked-tree s codes t k is e;
+  count = slots .count t k is .1 ∙ tree-words codes t (asked-tree s codes t k is e);
   same = asked-fits s t k is index entries₀ entries count slots;
   bound = slots-bound index s entries₀ entries count sound slots t k is;
 }

@@ -1,4 +1,4 @@
--- Laws of codes: reading one, and which are operators.
+-- Laws of codes: reading one, which are operators, and how many are words.
 use mathlib.Core.Path.{_≡_, refl, sym, _∙_}
 use Prim.Native.Nat.{ℕ, zero, suc, _≤_, _<_}
 use native.Mathlib.Omega.{arith}
@@ -10,7 +10,9 @@ use borrow.Author.Tests.{leb-true, le-leb}
 use Rattle.laws.proofs.Tests.{true-false, and-both, both-and, leb-cases}
 use Rattle.question.specs.declared.token.Op.{Op}
 use Rattle.question.specs.declared.token.Op.the-variants.{And, Or, Not}
-use Rattle.query.specs.Code.{opCode, opOf}
+use Rattle.question.specs.Token.{Tok, wordT, opT, openT, closeT, otherT}
+use Rattle.question.specs.Limits.{wordsIn}
+use Rattle.query.specs.Code.{opCode, opOf, codesOf, wordCodes}
 
 -- within a list it does not matter what would be read behind it
 pub getD-within : (xs : List ℕ) (i d e : ℕ) → i < length xs → getD xs i d ≡ getD xs i e
@@ -66,3 +68,16 @@ pub operator-none : (c : ℕ) → leb 1 c && leb c 3 ≡ false → (o : Op) → 
 operator-none c e o h =
     let r = op-range o in
     true-false (sym (both-and (leb 1 c) (leb c 3) (le-leb 1 c (omega arith)) (le-leb c 3 (omega arith))) ∙ e)
+
+-- ---- words
+
+pub codes-words : (toks : List Tok) → wordCodes (codesOf toks) ≡ length (wordsIn toks)
+unfolding codesOf wordCodes wordsIn
+codes-words [] = refl
+codes-words (wordT w p ∷ r) = omega (arith, codes-words r)
+codes-words (opT And p ∷ r) = omega (arith, codes-words r)
+codes-words (opT Or p ∷ r) = omega (arith, codes-words r)
+codes-words (opT Not p ∷ r) = omega (arith, codes-words r)
+codes-words (openT p ∷ r) = omega (arith, codes-words r)
+codes-words (closeT p ∷ r) = omega (arith, codes-words r)
+codes-words (otherT p ∷ r) = omega (arith, codes-words r)

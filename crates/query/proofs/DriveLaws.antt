@@ -1,9 +1,9 @@
 -- The driver's steps on a question: what a look and an evaluation of its codes say of its test, and what the loop keeps from step to step.
-use mathlib.Core.Path.{_≡_, refl, sym, ap, _∙_}
+use mathlib.Core.Path.{_≡_, refl, sym, ap, _∙_, subst}
 use Prim.Native.Nat.{ℕ, _+_, _-_, _*_, _/_, _≤_, _<_}
 use native.Mathlib.Omega.{arith}
 use mathlib.Core.Bool.{Bool, true, false, cond}
-use mathlib.Core.List.{List, []}
+use mathlib.Core.List.{List, [], append-nil}
 use lib.Dec.{ltb}
 use lib.ListN.{length, getD, replicate, length-replicate}
 use lib.Seq.{sets, length-sets}
@@ -20,28 +20,42 @@ use Rattle.list.proofs.SweepLaws.{Swept, swept-count, swept-records, swept-writ
 use Rattle.index.specs.Format.{wordCount, highest, listOf}
 use Rattle.index.specs.Sound.{Sound}
 use Rattle.index.proofs.HasLaws.{list-proper}
-use Rattle.question.specs.Grammar.{Tree, word, pair, part, fromLeft, question, wordsOf}
+use Rattle.question.specs.Grammar.{Tree, fromLeft, question, wordsOf}
+use Rattle.question.specs.Limits.{wordsIn}
+use Rattle.question.proofs.RuleLaws.{from-left-keeps}
+use Rattle.question.proofs.TreeWords.{Words, question-words}
 use Rattle.window.specs.Window.{member, Holds}
 use Rattle.window.specs.Flips.{odd, flips}
 use Rattle.window.proofs.SweepLaws.{window-part, jump-part}
 use Rattle.query.specs.declared.look.Look.{Look}
 use Rattle.query.specs.declared.eval.Step.{Step}
-use Rattle.query.specs.Slots.{slotHas, slotFits}
+use Rattle.query.specs.Code.{wordCodes}
+use Rattle.query.specs.Slots.{slotHas}
+use Rattle.query.specs.Senses.{Known}
 use Rattle.query.specs.Engine.{Evaluated}
 use Rattle.query.specs.Look.{Looks}
 use Rattle.query.specs.Drive.{Constant, TreeOf, testOf, Tallied}
-use Rattle.query.proofs.SatisfyLaws.{combine-none}
+use Rattle.query.proofs.CodeLaws.{codes-words}
+use Rattle.query.proofs.SlotLaws.{slots-none}
 
 -- ---- the codes read as t
+
+-- its words are the codes that are a word's
+pub tree-words : (codes : List ℕ) (t : Tree) → TreeOf codes t → length (wordsOf t) ≡ wordCodes codes
+unfolding wordsIn
+tree-words codes t o =
+    let w = subst (Words wordsOf 0 (o .toks)) (o .reads) (question-words fromLeft from-left-keeps (o .fuel) 8 0 (o .toks)) in
+    sym (ap length (w .0 ∙ append-nil (wordsOf t))) ∙ sym (codes-words (o .toks)) ∙ ap wordCodes (o .are)
 
 module _ (codes index entries : List ℕ) (t : Tree) (o : TreeOf codes t) where
   pub tree-holds : (x : ℕ) (ps qs ws ps′ qs′ ws′ : List ℕ) (r : Step) →
       Evaluated (λ f. question fromLeft f 8 0) codes 0 0 index entries x ps qs ws ps′ qs′ ws′ r → Holds (testOf index entries t) x ws′
   tree-holds x ps qs ws ps′ qs′ ws′ r e = e .reads (o .fuel) (o .toks) t [] (o .words) (o .are) (o .reads) .4
 
-  pub tree-steady : (x : ℕ) (ps qs ps′ qs′ : List ℕ) (r : Look) →
-      Looks (λ f. question fromLeft f 8 0) codes 0 0 index entries x ps qs ps′ qs′ r → Steady (testOf index entries t) x (r .inside) (r .until)
-  tree-steady x ps qs ps′ qs′ r e = e .reads (o .fuel) (o .toks) t [] (o .words) (o .are) (o .reads) .4
+  pub tree-steady : (slots x : ℕ) (senses : List ℕ) (r : Look) → slots ≡ wordCodes codes → Known (slotHas index entries) senses slots x →
+      Looks (λ f. question fromLeft f 8 0) codes 0 0 senses r → Steady (testOf index entries t) x (r .inside) (r .until)
+  tree-steady slots x senses r all known e =
+      e .reads (o .fuel) (o .toks) t [] (o .words) (o .are) (o .reads) .4 (slotHas index entries) slots x (omega (arith, tree-words codes t o)) known
 
 -- ---- no record above N satisfies a question
 
@@ -51,12 +65,6 @@ slot-above index entries s k x h =
     by-test (ltb (getD entries k 0) (wordCount index))
     (λ e. rw e (proper-names-above (highest index) x (listOf index (getD entries k 0)) (list-proper index s (getD entries k 0) (ltb-true (getD entries k 0) (wordCount index) e)) h))
     (λ e. rw e)
-
-slots-none : (v : ℕ → ℕ → Bool) (x : ℕ) → ((k : ℕ) → v k x ≡ false) → (t : Tree) (k : ℕ) → slotFits v t k x ≡ false
-unfolding slotFits
-slots-none v x h (word w) k = h k
-slots-none v x h (pair o a b) k = rw (slots-none v x h a k) (combine-none o (slotFits v b (k + length (wordsOf a)) x) (slots-none v x h b (k + length (wordsOf a))))
-slots-none v x h (part t) k = slots-none v x h t k
 
 pub test-above : (index entries : List ℕ) → Sound index → (t : Tree) (x : ℕ) → highest index < x → testOf index entries t x ≡ false
 test-above index entries s t x h = slots-none (slotHas index entries) x (λ k. slot-above index entries s k x h) t 0

@@ -11,6 +11,7 @@ pub mod DriverLaws
 pub mod DriveLaws
 pub mod EvalLaws
 pub mod SenseLaws
+pub mod SensedLaws
 pub mod WholeLaws
 pub mod QuestionBound
 pub mod AskLaws

@@ -18,8 +18,6 @@ use Rattle.index.specs.Sound.{Sound}
 use Rattle.index.specs.Has.{has}
 use Rattle.index.proofs.EntryIntervals.{entry-intervals, entry-few}
 use Rattle.index.proofs.HasLaws.{list-proper}
-use Rattle.question.specs.declared.token.Op.{Op}
-use Rattle.question.specs.declared.token.Op.the-variants.{And, Or, Not}
 use Rattle.question.specs.Grammar.{Tree, word, pair, part, fromLeft, wordsOf}
 use Rattle.question.specs.Meaning.{combine, fits}
 use Rattle.question.specs.Reading.{asks, asked}
@@ -27,6 +25,7 @@ use Rattle.query.specs.Ask.{satisfying}
 use Rattle.query.specs.Slots.{slotHas, slotFits}
 use Rattle.query.specs.Compile.{Slots}
 use Rattle.query.specs.Bound.{slotIntervals, slotsIntervals}
+use Rattle.query.proofs.SlotLaws.{slots-none}
 use Rattle.query.proofs.WholeLaws.{slot-fits}
 
 -- ---- one slot
@@ -98,17 +97,6 @@ fits-still v (pair o a b) k x f =
     (fits-still v b (k + length (wordsOf a)) x (λ j h g. f j (omega arith) (omega arith)))
 fits-still v (part t) k x f = fits-still v t k x f
 
-fits-none : (v : ℕ → ℕ → Bool) (t : Tree) (k x : ℕ) → ((j : ℕ) → v j x ≡ false) → slotFits v t k x ≡ false
-unfolding slotFits
-fits-none v (word w) k x f = f k
-fits-none v (pair o a b) k x f = rw (fits-none v a k x f, fits-none v b (k + length (wordsOf a)) x f) (none o)
-  where
-    none : (o : Op) → combine o false false ≡ false
-    none And = refl
-    none Or = refl
-    none Not = refl
-fits-none v (part t) k x f = fits-none v t k x f
-
 -- ---- the question
 
 pub question-bound : (index entries : List ℕ) → Sound index → (t : Tree) →
@@ -121,7 +109,7 @@ question-bound index entries s t f =
     let e : cellsOf (fits (has index) t) (highest index) ≡ cellsOf (slotFits v t 0) (highest index) =
     cells-same (fits (has index) t) (slotFits v t 0) (highest index) (λ x h l. sym (slot-fits v (has index) t x (λ i g. f i g x))) in
     rw (e, ← tests-together index entries s 0 n)
-    (cells-bound (slotFits v t 0) (tests v 0 n) (highest index) (fits-none v t 0 0 (λ j. slot-zero index entries s j)) (tests-out v 0 n (λ j. slot-zero index entries s j))
+    (cells-bound (slotFits v t 0) (tests v 0 n) (highest index) (slots-none v 0 (λ j. slot-zero index entries s j) t 0) (tests-out v 0 n (λ j. slot-zero index entries s j))
     (λ x h w. fits-still v t 0 x (λ j g l. tests-still v 0 n x j w g l)))
 
 -- an answer with room for that many intervals needs no counting first

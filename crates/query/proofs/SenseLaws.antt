@@ -4,7 +4,7 @@ use native.Mathlib.Omega.{arith}
 use mathlib.Core.Path.{_≡_, refl, sym, ap, _∙_}
 use mathlib.Core.Bool.{Bool, true, false, not, _&&_, _||_}
 use mathlib.Core.List.{List}
-use lib.ListN.{length, getD}
+use lib.ListN.{length, getD, length-append}
 use Rattle.list.specs.Interval.{top, names}
 use Rattle.list.specs.Reading.{listIn}
 use Rattle.list.specs.Sense.{Steady}
@@ -15,6 +15,8 @@ use Rattle.question.specs.Grammar.{Tree, word, pair, part, wordsOf}
 use Rattle.question.specs.Meaning.{combine}
 use Rattle.query.specs.Code.{opCode}
 use Rattle.query.specs.Slots.{slotHas, slotFits}
+use Rattle.query.specs.Senses.{untilOf, insideOf}
+use Rattle.query.specs.Look.{Tells}
 use Rattle.query.proofs.SlotLaws.{slot-lists, slot-lacks, slot-word, slot-part, slot-pair}
 
 -- ---- of equal tests, and of the opposite
@@ -95,3 +97,23 @@ module _ (v : ℕ → ℕ → Bool) (k x : ℕ) (a : Bool) (u : ℕ) where
   tree-pair o left right j e s =
       steady-same (λ y. combine o (slotFits v left k y) (slotFits v right j y)) (slotFits v (pair o left right) k) x a u
       (λ y. sym (slot-pair v k y o left right j e)) s
+
+-- ---- of a tree, by the kept senses of its slots
+
+module _ (senses : List ℕ) (k : ℕ) (a : Bool) (u : ℕ) where
+  pub tells-word : u ≡ untilOf senses k → a ≡ insideOf senses k → (w : List ℕ) → Tells senses k a u (word w)
+  unfolding wordsOf
+  tells-word e f w v slots x h known = tree-word v k x a u w (rw (e, f) (known k (omega arith)))
+
+  pub tells-part : (t : Tree) → Tells senses k a u t → Tells senses k a u (part t)
+  unfolding wordsOf
+  tells-part t s v slots x h known = tree-part v k x a u t (s v slots x h known)
+
+  pub tells-pair : (o : Op) (left right : Tree) (j : ℕ) → j ≡ k + length (wordsOf left) → (b c : Bool) (m n : ℕ) →
+      ((p q : ℕ → Bool) (x : ℕ) → Steady p x b m → Steady q x c n → Steady (λ y. combine o (p y) (q y)) x a u) →
+      Tells senses k b m left → Tells senses j c n right → Tells senses k a u (pair o left right)
+  unfolding wordsOf
+  tells-pair o left right j e b c m n paired s t v slots x h known =
+      let l = length-append (wordsOf left) (wordsOf right) in
+      tree-pair v k x a u o left right j e
+      (paired (slotFits v left k) (slotFits v right j) x (s v slots x (omega arith) known) (t v slots x (omega arith) known))

@@ -12,6 +12,7 @@ use Rattle.question.specs.declared.token.Op.{Op}
 use Rattle.question.specs.Grammar.{Tree, word, pair, part, wordsOf}
 use Rattle.question.specs.Meaning.{combine}
 use Rattle.query.specs.Slots.{slotHas, slotFits}
+use Rattle.query.proofs.SatisfyLaws.{combine-none}
 
 -- ---- the list of a slot
 
@@ -40,3 +41,10 @@ module _ (v : ℕ → ℕ → Bool) (k x : ℕ) where
   pub slot-pair : (o : Op) (a b : Tree) (j : ℕ) → j ≡ k + length (wordsOf a) → slotFits v (pair o a b) k x ≡ combine o (slotFits v a k x) (slotFits v b j x)
   unfolding slotFits
   slot-pair o a b j e = rw e
+
+-- a record that no slot has fits no tree
+pub slots-none : (v : ℕ → ℕ → Bool) (x : ℕ) → ((k : ℕ) → v k x ≡ false) → (t : Tree) (k : ℕ) → slotFits v t k x ≡ false
+unfolding slotFits
+slots-none v x h (word w) k = h k
+slots-none v x h (pair o a b) k = rw (slots-none v x h a k) (combine-none o (slotFits v b (k + length (wordsOf a)) x) (slots-none v x h b (k + length (wordsOf a))))
+slots-none v x h (part t) k = slots-none v x h t k

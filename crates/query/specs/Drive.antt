@@ -8,12 +8,12 @@ use lib.Seq.{sets}
 use Rattle.list.specs.declared.answer.Tally.{Tally}
 use Rattle.list.specs.Stretches.{recordsFrom, cellsOf}
 use Rattle.list.specs.Answer.{tallyOf}
-use Rattle.index.specs.Sound.{Sound}
 use Rattle.question.specs.Token.{Tok}
 use Rattle.question.specs.Grammar.{Tree, good, fromLeft, question}
 use Rattle.window.specs.Flips.{odd, flips}
-use Rattle.query.specs.Code.{codesOf}
+use Rattle.query.specs.Code.{codesOf, wordCodes}
 use Rattle.query.specs.Slots.{slotHas, slotFits}
+use Rattle.query.specs.Senses.{Sensed}
 use Rattle.query.specs.declared.drive.At.{At}
 
 -- ---- one step, for any test
@@ -47,18 +47,18 @@ pub record TreeOf (codes : List ℕ) (t : Tree) : Type 0 where
 abbrev pub testOf : List ℕ → List ℕ → Tree → ℕ → Bool
 testOf index entries t = slotFits (slotHas index entries) t 0
 
--- what the driver reads by: a sound index, the entries of 16 slots, and a hint for each
-pub record ReadBy (index entries ps qs : List ℕ) : Type 0 where
-  pub sound : Sound index
-  pub entries-long : length entries ≡ 16
-  pub ps-long : length ps ≡ 16
-  pub qs-long : length qs ≡ 16
-
 -- the hints are moved, and nothing else is said of them
 pub record Kept (ps qs ws ps′ qs′ ws′ : List ℕ) : Type 0 where
   pub ps-long : length ps′ ≡ length ps
   pub qs-long : length qs′ ≡ length qs
   pub ws-long : length ws′ ≡ length ws
+
+-- what is kept of the slots before record x: a sense of each, and the first `slots` are those of the question's words
+pub record Slotted (codes index entries senses : List ℕ) (slots x : ℕ) : Type 0 where
+  pub long : length senses ≡ 16
+  pub few : slots ≤ 16
+  pub all : slots ≡ wordCodes codes
+  pub sensed : Sensed (slotHas index entries) senses x
 
 -- the codes read as a question, and the cells of any step from x on have room behind the first k, where they are written
 pub record Roomy (codes index entries : List ℕ) (x : ℕ) (writing : Bool) (k : ℕ) (out : List ℕ) : Type 0 where

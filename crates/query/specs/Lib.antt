@@ -5,6 +5,7 @@ pub mod Compile
 pub mod Engine
 pub mod Demand3
 pub mod Drive
+pub mod Senses
 pub mod Look
 pub mod Bound
 pub mod Prepared

@@ -1,20 +1,19 @@
 -- What a look at one record says: whether it is in, and until which number that stays so.
-use Prim.Native.Nat.{ℕ, _≤_}
+use Prim.Native.Nat.{ℕ, _+_, _≤_}
 use mathlib.Core.Path.{_≡_}
 use mathlib.Core.Bool.{Bool, not, _&&_}
 use mathlib.Core.List.{List}
 use lib.ListN.{length}
 use Rattle.list.specs.declared.sense.Sense.{Sense}
-use Rattle.list.specs.Interval.{top}
 use Rattle.list.specs.Sense.{Steady}
-use Rattle.index.specs.Sound.{Sound}
 use Rattle.question.specs.declared.token.Op.{Op}
 use Rattle.question.specs.Token.{Tok}
-use Rattle.question.specs.Grammar.{Tree, Out}
+use Rattle.question.specs.Grammar.{Tree, Out, wordsOf}
 use Rattle.question.specs.Meaning.{combine}
 use Rattle.query.specs.declared.look.Look.{Look}
 use Rattle.query.specs.Code.{opCode}
-use Rattle.query.specs.Slots.{slotHas, slotFits, Reads}
+use Rattle.query.specs.Slots.{slotFits, Reads}
+use Rattle.query.specs.Senses.{Known}
 
 -- what a sense says of a test at x
 abbrev pub Senses : Sense → (ℕ → Bool) → ℕ → Type 0
@@ -30,19 +29,13 @@ Both a b r = (p q : ℕ → Bool) (x : ℕ) → Senses a p x → Senses b q x �
 abbrev pub Paired : ℕ → Sense → Sense → Sense → Type 0
 Paired code a b r = (o : Op) → code ≡ opCode o → (p q : ℕ → Bool) (x : ℕ) → Senses a p x → Senses b q x → Senses r (λ y. combine o (p y) (q y)) x
 
--- what a look at record x by the codes from i on is lent: a sound index, and 16 slots with a hint each
-pub record Lent (codes : List ℕ) (i : ℕ) (index entries : List ℕ) (x : ℕ) (ps qs : List ℕ) : Type 0 where
-  pub sound : Sound index
-  pub inside : i ≤ length codes
-  pub entries-long : length entries ≡ 16
-  pub ps-long : length ps ≡ 16
-  pub qs-long : length qs ≡ 16
-  pub near : x ≤ top
+-- what a sense says of a tree whose first word has slot k: it is the tree's at each x at which the senses of its slots are known
+abbrev pub Tells : List ℕ → ℕ → Bool → ℕ → Tree → Type 0
+Tells senses k inside until t =
+    (v : ℕ → ℕ → Bool) (slots x : ℕ) → k + length (wordsOf t) ≤ slots → Known v senses slots x → Steady (slotFits v t k) x inside until
 
--- what it comes to, where k words stand before: the sense at x of what fits the tree that the codes read as
-pub record Looks (reading : ℕ → List Tok → Out Tree) (codes : List ℕ) (i k : ℕ) (index entries : List ℕ) (x : ℕ) (ps qs ps′ qs′ : List ℕ) (r : Look) : Type 0 where
+-- what a look by the codes from i on comes to, where k words stand before: the sense of the tree that the codes read as
+pub record Looks (reading : ℕ → List Tok → Out Tree) (codes : List ℕ) (i k : ℕ) (senses : List ℕ) (r : Look) : Type 0 where
   pub ahead : i ≤ r .code
   pub inside : r .code ≤ length codes
-  pub ps-long : length ps′ ≡ length ps
-  pub qs-long : length qs′ ≡ length qs
-  pub reads : (f : ℕ) → Reads (reading f) codes i (r .code) (r .slot) (λ t. Steady (slotFits (slotHas index entries) t k) x (r .inside) (r .until))
+  pub reads : (f : ℕ) → Reads (reading f) codes i (r .code) (r .slot) (Tells senses k (r .inside) (r .until))

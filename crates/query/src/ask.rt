@@ -34,13 +34,13 @@ fn put_answer(
     let highest = read_trailer(index).highest;
     let room = out.len() / 2;
     if slots_sum(index, entries, words) <= room {
-        return Answer::Listed(sweep_question(codes, index, entries, highest, true, out));
+        return Answer::Listed(sweep_question(codes, index, entries, words, highest, true, out));
     }
-    let needed = sweep_question(codes, index, entries, highest, false, out).intervals;
+    let needed = sweep_question(codes, index, entries, words, highest, false, out).intervals;
     if room < needed {
         return Answer::Refused(Refusal::Room(needed));
     }
-    Answer::Listed(sweep_question(codes, index, entries, highest, true, out))
+    Answer::Listed(sweep_question(codes, index, entries, words, highest, true, out))
 }
 
 fn answer_accepted(index: &[u8], question: &[u8], out: &mut [u32]) -> Answer

@@ -2,12 +2,18 @@
 ghost use mathlib.Core.Path.{_≡_};
 ghost use Prim.Native.Nat.{_*_, _<_, _≤_, min};
 ghost use lib.ListN.{length};
+ghost use Rattle.list.specs.Sense.{Steady};
 ghost use Rattle.index.specs.Format.{highest};
 ghost use Rattle.index.specs.Sound.{Sound};
 ghost use Rattle.question.specs.Grammar.{Tree};
-ghost use Rattle.query.specs.Drive.{Stepped, TreeOf, testOf, ReadBy, Kept, Roomy, Fits, Stands, Moved, Tallied};
+ghost use Rattle.query.specs.Code.{wordCodes};
+ghost use Rattle.query.specs.Slots.{slotHas, ReadBy};
+ghost use Rattle.query.specs.Senses.{Sensed};
+ghost use Rattle.query.specs.Drive.{Stepped, TreeOf, testOf, Kept, Slotted, Roomy, Fits, Stands, Moved, Tallied};
 use crate::eval::eval_level;
+use crate::look::Look;
 use crate::look::look_level;
+use crate::senses::renew_senses;
 use crate::steps::Done;
 use crate::steps::put_flips;
 use crate::steps::put_turn;
@@ -20,7 +26,7 @@ use window::members::count_members;
 const FAR: u32 = 1024;
 
 // The words of a window: few behind a jump, so that the records of a rare word cost little, and twice as many each time that no jump comes.
-const LEAST: usize = 4;
+const LEAST: usize = 32;
 
 const MOST: usize = 128;
 
@@ -73,28 +79,53 @@ fn take_window(
     }
 }
 
+// What the question says of record x, by the senses of its words, which have the first slots.
+fn look_at(
+    codes: &[u8],
+    index: &[u8],
+    entries: &[usize],
+    slots: usize,
+    x: u32,
+    ps: &mut [usize],
+    qs: &mut [usize],
+    senses: &mut [u32],
+) -> Look
+    requires lends { ⌜ ReadBy (now index) (now entries) (now ps) (now qs) × (x ≤ 16777215) ⌝ }
+    requires slotted { ⌜ Slotted (now codes) (now index) (now entries) (now senses) slots x ⌝ }
+    ensures hints { λ _. ⌜ (length (now (ps .exit)) ≡ length (now (ps .entry))) × (length (now (qs .exit)) ≡ length (now (qs .entry))) × (length (now (senses .exit)) ≡ length (now (senses .entry))) ⌝ }
+    ensures sensed { λ _. ⌜ Sensed (slotHas (now (index .entry)) (now (entries .entry))) (now (senses .exit)) x ⌝ }
+    ensures steady { λ r. ⌜ ((t : Tree) → TreeOf (now (codes .entry)) t → Steady (testOf (now (index .entry)) (now (entries .entry)) t) x (r .inside) (r .until)) ⌝ }
+{
+    renew_senses(index, entries, slots, x, ps, qs, senses);
+    look_level(codes, 0, 0, 8, senses)
+}
+
 // One step from where the driver stands.
 fn step(
     codes: &[u8],
     index: &[u8],
     entries: &[usize],
+    slots: usize,
     n: u32,
     at: At,
     ps: &mut [usize],
     qs: &mut [usize],
+    senses: &mut [u32],
     ws: &mut [u64],
     writing: bool,
     out: &mut [u32],
 ) -> At
     requires lends { ⌜ ReadBy (now index) (now entries) (now ps) (now qs) × (length (now ws) ≡ 128) ⌝ }
+    requires slotted { ⌜ Slotted (now codes) (now index) (now entries) (now senses) slots (at .x) ⌝ }
     requires stands { ⌜ Stands n at ⌝ }
     requires room { ⌜ Roomy (now codes) (now index) (now entries) (at .x) writing (at .cells) (now out) ⌝ }
     ensures keeps { λ _. ⌜ Kept (now (ps .entry)) (now (qs .entry)) (now (ws .entry)) (now (ps .exit)) (now (qs .exit)) (now (ws .exit)) ⌝ }
+    ensures sensed { λ r. ⌜ (length (now (senses .exit)) ≡ length (now (senses .entry))) × Sensed (slotHas (now (index .entry)) (now (entries .entry))) (now (senses .exit)) (r .x) ⌝ }
     ensures words { λ r. ⌜ (1 ≤ r .words) × (r .words ≤ 128) ⌝ }
     ensures moves { λ r. ⌜ ((t : Tree) → TreeOf (now (codes .entry)) t → Moved (testOf (now (index .entry)) (now (entries .entry)) t) n writing at (now (out .entry)) (now (out .exit)) r) ⌝ }
 {
     let x = at.x;
-    let sight = look_level(codes, 0, 0, 8, index, entries, x, ps, qs);
+    let sight = look_at(codes, index, entries, slots, x, ps, qs, senses);
     let y = smaller(sight.until, n + 1);
     if x + FAR <= y {
         let done = take_jump(sight.inside, x, y, at.cells, at.records, writing, out);
@@ -132,14 +163,17 @@ fn sweep(
     codes: &[u8],
     index: &[u8],
     entries: &[usize],
+    slots: usize,
     n: u32,
     ps: &mut [usize],
     qs: &mut [usize],
+    senses: &mut [u32],
     ws: &mut [u64],
     writing: bool,
     out: &mut [u32],
 ) -> Tally
     requires lends { ⌜ ReadBy (now index) (now entries) (now ps) (now qs) × (length (now ws) ≡ 128) × (n ≡ highest (now index)) ⌝ }
+    requires slotted { ⌜ Slotted (now codes) (now index) (now entries) (now senses) slots 1 ⌝ }
     requires room { ⌜ Fits (now codes) (now index) (now entries) n writing (now out) ⌝ }
     ensures { λ r. ⌜ ((t : Tree) → TreeOf (now (codes .entry)) t → Tallied (testOf (now (index .entry)) (now (entries .entry)) t) n writing (now (out .entry)) (now (out .exit)) r) ⌝ }
 {
@@ -150,7 +184,20 @@ fn sweep(
         records: 0,
     };
     while at.x <= n {
-        at = step(codes, index, entries, n, at, ps, qs, ws, writing, out);
+        at = step(
+            codes,
+            index,
+            entries,
+            slots,
+            n,
+            at,
+            ps,
+            qs,
+            senses,
+            ws,
+            writing,
+            out,
+        );
     }
     let cells = put_turn(false, at.x, at.cells, writing, out);
     Tally {
@@ -164,24 +211,29 @@ pub fn sweep_question(
     codes: &[u8],
     index: &[u8],
     entries: &[usize],
+    slots: usize,
     n: u32,
     writing: bool,
     out: &mut [u32],
 ) -> Tally
     requires reads { ⌜ Sound (now index) × (length (now entries) ≡ 16) × (n ≡ highest (now index)) ⌝ }
+    requires slotted { ⌜ (slots ≤ 16) × (slots ≡ wordCodes (now codes)) ⌝ }
     requires room { ⌜ Fits (now codes) (now index) (now entries) n writing (now out) ⌝ }
     ensures { λ r. ⌜ ((t : Tree) → TreeOf (now (codes .entry)) t → Tallied (testOf (now (index .entry)) (now (entries .entry)) t) n writing (now (out .entry)) (now (out .exit)) r) ⌝ }
 {
     let mut ps: [usize; 16] = [0; 16];
     let mut qs: [usize; 16] = [0; 16];
+    let mut senses: [u32; 16] = [0; 16];
     let mut ws: [u64; 128] = [0; 128];
     sweep(
         codes,
         index,
         entries,
+        slots,
         n,
         &mut ps,
         &mut qs,
+        &mut senses,
         &mut ws,
         writing,
         out,

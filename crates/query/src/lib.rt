@@ -9,4 +9,5 @@ pub mod eval;
 pub mod fill;
 pub mod look;
 pub mod sense_pair;
+pub mod senses;
 pub mod steps;

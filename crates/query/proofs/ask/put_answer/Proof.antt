@@ -26,11 +26,14 @@ sweep-question-requires c κs =
     let enough = c .before .if1 .taken in
     let bound = is .prepared .bound in (
       (sound .0, sound .1, limit),
-      record {
-        tree = is .tree;
-        reads = is .prepared .reads;
-        room = λ w. prepared-room (a .codes .now) (a .index .now) (a .entries .now) (a .words) _ (is .tree) (is .prepared) limit (a .out .now) (omega arith);
-      },
+      (
+        (sound .2, is .prepared .count),
+        record {
+          tree = is .tree;
+          reads = is .prepared .reads;
+          room = λ w. prepared-room (a .codes .now) (a .index .now) (a .entries .now) (a .words) _ (is .tree) (is .prepared) limit (a .out .now) (omega arith);
+        },
+      ),
     )
 
 same-length : tie.Need-same-length
@@ -55,7 +58,7 @@ sweep-question-requires-2 c κs =
     let sound = start .pre .0 in
     let is = start .pre .1 in
     let limit = c .before .before .before .read-trailer .ensures .highest in
-    ((sound .0, sound .1, limit), record { tree = is .tree; reads = is .prepared .reads; room = λ w. true-false (sym w) })
+    ((sound .0, sound .1, limit), ((sound .2, is .prepared .count), record { tree = is .tree; reads = is .prepared .reads; room = λ w. true-false (sym w) }))
 
 same-length-2 : tie.Need-same-length-2
 same-length-2 c = search needs
@@ -82,11 +85,14 @@ sweep-question-requires-3 c κs =
     let kept = counted-kept (a .codes .now) (a .index .now) (a .entries .now) (a .words) _ (is .tree) (is .prepared) limit (a .out .now) _ _ counted in
     let needed = prepared-intervals (a .codes .now) (a .index .now) (a .entries .now) (a .words) _ (is .tree) (is .prepared) limit (a .out .now) _ _ false counted in (
       (sound .0, sound .1, limit),
-      record {
-        tree = is .tree;
-        reads = is .prepared .reads;
-        room = λ w. rw kept (prepared-room (a .codes .now) (a .index .now) (a .entries .now) (a .words) _ (is .tree) (is .prepared) limit (a .out .now) (omega arith));
-      },
+      (
+        (sound .2, is .prepared .count),
+        record {
+          tree = is .tree;
+          reads = is .prepared .reads;
+          room = λ w. rw kept (prepared-room (a .codes .now) (a .index .now) (a .entries .now) (a .words) _ (is .tree) (is .prepared) limit (a .out .now) (omega arith));
+        },
+      ),
     )
 
 same-length-3 : tie.Need-same-length-3

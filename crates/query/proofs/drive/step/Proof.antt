@@ -3,38 +3,45 @@ use mathlib.Core.Path.{refl, _∙_}
 use Prim.Native.Nat.{_-_, _*_}
 use native.Mathlib.Omega.{arith}
 use borrow.Author.Needs.{needs}
+use Rattle.query.specs.Slots.{slotHas}
 use Rattle.query.specs.Drive.{testOf}
-use Rattle.query.proofs.DriveLaws.{tree-steady, steady-constant, jump-room, part-words}
+use Rattle.query.proofs.SensedLaws.{sensed-later}
+use Rattle.query.proofs.DriveLaws.{steady-constant, jump-room, part-words}
 use Rattle.query.proofs.drive.step.Statement.{statement}
 use Rattle.query.proofs.drive.step.Tie as tie
 
-look-level-requires : tie.Need-look-level-requires
-look-level-requires c κs = search needs
+look-at-requires : tie.Need-look-at-requires
+look-at-requires c κs =
+    let start = c .before .before .before .before .before .before .before .before .before .before .before in
+    let stands = start .pre .1 .1 .0 in
+    ((start .pre .0 .0, omega arith), start .pre .1 .0)
 
 add-smaller : tie.Need-add-smaller
-add-smaller c = search needs
+add-smaller c = let stands = c .before .before .before .before .before .before .before .before .before .before .before .before .before .before .before .before .before .before .pre .1 .1 .0 in omega arith
 
 smaller-requires : tie.Need-smaller-requires
 smaller-requires c κs = search needs
 
 add-if1 : tie.Need-add-if1
-add-if1 c = search needs
+add-if1 c = let stands = c .before .before .before .before .before .before .before .before .before .before .before .before .before .before .before .before .before .before .before .pre .1 .1 .0 in omega arith
 
 take-jump-requires : tie.Need-take-jump-requires
 take-jump-requires c κs =
-    let start = c .before .before .before .before .before .before .before .before .before .before .before .before .before .before .before .before .before in
+    let start = c .before .before .before .before .before .before .before .before .before .before .before .before .before .before .before .before .before .before .before .before .before in
     let a = start .args in
-    let stands = start .pre .1 .0 in
-    let roomy = start .pre .1 .1 in
+    let stands = start .pre .1 .1 .0 in
+    let roomy = start .pre .1 .1 .1 in
+    let y = c .before .before .smaller .result in
     let until = c .before .before .smaller .ensures in
-    let steady = tree-steady (a .codes .now) (a .index .now) (a .entries .now) (roomy .tree) (roomy .reads) (a .at .x) _ _ _ _ _ (c .before .before .before .before .before .before .before .look-level .ensures) in (
+    let p = testOf (a .index .now) (a .entries .now) (roomy .tree) in
+    let steady = c .before .before .before .before .before .before .before .before .before .look-at .ensures .1 .1 (roomy .tree) (roomy .reads) in (
       omega arith,
       omega arith,
       omega arith,
       omega arith,
-      λ w. jump-room (testOf (a .index .now) (a .entries .now) (roomy .tree)) (a .at .x) (c .before .before .smaller .result) _ (a .at .cells) (a .out .now) (omega arith)
-          (steady-constant (testOf (a .index .now) (a .entries .now) (roomy .tree)) (a .at .x) (c .before .before .smaller .result) _ _ steady (omega arith))
-          (roomy .room w (c .before .before .smaller .result - a .at .x) (omega arith)),
+      λ w. jump-room p (a .at .x) y _ (a .at .cells) (a .out .now) (omega arith)
+          (steady-constant p (a .at .x) y _ _ steady (omega arith))
+          (roomy .room w (y - a .at .x) (omega arith)),
     )
 
 same-length : tie.Need-same-length
@@ -46,26 +53,31 @@ same-length-2 c = search needs
 same-length-3 : tie.Need-same-length-3
 same-length-3 c = search needs
 
+same-length-4 : tie.Need-same-length-4
+same-length-4 c = search needs
+
 returns : tie.Need-returns
 returns c =
-    let start = c .before .before .before .before .before .before .before .before .before .before .before .before .before .before .before .before .before .before .before .before in
+    let start = c .before .before .before .before .before .before .before .before .before .before .before .before .before .before .before .before .before .before .before .before .before .before .before .before in
     let a = start .args in
-    let stands = start .pre .1 .0 in
-    let roomy = start .pre .1 .1 in
-    let looks = c .before .before .before .before .before .before .before .before .before .before .look-level .ensures in
+    let stands = start .pre .1 .1 .0 in
+    let look = c .before .before .before .before .before .before .before .before .before .before .before .before .look-at .ensures in
     let y = c .before .before .before .before .before .smaller .result in
     let until = c .before .before .before .before .before .smaller .ensures in
     let taken = c .before .before .before .before .if1 .taken in (
-      record { ps-long = looks .ps-long; qs-long = looks .qs-long; ws-long = refl },
+      record { ps-long = look .0 .0; qs-long = look .0 .1; ws-long = refl },
       (
-        (omega arith, omega arith),
-        λ t o. let steady = tree-steady (a .codes .now) (a .index .now) (a .entries .now) t o (a .at .x) _ _ _ _ _ looks in
-            record {
-              far = y - a .at .x;
-              some = omega arith;
-              to = omega arith;
-              step = c .before .before .take-jump .ensures (testOf (a .index .now) (a .entries .now) t) (steady-constant (testOf (a .index .now) (a .entries .now) t) (a .at .x) y _ _ steady (omega arith));
-            },
+        (look .0 .2, sensed-later (slotHas (a .index .now) (a .entries .now)) _ (a .at .x) (look .1 .0) y (omega arith)),
+        (
+          (omega arith, omega arith),
+          λ t o. let p = testOf (a .index .now) (a .entries .now) t in
+              record {
+                far = y - a .at .x;
+                some = omega arith;
+                to = omega arith;
+                step = c .before .before .take-jump .ensures p (steady-constant p (a .at .x) y _ _ (look .1 .1 t o) (omega arith));
+              },
+        ),
       ),
     )
 
@@ -76,31 +88,35 @@ part-take-window-start : tie.Need-part-take-window-start
 part-take-window-start c = search needs
 
 part-take-window-end : tie.Need-part-take-window-end
-part-take-window-end c = search needs
+part-take-window-end c =
+    let start = c .before .before .before .before .before .before .before .before .before .before .before .before .before .before .before .before .before .before .before .before .before .before in
+    let stands = start .pre .1 .1 .0 in
+    let long = start .pre .0 .1 in
+    omega arith
 
 take-window-requires : tie.Need-take-window-requires
 take-window-requires c κs =
-    let start = c .before .before .before .before .before .before .before .before .before .before .before .before .before .before .before .before .before .before .before .before in
+    let start = c .before .before .before .before .before .before .before .before .before .before .before .before .before .before .before .before .before .before .before .before .before .before .before .before in
     let a = start .args in
     let lent = start .pre .0 .0 in
-    let stands = start .pre .1 .0 in
-    let looks = c .before .before .before .before .before .before .before .before .before .before .look-level .ensures in
+    let stands = start .pre .1 .1 .0 in
+    let look = c .before .before .before .before .before .before .before .before .before .before .before .before .look-at .ensures .0 in
     let words = part-words (a .at .words) (a .ws .now) (omega (arith, start .pre .0 .1)) in (
-      record { sound = lent .sound; entries-long = lent .entries-long; ps-long = looks .ps-long ∙ lent .ps-long; qs-long = looks .qs-long ∙ lent .qs-long },
-      ((omega arith, omega arith, omega arith, omega arith, omega arith, omega arith), start .pre .1 .1),
+      record { sound = lent .sound; entries-long = lent .entries-long; ps-long = look .0 ∙ lent .ps-long; qs-long = look .1 ∙ lent .qs-long },
+      ((omega arith, omega arith, omega arith, omega arith, omega arith, omega arith), start .pre .1 .1 .1),
     )
 
 cast-smaller : tie.Need-cast-smaller
-cast-smaller c = let stands = c .before .before .before .before .before .before .before .before .before .before .before .before .before .before .before .before .before .before .before .before .before .before .before .before .before .before .before .before .before .pre .1 .0 in omega arith
+cast-smaller c = let stands = c .before .before .before .before .before .before .before .before .before .before .before .before .before .before .before .before .before .before .before .before .before .before .before .before .before .before .before .before .before .before .before .before .before .pre .1 .1 .0 in omega arith
 
 mul-smaller : tie.Need-mul-smaller
-mul-smaller c = let stands = c .before .before .before .before .before .before .before .before .before .before .before .before .before .before .before .before .before .before .before .before .before .before .before .before .before .before .before .before .before .pre .1 .0 in omega arith
+mul-smaller c = let stands = c .before .before .before .before .before .before .before .before .before .before .before .before .before .before .before .before .before .before .before .before .before .before .before .before .before .before .before .before .before .before .before .before .before .pre .1 .1 .0 in omega arith
 
 add-smaller-2 : tie.Need-add-smaller-2
-add-smaller-2 c = let stands = c .before .before .before .before .before .before .before .before .before .before .before .before .before .before .before .before .before .before .before .before .before .before .before .before .before .before .before .before .before .pre .1 .0 in omega arith
+add-smaller-2 c = let stands = c .before .before .before .before .before .before .before .before .before .before .before .before .before .before .before .before .before .before .before .before .before .before .before .before .before .before .before .before .before .before .before .before .before .pre .1 .1 .0 in omega arith
 
 add-smaller-3 : tie.Need-add-smaller-3
-add-smaller-3 c = let stands = c .before .before .before .before .before .before .before .before .before .before .before .before .before .before .before .before .before .before .before .before .before .before .before .before .before .before .before .before .before .pre .1 .0 in omega arith
+add-smaller-3 c = let stands = c .before .before .before .before .before .before .before .before .before .before .before .before .before .before .before .before .before .before .before .before .before .before .before .before .before .before .before .before .before .before .before .before .before .pre .1 .1 .0 in omega arith
 
 smaller-requires-2 : tie.Need-smaller-requires-2
 smaller-requires-2 c κs = search needs
@@ -108,39 +124,42 @@ smaller-requires-2 c κs = search needs
 doubled-requires : tie.Need-doubled-requires
 doubled-requires c κs = search needs
 
-same-length-4 : tie.Need-same-length-4
-same-length-4 c = search needs
-
 same-length-5 : tie.Need-same-length-5
-same-length-5 c = search needs
+same-length-5 c = c .before .before .before .before .before .before .before .before .before .before .take-window .ensures .0 .ps-long ∙ c .before .before .before .before .before .before .before .before .before .before .before .before .before .before .before .before .before .before .before .before .before .before .before .look-at .ensures .0 .0
 
 same-length-6 : tie.Need-same-length-6
-same-length-6 c = search needs
+same-length-6 c = c .before .before .before .before .before .before .before .before .before .before .take-window .ensures .0 .qs-long ∙ c .before .before .before .before .before .before .before .before .before .before .before .before .before .before .before .before .before .before .before .before .before .before .before .look-at .ensures .0 .1
 
 same-length-7 : tie.Need-same-length-7
 same-length-7 c = search needs
 
+same-length-8 : tie.Need-same-length-8
+same-length-8 c = search needs
+
+same-length-9 : tie.Need-same-length-9
+same-length-9 c = search needs
+
 returns-2 : tie.Need-returns-2
 returns-2 c =
-    let start = c .before .before .before .before .before .before .before .before .before .before .before .before .before .before .before .before .before .before .before .before .before .before .before .before .before .before .before .before .before .before .before in
+    let start = c .before .before .before .before .before .before .before .before .before .before .before .before .before .before .before .before .before .before .before .before .before .before .before .before .before .before .before .before .before .before .before .before .before .before .before in
     let a = start .args in
-    let stands = start .pre .1 .0 in
-    let looks = c .before .before .before .before .before .before .before .before .before .before .before .before .before .before .before .before .before .before .before .before .before .look-level .ensures in
+    let stands = start .pre .1 .1 .0 in
+    let look = c .before .before .before .before .before .before .before .before .before .before .before .before .before .before .before .before .before .before .before .before .before .before .before .look-at .ensures in
     let took = c .before .before .before .before .before .before .before .before .before .before .take-window .ensures in
+    let next = c .before .smaller2 .ensures in
     let words = part-words (a .at .words) (a .ws .now) (omega (arith, start .pre .0 .1)) in (
-      record {
-        ps-long = took .0 .ps-long ∙ looks .ps-long;
-        qs-long = took .0 .qs-long ∙ looks .qs-long;
-        ws-long = same-length-6 c;
-      },
+      record { ps-long = same-length-5 c; qs-long = same-length-6 c; ws-long = same-length-8 c },
       (
-        (c .doubled .ensures .0 (stands .some), c .doubled .ensures .1),
-        λ t o. record {
-          far = 64 * a .at .words;
-          some = omega arith;
-          to = c .before .smaller2 .ensures;
-          step = rw words at (took .1 t o);
-        },
+        (look .0 .2, sensed-later (slotHas (a .index .now) (a .entries .now)) _ (a .at .x) (look .1 .0) (c .before .smaller2 .result) (omega arith)),
+        (
+          (c .doubled .ensures .0 (stands .some), c .doubled .ensures .1),
+          λ t o. record {
+            far = 64 * a .at .words;
+            some = omega arith;
+            to = next;
+            step = rw words at (took .1 t o);
+          },
+        ),
       ),
     )
 
@@ -148,7 +167,7 @@ pub step-spec : {M : Type 1} → statement M
 step-spec =
     tie.close
     (tie.spec
-    look-level-requires
+    look-at-requires
     add-smaller
     smaller-requires
     add-if1
@@ -156,6 +175,7 @@ step-spec =
     same-length
     same-length-2
     same-length-3
+    same-length-4
     returns
     sub-take-window
     part-take-window-start
@@ -167,8 +187,9 @@ step-spec =
     add-smaller-3
     smaller-requires-2
     doubled-requires
-    same-length-4
     same-length-5
     same-length-6
     same-length-7
+    same-length-8
+    same-length-9
     returns-2)

@@ -9,8 +9,8 @@ use Rattle.index.specs.Format.{singlesOf, lowerOf, upperOf}
 use Rattle.index.proofs.AnswerLaws.{list-kept}
 use Rattle.query.proofs.SenseLaws.{slot-in, slot-out}
 use borrow.Author.Needs.{needs}
-use Rattle.query.proofs.look.look_slot.Statement.{statement}
-use Rattle.query.proofs.look.look_slot.Tie as tie
+use Rattle.query.proofs.senses.look_slot.Statement.{statement}
+use Rattle.query.proofs.senses.look_slot.Tie as tie
 
 mul-entry : tie.Need-mul-entry
 mul-entry c = search needs
