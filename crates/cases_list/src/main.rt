@@ -89,18 +89,25 @@ fn room_for_intervals() {
     numbers(&[8], 2);
     numbers(&[8], 1);
     numbers(&[8], 0);
+}
+
+fn no_numbers() {
     numbers(&[], 8);
     numbers(&[], 0);
 }
 
-// 0, above the limit, equal to the one before and below it, at the first, a middle and the last place.
-fn bad_numbers() {
+// 0 and above the limit, at the first, a middle and the last place.
+fn numbers_out_of_range() {
     numbers(&[0, 4, 9], 8);
     numbers(&[4, 0, 9], 8);
     numbers(&[4, 9, 0], 8);
     numbers(&[16777216, 4, 9], 8);
     numbers(&[4, 16777216, 9], 8);
     numbers(&[4, 9, 16777216], 8);
+}
+
+// Equal to the one before and below it, at a middle and the last place; two bad ones; and no room.
+fn unordered_numbers() {
     numbers(&[4, 4, 9], 8);
     numbers(&[4, 9, 9], 8);
     numbers(&[4, 3, 9], 8);
@@ -138,14 +145,18 @@ fn lone_cells() {
     intervals(&[1, 3, 4, 6, 9], 8);
 }
 
-// l = 0, l > u and u above 16,777,215, at the first, a middle and the last place.
-fn bad_intervals() {
+// l = 0 and l > u, at the first, a middle and the last place.
+fn bad_lower_bounds() {
     intervals(&[0, 3, 5, 6, 9, 9], 8);
     intervals(&[1, 3, 0, 6, 9, 9], 8);
     intervals(&[1, 3, 5, 6, 0, 9], 8);
     intervals(&[3, 1, 5, 6, 9, 9], 8);
     intervals(&[1, 3, 6, 5, 9, 9], 8);
     intervals(&[1, 3, 5, 6, 9, 8], 8);
+}
+
+// u above 16,777,215, at the first, a middle and the last place; two bad ones; and no room.
+fn bad_upper_bounds() {
     intervals(&[1, 16777216, 5, 6, 9, 9], 8);
     intervals(&[1, 3, 5, 16777216, 9, 9], 8);
     intervals(&[1, 3, 5, 6, 9, 16777216], 8);
@@ -180,28 +191,38 @@ fn probe(singles: &[u8], lower: &[u8], upper: &[u8], a: u32, b: u32)
     io::write_all(1, b"\n");
 }
 
-// P12's list, [1,4], [6,6], [8,9]: P12, then probes that end at, begin at and fall between its bounds, and every record.
-fn probes() {
+// Probes P12's list, [1,4], [6,6], [8,9].
+fn probe_kept(a: u32, b: u32)
+    requires { ⌜ (a ≤ b) × (b ≤ top) ⌝ }
+{
     let singles = [6, 0, 0, 0];
     let lower = [1, 0, 0, 0, 8, 0, 0, 0];
     let upper = [4, 0, 0, 0, 9, 0, 0, 0];
-    probe(&singles, &lower, &upper, 4, 6);
-    probe(&singles, &lower, &upper, 5, 5);
-    probe(&singles, &lower, &upper, 5, 8);
-    probe(&singles, &lower, &upper, 6, 7);
-    probe(&singles, &lower, &upper, 9, 16777215);
-    probe(&singles, &lower, &upper, 10, 10);
-    probe(&singles, &lower, &upper, 1, 16777215);
+    probe(&singles, &lower, &upper, a, b);
+}
+
+// P12, then probes that end at, begin at and fall between the bounds, and every record.
+fn probes() {
+    probe_kept(4, 6);
+    probe_kept(5, 5);
+    probe_kept(5, 8);
+    probe_kept(6, 7);
+    probe_kept(9, 16777215);
+    probe_kept(10, 10);
+    probe_kept(1, 16777215);
 }
 
 fn main() {
     answered_numbers();
     room_for_intervals();
-    bad_numbers();
+    no_numbers();
+    numbers_out_of_range();
+    unordered_numbers();
     answered_intervals();
     room_for_numbers();
     lone_cells();
-    bad_intervals();
+    bad_lower_bounds();
+    bad_upper_bounds();
     crowded_intervals();
     probes();
 }

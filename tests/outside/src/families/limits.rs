@@ -229,10 +229,36 @@ fn longest_index(caller: &mut Caller) -> Outcome {
     caller.ask(&longest, b"long", 2 * cells)?;
     caller.ask(&longest, b"long", 2 * cells - 1)?;
     caller.probe(&longest, 0, 1, RECORD_MAX)?;
-    caller.build(RECORD_MAX, b"long\n", &[cells as u32], &numbers[..cells], INDEX_MAX)?;
-    caller.build(RECORD_MAX, b"long\n", &[cells as u32], &numbers[..cells], INDEX_MAX - 1)?;
-    caller.build(RECORD_MAX, b"long\n", &[cells as u32 + 1], &numbers, INDEX_MAX)?;
     longest.push(0);
     caller.check(&longest)?;
-    caller.ask(&longest, b"long", 4)
+    caller.ask(&longest, b"long", 4)?;
+    built_too_long(caller, cells, numbers)
+}
+
+/// Refusal 19 with 1: from one byte and from one cell more than an index may have, before 12 and behind 15, 18, 17 and 19 with 0. The numbers are
+/// one more than the singles that fit.
+fn built_too_long(caller: &mut Caller, cells: usize, mut numbers: Vec<u32>) -> Outcome {
+    let count = [cells as u32];
+    caller.build(RECORD_MAX, b"long\n", &count, &numbers[..cells], INDEX_MAX)?;
+    caller.build(RECORD_MAX, b"long\n", &count, &numbers[..cells], INDEX_MAX - 1)?;
+    for room in [INDEX_MAX, INDEX_MAX + 1, 0] {
+        caller.build(RECORD_MAX, b"longs\n", &count, &numbers[..cells], room)?;
+    }
+    let more = [cells as u32 + 1];
+    for room in [INDEX_MAX, INDEX_MAX + 4, 0] {
+        caller.build(RECORD_MAX, b"long\n", &more, &numbers, room)?;
+    }
+    caller.build(RECORD_MAX + 1, b"long\n", &more, &numbers, 0)?;
+    caller.build(RECORD_MAX, b"or\n", &more, &numbers, 0)?;
+    caller.build(RECORD_MAX, b"long\n", &[more[0] + 1], &numbers, 0)?;
+    // A stretch at the end takes two cells, however many numbers it has, so the size is that after merging.
+    numbers[cells - 1] = numbers[cells - 2] + 1;
+    numbers[cells] = numbers[cells - 2] + 2;
+    caller.build(RECORD_MAX, b"long\n", &more, &numbers, INDEX_MAX)?;
+    caller.build(RECORD_MAX, b"longer\n", &more, &numbers, INDEX_MAX)?;
+    for place in [cells, cells / 2, 0] {
+        numbers[place] = 0;
+        caller.build(RECORD_MAX, b"longer\n", &more, &numbers, 0)?;
+    }
+    Ok(())
 }

@@ -4,8 +4,8 @@ use Prim.Native.Nat.{_≤_, _-_}
 use native.Mathlib.Omega.{arith}
 use lib.ListN.{length, length-set}
 use borrow.Author.Needs.{needs}
-use Rattle.cases_build.proofs.fill_words.Statement.{statement}
-use Rattle.cases_build.proofs.fill_words.Tie as tie
+use Rattle.cases_build.proofs.many.fill_words.Statement.{statement}
+use Rattle.cases_build.proofs.many.fill_words.Tie as tie
 
 abbrev Inv-loop : tie.InvT-loop
 Inv-loop words₀ at₀ i₀ words at i = (at ≤ length words) × (i ≤ at) × (length words ≡ length words₀)

@@ -1,15 +1,15 @@
--- Safe and ends: what is left of the bytes falls.
-use Prim.Native.Nat.{_≤_, _-_}
+-- The place stays within the text.
+use Prim.Native.Nat.{_-_, _≤_}
 use lib.ListN.{length}
 use borrow.Author.Needs.{needs}
-use Rattle.cases_build.proofs.kept_from.Statement.{statement}
-use Rattle.cases_build.proofs.kept_from.Tie as tie
+use Rattle.cases_build.proofs.line.find_byte.Statement.{statement}
+use Rattle.cases_build.proofs.line.find_byte.Tie as tie
 
 abbrev Inv-loop : tie.InvT-loop
-Inv-loop bytes from i₀ i = from ≤ i
+Inv-loop s from b i₀ i = (from ≤ i) × (i ≤ length s)
 
 abbrev μ-loop : tie.MeasureT-loop
-μ-loop bytes from i₀ i = length bytes - i
+μ-loop s from b i₀ i = length s - i
 
 loop-holds : tie.Need-loop-holds Inv-loop μ-loop
 loop-holds c = search needs
@@ -32,8 +32,8 @@ loop-again c = search needs
 returns-2 : tie.Need-returns-2 Inv-loop μ-loop
 returns-2 c = search needs
 
-pub kept-from-spec : {M : Type 1} → statement M
-kept-from-spec =
+pub find-byte-spec : {M : Type 1} → statement M
+find-byte-spec =
     tie.close
     (tie.spec
     Inv-loop

@@ -3,8 +3,8 @@ use mathlib.Core.Path.{sym}
 use lib.Seq.{length-take-le}
 use denote.Ref.{now}
 use borrow.Author.Needs.{needs}
-use Rattle.cases_build.proofs.print_outcome.Statement.{statement}
-use Rattle.cases_build.proofs.print_outcome.Tie as tie
+use Rattle.cases_build.proofs.print.print_outcome.Statement.{statement}
+use Rattle.cases_build.proofs.print.print_outcome.Tie as tie
 
 enum-known-answer : tie.Need-enum-known-answer
 enum-known-answer c = search needs
@@ -21,19 +21,20 @@ print-decimal-requires c κs = search needs
 print-kept-requires : tie.Need-print-kept-requires
 print-kept-requires c κs = search needs
 
-slice-aggregate-print-bytes : tie.Need-slice-aggregate-print-bytes
-slice-aggregate-print-bytes c =
-    let start = c .before .before .before .before .before .before .before .before .before .before in
-    sym (length-take-le _ (now (start .args .bytes)) (c .before .if1 .taken))
-
-print-bytes-requires : tie.Need-print-bytes-requires
-print-bytes-requires c κs = search needs
-
 slice-aggregate-write-all-2 : tie.Need-slice-aggregate-write-all-2
 slice-aggregate-write-all-2 c = search needs
 
 write-all-requires-2 : tie.Need-write-all-requires-2
 write-all-requires-2 c κs = search needs
+
+slice-aggregate-print-bytes : tie.Need-slice-aggregate-print-bytes
+slice-aggregate-print-bytes c =
+    let tested = c .before .before .before in
+    let start = tested .before .before .before .before .before .before .before .before .before in
+    sym (length-take-le _ (now (start .args .bytes)) (tested .if1 .taken))
+
+print-bytes-requires : tie.Need-print-bytes-requires
+print-bytes-requires c κs = search needs
 
 enum-known-answer-2 : tie.Need-enum-known-answer-2
 enum-known-answer-2 c = search needs
@@ -62,10 +63,10 @@ print-outcome-spec =
     write-all-requires
     print-decimal-requires
     print-kept-requires
-    slice-aggregate-print-bytes
-    print-bytes-requires
     slice-aggregate-write-all-2
     write-all-requires-2
+    slice-aggregate-print-bytes
+    print-bytes-requires
     enum-known-answer-2
     print-refusal-requires
     print-kept-requires-2

@@ -3,8 +3,8 @@ use mathlib.Core.Path.{sym}
 use lib.ListN.{replicate}
 use lib.Seq.{length-take-le, length-front}
 use borrow.Author.Needs.{needs}
-use Rattle.cases_build.proofs.case.Statement.{statement}
-use Rattle.cases_build.proofs.case.Tie as tie
+use Rattle.cases_build.proofs.case.build.Statement.{statement}
+use Rattle.cases_build.proofs.case.build.Tie as tie
 
 array-borrow-prefix-bytes : tie.Need-array-borrow-prefix-bytes
 array-borrow-prefix-bytes c = search needs
@@ -20,46 +20,30 @@ build-index-requires c κs = search needs
 write-all-requires : tie.Need-write-all-requires
 write-all-requires c κs = search needs
 
-slice-aggregate-write-all : tie.Need-slice-aggregate-write-all
-slice-aggregate-write-all c = search needs
-
-write-all-requires-2 : tie.Need-write-all-requires-2
-write-all-requires-2 c κs = search needs
-
-print-decimal-requires : tie.Need-print-decimal-requires
-print-decimal-requires c κs = search needs
-
-slice-aggregate-write-all-2 : tie.Need-slice-aggregate-write-all-2
-slice-aggregate-write-all-2 c = search needs
-
-write-all-requires-3 : tie.Need-write-all-requires-3
-write-all-requires-3 c κs = search needs
-
 slice-aggregate-print-outcome : tie.Need-slice-aggregate-print-outcome
 slice-aggregate-print-outcome c =
-    let called = c .before .before .before .before .before .before .before .before in
+    let called = c .before .before .before in
     let start = called .before .before .before .before .before .before in
     sym (length-front (replicate 256 165) (called .build-index .last .1 .1 .1 .1 .0) (start .args .room) (called .build-index .kept .1 .1 .1 .1 .0))
 
 print-outcome-requires : tie.Need-print-outcome-requires
 print-outcome-requires c κs = search needs
 
+refused-by-requires : tie.Need-refused-by-requires
+refused-by-requires c κs = search needs
+
 returns : tie.Need-returns
 returns c = search needs
 
-pub case-spec : {M : Type 1} → statement M
-case-spec =
+pub build-spec : {M : Type 1} → statement M
+build-spec =
     tie.close
     (tie.spec
     array-borrow-prefix-bytes
     slice-aggregate-build-index
     build-index-requires
     write-all-requires
-    slice-aggregate-write-all
-    write-all-requires-2
-    print-decimal-requires
-    slice-aggregate-write-all-2
-    write-all-requires-3
     slice-aggregate-print-outcome
     print-outcome-requires
+    refused-by-requires
     returns)
