@@ -8,9 +8,9 @@ use Rattle.list.specs.Interval.{top, names}
 use Rattle.list.specs.Reading.{listIn}
 use Rattle.list.proofs.KeptLaws.{kept-facts}
 use Rattle.index.specs.Format.{wordCount, singlesOf, lowerOf, upperOf}
+use Rattle.index.proofs.AnswerLaws.{list-kept}
 use Rattle.query.specs.Slots.{slotHas}
 use Rattle.query.proofs.AddedLaws.{added-agree, added-none}
-use Rattle.index.proofs.AnswerLaws.{list-kept as entry-kept}
 use Rattle.query.proofs.SlotLaws.{slot-lists, slot-lacks}
 use borrow.Author.Needs.{needs}
 use Rattle.query.proofs.fill.fill_slot.Statement.{statement}
@@ -53,7 +53,7 @@ place-of-requires c κs =
     let index = a .index .now in
     let i = getD (a .entries .now) (a .k) 0 in
     let h : i < wordCount index = omega (arith, c .before .before .before .before .before .if1 .taken, c .before .before .before .before .before .before .word-count .ensures .0) in
-    let k = kept-facts top (numbersIn (singlesOf index i)) (numbersIn (lowerOf index i)) (numbersIn (upperOf index i)) (entry-kept index (st .pre .0) i h) in
+    let k = kept-facts top (numbersIn (singlesOf index i)) (numbersIn (lowerOf index i)) (numbersIn (upperOf index i)) (list-kept index (st .pre .0) i h) in
     (rw (c .before .before .before .before .singles-of .ensures) (k .singles-ascend), rw (c .before .before .upper-of .ensures) (k .upper-ascend))
 
 fill-list-requires : tie.Need-fill-list-requires
@@ -63,7 +63,7 @@ fill-list-requires c κs =
     let index = a .index .now in
     let i = getD (a .entries .now) (a .k) 0 in
     let h : i < wordCount index = omega (arith, c .before .before .before .before .before .before .before .if1 .taken, c .before .before .before .before .before .before .before .before .word-count .ensures .0) in
-    let k = entry-kept index (st .pre .0) i h in
+    let k = list-kept index (st .pre .0) i h in
     (rw (c .before .before .before .before .before .before .singles-of .ensures, c .before .before .before .before .before .lower-of .ensures, c .before .before .before .before .upper-of .ensures) k, c .before .place-of .ensures, st .pre .4, st .pre .5)
 
 mul-ps : tie.Need-mul-ps
