@@ -39,7 +39,7 @@ fn ones() -> [u32; 65_536]
 }
 
 // Builds into one byte.
-fn many(label: &[u8], n: u32, words: &[u8], counts: &[u32], numbers: &[u32]) {
+fn build_many(label: &[u8], n: u32, words: &[u8], counts: &[u32], numbers: &[u32]) {
     let mut byte = [BEFORE];
     let answer = build::build::build_index(n, words, counts, numbers, &mut byte);
     io::write_all(1, label);
@@ -48,26 +48,26 @@ fn many(label: &[u8], n: u32, words: &[u8], counts: &[u32], numbers: &[u32]) {
 }
 
 // Builds the words that the first `size` bytes hold, with as many counts of one record.
-fn some(label: &[u8], words: &[u8], size: usize, ones: &[u32], count: usize) {
+fn build_front(label: &[u8], words: &[u8], size: usize, ones: &[u32], count: usize) {
     if size <= words.len() {
         if count <= ones.len() {
-            many(label, 9, &words[..size], &ones[..count], &ones[..count]);
+            build_many(label, 9, &words[..size], &ones[..count], &ones[..count]);
         }
     }
 }
 
 // All words but the last are accepted, as far as the room; the last is not, ended or not.
 fn counted(words: &[u8], ones: &[u32]) {
-    some(b"65535 words: ", words, 327_675, ones, 65_535);
-    some(b"65536 words: ", words, 327_680, ones, 65_536);
-    some(b"the 65536th not ended: ", words, 327_679, ones, 65_536);
-    some(b"the 65536th of one byte: ", words, 327_676, ones, 65_536);
+    build_front(b"65535 words: ", words, 327_675, ones, 65_535);
+    build_front(b"65536 words: ", words, 327_680, ones, 65_536);
+    build_front(b"the 65536th not ended: ", words, 327_679, ones, 65_536);
+    build_front(b"the 65536th of one byte: ", words, 327_676, ones, 65_536);
 }
 
 fn beside_each(words: &[u8], ones: &[u32]) {
-    many(b"65536 words beside 18: ", 9, words, &[], ones);
-    many(b"65536 words beside 15: ", 0, words, ones, ones);
-    many(b"65536 words beside both: ", 0, words, &[], ones);
+    build_many(b"65536 words beside 18: ", 9, words, &[], ones);
+    build_many(b"65536 words beside 15: ", 0, words, ones, ones);
+    build_many(b"65536 words beside both: ", 0, words, &[], ones);
 }
 
 // Puts a bad byte into a word.
@@ -80,7 +80,7 @@ fn spoil(words: &mut [u8], word: usize) {
 // All words, with one more of them bad.
 fn spoiled(label: &[u8], words: &mut [u8], word: usize, ones: &[u32]) {
     spoil(words, word);
-    many(label, 9, words, ones, ones);
+    build_many(label, 9, words, ones, ones);
 }
 
 // A bad word is given before the 65,536th; as the 65,536th itself it is no other refusal.
