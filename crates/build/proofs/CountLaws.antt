@@ -13,7 +13,7 @@ use Rattle.laws.proofs.Tests.{leb-cases}
 use Rattle.refusal.specs.declared.Found.the-variants.{At, Nowhere}
 use Rattle.refusal.specs.First.{first}
 use Rattle.refusal.proofs.FirstLaws.{first-none, first-none-is, first-at, first-is}
-use Rattle.list.specs.Convert.{numberBefore, badNumber}
+use Rattle.convert.specs.Convert.{numberBefore, badNumber}
 use Rattle.index.specs.Format.{part}
 use Rattle.index.proofs.SoundLaws.{part-length}
 use Rattle.build.specs.Lent.{sumTo, badCount, badRest, beginsList, listedBefore, badListed}

@@ -13,7 +13,7 @@ use Rattle.word.specs.Word.{same}
 use Rattle.word.proofs.WordLaws.{before-irreflexive}
 use Rattle.list.specs.declared.Written.the-variants.{Wrote}
 use Rattle.list.specs.Interval.{isProper, names}
-use Rattle.list.specs.Convert.{among}
+use Rattle.list.specs.Among.{among}
 use Rattle.list.specs.Cell.{numbersIn}
 use Rattle.list.proofs.ProperLaws.{ProperFrom, proper-facts}
 use Rattle.list.proofs.NamesLaws.{names-in}

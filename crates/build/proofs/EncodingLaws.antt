@@ -11,7 +11,7 @@ use Rattle.word.specs.Word.{before, isWord}
 use Rattle.list.specs.Interval.{names}
 use Rattle.list.specs.Stretches.{recordsOf}
 use Rattle.list.specs.Cell.{cellAt, numbersIn}
-use Rattle.list.specs.Convert.{among}
+use Rattle.list.specs.Among.{among}
 use Rattle.list.proofs.CellLaws.{numbersIn-length}
 use Rattle.list.proofs.StretchLaws.{cells-same, proper-cells}
 use Rattle.list.proofs.RecordLaws.{records-same, records-among, records-ascend, proper-count}

@@ -19,7 +19,7 @@ use Rattle.list.specs.declared.Written.{Written}
 use Rattle.list.specs.declared.Written.the-variants as written
 use Rattle.list.specs.Interval.{top}
 use Rattle.list.proofs.RecordLaws.{Ascends}
-use Rattle.list.proofs.NumberLaws.{ascends-good}
+use Rattle.convert.proofs.NumberLaws.{ascends-good}
 use Rattle.index.specs.declared.Checked.{Checked}
 use Rattle.index.specs.declared.Checked.the-variants.{Good, Refused}
 use Rattle.index.specs.Check.{badPlace}

@@ -11,7 +11,7 @@ use Rattle.laws.proofs.Tests.{true-false}
 use Rattle.word.specs.Word.{before, isWord}
 use Rattle.list.specs.Interval.{top, isProper, names}
 use Rattle.list.specs.Cell.{cellAt, numbersIn}
-use Rattle.list.specs.Convert.{among}
+use Rattle.list.specs.Among.{among}
 use Rattle.list.proofs.StretchLaws.{cells-proper, cells-proper-from, cells-names}
 use Rattle.list.proofs.RecordLaws.{Ascends}
 use Rattle.index.specs.Format.{

@@ -8,10 +8,10 @@ use lib.Seq.{drop-drop}
 use Rattle.laws.proofs.Lists.{drop-next, drop-none}
 use Rattle.refusal.specs.declared.Found.the-variants.{Nowhere}
 use Rattle.list.specs.Interval.{top}
-use Rattle.list.specs.Convert.{badNumberOf}
+use Rattle.convert.specs.Convert.{badNumberOf}
 use Rattle.list.proofs.RecordLaws.{Ascends}
-use Rattle.list.proofs.NumberLaws.{ascends-good}
-use Rattle.list.proofs.RunLaws.{runs-cells}
+use Rattle.convert.proofs.NumberLaws.{ascends-good}
+use Rattle.convert.proofs.RunLaws.{runs-cells}
 use Rattle.index.proofs.SoundLaws.{part-length}
 use Rattle.build.specs.Lent.{sumTo, listsFrom}
 use Rattle.build.specs.Written.{keptBytes, cellsIn, listsBytes, entryBytes, directoryBytes}

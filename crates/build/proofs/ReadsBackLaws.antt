@@ -14,7 +14,7 @@ use Rattle.refusal.proofs.FirstLaws.{first-at, first-none}
 use Rattle.word.specs.Word.{same}
 use Rattle.word.proofs.WordLaws.{same-equal}
 use Rattle.list.specs.Interval.{names}
-use Rattle.list.specs.Convert.{among}
+use Rattle.list.specs.Among.{among}
 use Rattle.list.proofs.StretchLaws.{cells-names, cells-names-zero, cells-names-above}
 use Rattle.list.proofs.RecordLaws.{Ascends, among-below, among-above}
 use Rattle.index.specs.Has.{has}

@@ -12,7 +12,7 @@ use Rattle.refusal.specs.declared.Refusal.{Refusal}
 use Rattle.refusal.specs.declared.Refusal.the-variants.{BuildWord, BuildCount, BuildLimit, Number}
 use Rattle.refusal.specs.First.{first}
 use Rattle.list.specs.Interval.{top}
-use Rattle.list.specs.Convert.{badNumberOf, intervalsOf}
+use Rattle.convert.specs.Convert.{badNumberOf, intervalsOf}
 use Rattle.index.specs.Format.{part}
 use Rattle.index.specs.declared.Checked.{Checked}
 use Rattle.index.specs.declared.Checked.the-variants.{Good, Refused}

@@ -6,7 +6,7 @@ use lib.Dec.{eqb}
 use lib.ListN.{length}
 use Rattle.list.specs.Interval.{intervals}
 use Rattle.list.specs.Stretches.{cellsOf}
-use Rattle.list.specs.Convert.{among}
+use Rattle.list.specs.Among.{among}
 
 -- "All cells are 32 bits, low byte first.": the four bytes of a cell, and the bytes of several
 abbrev pub cellBytes : ℕ → List ℕ

@@ -10,8 +10,8 @@ use crate::words::Words;
 use crate::words::check_words;
 use crate::write::write_index;
 use index::Checked;
+use list::TOP;
 use list::Written;
-use list::convert::TOP;
 use refusal::Found;
 use refusal::Refusal;
 

@@ -4,7 +4,7 @@ ghost use lib.ListN.{length};
 ghost use Rattle.refusal.specs.First.{first};
 ghost use Rattle.build.specs.Lent.{badListed};
 ghost use Rattle.build.specs.Passes.{Fair};
-use list::convert::first_bad_number;
+use convert::numbers::first_bad_number;
 use refusal::Found;
 
 // The first number that is 0, above n, or not above the one before in its list.

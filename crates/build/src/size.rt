@@ -5,7 +5,7 @@ ghost use lib.Dec.{eqb};
 ghost use lib.ListN.{length};
 ghost use Rattle.list.specs.Interval.{top};
 ghost use Rattle.list.specs.Ginix.{one};
-ghost use Rattle.list.specs.Convert.{badNumberOf};
+ghost use Rattle.convert.specs.Convert.{badNumberOf};
 ghost use Rattle.build.specs.Lent.{listsFrom};
 ghost use Rattle.build.specs.Written.{listsBytes};
 ghost use Rattle.build.specs.Passes.{Lists, KeptOf};

@@ -5,7 +5,7 @@ ghost use Prim.Native.Nat.{_+_, _*_, _%_, _≤_, _<_};
 ghost use lib.Dec.{eqb};
 ghost use lib.ListN.{length, drop};
 ghost use lib.Seq.{sets};
-ghost use Rattle.list.specs.Convert.{badNumberOf, intervalsOf};
+ghost use Rattle.convert.specs.Convert.{badNumberOf, intervalsOf};
 ghost use Rattle.build.specs.Lent.{wordsOf, listsFrom};
 ghost use Rattle.build.specs.Written.{cellBytes, cellsBytes, keptBytes, listsBytes};
 ghost use Rattle.build.specs.Build.{indexFrom};

@@ -1,7 +1,7 @@
 // Numbers to intervals, intervals to numbers, and probing, one line a case. A conversion's line has what is lent, the answer, and all of eight cells
 // afterwards, which held 7 before.
+use list::TOP;
 use list::Written;
-use list::convert::TOP;
 ghost use mathlib.Core.Path.{_≡_};
 ghost use Prim.Native.Nat.{_≤_};
 ghost use lib.ListN.{length};
@@ -57,7 +57,7 @@ fn numbers(lent: &[u32], room: usize)
     requires { ⌜ room ≤ 8 ⌝ }
 {
     let mut cells = [7; 8];
-    let answer = list::convert::to_intervals(lent, &mut cells[..room]);
+    let answer = convert::to_intervals::to_intervals(lent, &mut cells[..room]);
     print_lent(b"numbers", lent, room);
     print_outcome(answer, &cells);
 }
@@ -67,7 +67,7 @@ fn intervals(lent: &[u32], room: usize)
     requires { ⌜ room ≤ 8 ⌝ }
 {
     let mut cells = [7; 8];
-    let answer = list::convert::to_numbers(lent, &mut cells[..room]);
+    let answer = convert::to_numbers::to_numbers(lent, &mut cells[..room]);
     print_lent(b"intervals", lent, room);
     print_outcome(answer, &cells);
 }

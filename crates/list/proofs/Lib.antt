@@ -8,11 +8,6 @@ pub mod FewestLaws
 pub mod KeptCountLaws
 pub mod JoinLaws
 pub mod BoundLaws
-pub mod NumberLaws
-pub mod RunLaws
-pub mod IntervalLaws
-pub mod SpanLaws
-pub mod RoundTripLaws
 pub mod SeekLaws
 pub mod WalkLaws
 pub mod KeptLaws

@@ -11,7 +11,7 @@ use borrow.Author.Tests.{eq-eqb, ne-eqb}
 use Rattle.laws.proofs.Tests.{true-false}
 use Rattle.list.specs.Interval.{isProper, names, records}
 use Rattle.list.specs.Stretches.{turned, stretches, cellsOf, kept, recordsFrom, recordsOf}
-use Rattle.list.specs.Convert.{among}
+use Rattle.list.specs.Among.{among}
 use Rattle.list.proofs.StretchLaws.{proper-cells}
 
 -- ---- tests that agree

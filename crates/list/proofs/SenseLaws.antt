@@ -10,7 +10,7 @@ use lib.ListN.{length, getD}
 use borrow.Author.Tests.{lt-ltb, le-ltb, le-leb, lt-leb, eq-eqb, ne-eqb}
 use Rattle.laws.proofs.Tests.{leb-cases}
 use Rattle.list.specs.Interval.{top, names}
-use Rattle.list.specs.Convert.{among}
+use Rattle.list.specs.Among.{among}
 use Rattle.list.specs.Kept.{walked}
 use Rattle.list.specs.Seek.{countBelow, Ascends}
 use Rattle.list.specs.Sense.{Steady, numberOrEnd}

@@ -11,7 +11,7 @@ use Rattle.laws.proofs.Tests.{true-false, by-test, same-test, leb-both}
 use Rattle.laws.proofs.Lists.{drop-next, drop-none}
 use Rattle.list.specs.declared.Place.{Place}
 use Rattle.list.specs.Interval.{names}
-use Rattle.list.specs.Convert.{among}
+use Rattle.list.specs.Among.{among}
 use Rattle.list.specs.Ginix.{one, belowCount}
 use Rattle.list.specs.Kept.{singleNext, moved, walkFrom, walked}
 use Rattle.list.specs.Seek.{countBelow}

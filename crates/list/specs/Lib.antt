@@ -1,10 +1,10 @@
+pub mod Among
 pub mod Interval
 pub mod Stretches
 pub mod Ginix
 pub mod Cell
 pub mod Kept
 pub mod Answer
-pub mod Convert
 pub mod Seek
 pub mod Passed
 pub mod Reading

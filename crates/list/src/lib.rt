@@ -1,14 +1,16 @@
-// Interval lists: numbers to stretches and back, and the reader of one list as an index keeps it.
+// Interval lists: their theory, and the reader of one list as an index keeps it.
 
 pub mod answer;
 pub mod cell;
-pub mod convert;
 pub mod kept;
 pub mod probe;
 pub mod put;
 pub mod reading;
 pub mod seek;
 pub mod sense;
+
+// The largest record number.
+pub const TOP: u32 = 16_777_215;
 
 // Above every record number.
 pub const END: u32 = 16_777_216;

@@ -4,7 +4,7 @@ use mathlib.Core.Path.{_≡_}
 use mathlib.Core.List.{List}
 use Rattle.list.specs.declared.Written.{Written}
 use Rattle.list.specs.declared.answer.Answer.{Answer}
-use Rattle.list.specs.Convert.{ToIntervals, ToNumbers}
+use Rattle.convert.specs.Convert.{ToIntervals, ToNumbers}
 use Rattle.join.specs.Join.{Joins}
 use Rattle.question.specs.Grammar.{fromLeft}
 use Rattle.query.specs.Ask.{Asks}

@@ -1,6 +1,6 @@
 // The calls for C programs: numbers and slices in, a struct of numbers out by value, so that a refused call writes nothing anywhere.
 ghost use mathlib.Core.Path.{_≡_};
-ghost use Rattle.list.specs.Convert.{ToIntervals, ToNumbers};
+ghost use Rattle.convert.specs.Convert.{ToIntervals, ToNumbers};
 ghost use Rattle.index.specs.Format.{wordStart, wordLength};
 ghost use Rattle.index.specs.Check.{checkOf};
 ghost use Rattle.index.specs.Entry.{lookupOf, entryOf, probeOf};
@@ -199,7 +199,7 @@ pub extern "C" fn naburain_probe(index: &[u8], entry: u32, a: u32, b: u32) -> Pr
 pub extern "C" fn naburain_to_intervals(numbers: &[u32], cells: &mut [u32]) -> WriteResult
     ensures { λ r. ⌜ IntervalsExported (now (numbers .entry)) (now (cells .entry)) (now (cells .exit)) r ⌝ }
 {
-    write_result(list::convert::to_intervals(numbers, cells))
+    write_result(convert::to_intervals::to_intervals(numbers, cells))
 }
 
 // Refusals 16, 12.
@@ -207,7 +207,7 @@ pub extern "C" fn naburain_to_intervals(numbers: &[u32], cells: &mut [u32]) -> W
 pub extern "C" fn naburain_to_numbers(cells: &[u32], numbers: &mut [u32]) -> WriteResult
     ensures { λ r. ⌜ NumbersExported (now (cells .entry)) (now (numbers .entry)) (now (numbers .exit)) r ⌝ }
 {
-    write_result(list::convert::to_numbers(cells, numbers))
+    write_result(convert::to_numbers::to_numbers(cells, numbers))
 }
 
 // Refusals 1 to 5, 13, 14, 12.

@@ -2,7 +2,7 @@
 use Prim.Native.Nat.{ℕ}
 use mathlib.Core.Path.{_≡_, sym, ap, _∙_}
 use mathlib.Core.List.{List}
-use Rattle.list.specs.Convert.{ToIntervals, ToNumbers}
+use Rattle.convert.specs.Convert.{ToIntervals, ToNumbers}
 use Rattle.index.specs.Format.{wordStart, wordLength}
 use Rattle.index.specs.Check.{checkOf}
 use Rattle.index.specs.Entry.{lookupOf, entryOf, entryWord, probeOf}

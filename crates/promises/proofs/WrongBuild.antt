@@ -7,7 +7,7 @@ use lib.ListN.{length, getD, replicate}
 use Rattle.refusal.specs.First.{firstFrom, first}
 use Rattle.word.specs.Word.{isWordByte, allWordBytes, same, before, isAnd, isOr, isNot, isOperator, isWord}
 use Rattle.list.specs.Stretches.{stretches, cellsOf}
-use Rattle.list.specs.Convert.{among}
+use Rattle.list.specs.Among.{among}
 use Rattle.question.specs.Token.{run}
 use Rattle.list.specs.declared.Written.{Written}
 use Rattle.list.specs.declared.Written.the-variants.{Wrote, Refused}

@@ -11,9 +11,9 @@ use Rattle.refusal.specs.First.{firstFrom, first}
 use Rattle.list.specs.declared.Written.{Written}
 use Rattle.list.specs.Interval.{top, properFrom, isProper, intervals, records}
 use Rattle.list.specs.Stretches.{recordsFrom}
-use Rattle.list.specs.Convert.{badNumber, badInterval, answerOf, leftOf, badNumberOf, intervalsOf, badIntervalOf, numbersOf}
-use Rattle.list.proofs.RunLaws.{runsFrom, runs, runs-cells}
-use Rattle.list.proofs.SpanLaws.{spans, spans-records}
+use Rattle.convert.specs.Convert.{badNumber, badInterval, answerOf, leftOf, badNumberOf, intervalsOf, badIntervalOf, numbersOf}
+use Rattle.convert.proofs.RunLaws.{runsFrom, runs, runs-cells}
+use Rattle.convert.proofs.SpanLaws.{spans, spans-records}
 use Rattle.promises.specs.Wrong.{Fails, toIntervals, toNumbers, Refusing, Fixed, Silent, Inventing, Misreporting, writtenRefused, writtenIn, neededBy}
 use Rattle.promises.proofs.Determined.{intervals-determined, numbers-determined}
 use Rattle.promises.proofs.WrongLaws.{Known, refusing-fails, fixed-fails, silent-fails, inventing-fails, misreporting-fails, differ-at}

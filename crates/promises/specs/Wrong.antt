@@ -9,7 +9,7 @@ use Rattle.list.specs.declared.Written.{Written}
 use Rattle.list.specs.declared.Written.the-variants as written
 use Rattle.list.specs.declared.answer.Answer.{Answer}
 use Rattle.list.specs.declared.answer.Answer.the-variants as answer
-use Rattle.list.specs.Convert.{ToIntervals, ToNumbers}
+use Rattle.convert.specs.Convert.{ToIntervals, ToNumbers}
 use Rattle.index.specs.declared.Checked.{Checked}
 use Rattle.index.specs.declared.Checked.the-variants as checked
 use Rattle.index.specs.declared.Lookup.{Lookup}

@@ -11,7 +11,7 @@ use borrow.Author.Tests.{eqb-true, eq-eqb, ne-eqb, leb-true, ltb-true, le-leb, l
 use Rattle.laws.proofs.Tests.{and-both, same-test, leb-cases}
 use Rattle.laws.proofs.Lists.{drop-next, drop-none}
 use Rattle.list.specs.Interval.{names}
-use Rattle.list.specs.Convert.{among}
+use Rattle.list.specs.Among.{among}
 use Rattle.list.specs.Seek.{countBelow, Ascends}
 use Rattle.list.proofs.SeekLaws.{count-length, count-passed, count-under, count-ahead}
 use Rattle.list.proofs.NamesLaws.{names-past}

@@ -4,7 +4,7 @@ ghost use Prim.Native.Nat.{_-_, _≤_, _<_};
 ghost use mathlib.Core.List.{[]};
 ghost use lib.ListN.{length};
 ghost use Rattle.list.specs.Cell.{numbersIn};
-ghost use Rattle.list.specs.Convert.{among};
+ghost use Rattle.list.specs.Among.{among};
 ghost use Rattle.list.specs.Interval.{top, names};
 ghost use Rattle.list.specs.Kept.{walked};
 ghost use Rattle.list.specs.Reading.{KeptIn, listIn, placeOf};

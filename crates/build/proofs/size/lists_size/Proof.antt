@@ -7,7 +7,7 @@ use lib.ListN.{length, drop, getD, take}
 use denote.Ref.{now}
 use borrow.Author.Needs.{needs}
 use Rattle.list.specs.Interval.{top}
-use Rattle.list.specs.Convert.{intervalsOf}
+use Rattle.convert.specs.Convert.{intervalsOf}
 use Rattle.build.specs.Lent.{sumTo, listsFrom}
 use Rattle.build.specs.Written.{listsBytes}
 use Rattle.build.proofs.KeptBytesLaws.{kept-length}

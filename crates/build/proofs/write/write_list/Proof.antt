@@ -8,9 +8,9 @@ use lib.ListN.{length, drop, getD}
 use denote.Ref.{now}
 use borrow.Author.Needs.{needs}
 use Rattle.list.specs.Interval.{top}
-use Rattle.list.specs.Convert.{intervalsOf}
-use Rattle.list.proofs.NumberLaws.{good-number-small}
-use Rattle.list.proofs.RunLaws.{runsFrom, runs, runsFrom-on, runsFrom-off, runsFrom-end, runs-start, runs-none, runs-cells}
+use Rattle.convert.specs.Convert.{intervalsOf}
+use Rattle.convert.proofs.NumberLaws.{good-number-small}
+use Rattle.convert.proofs.RunLaws.{runsFrom, runs, runsFrom-on, runsFrom-off, runsFrom-end, runs-start, runs-none, runs-cells}
 use Rattle.build.specs.Passes.{laid, laidTo}
 use Rattle.build.proofs.KeptBytesLaws.{kept-length}
 use Rattle.build.proofs.WriteLaws.{keptPlan, keptPlaces, Placed, kept-laid, laid-within, placed-on, laid-length, kept-done, placed-start, kept-start, none-kept}

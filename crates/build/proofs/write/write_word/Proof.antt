@@ -6,7 +6,7 @@ use lib.ListN.{length}
 use denote.Ref.{now}
 use borrow.Author.Needs.{needs}
 use borrow.Rule.Slice.PartMut.{putMid}
-use Rattle.list.specs.Convert.{intervalsOf}
+use Rattle.convert.specs.Convert.{intervalsOf}
 use Rattle.build.specs.Written.{keptBytes}
 use Rattle.build.proofs.KeptBytesLaws.{kept-length}
 use Rattle.build.proofs.WriteLaws.{tail-sets, word-entered, tail-length}

@@ -6,7 +6,7 @@ use mathlib.Core.List.{[]}
 use lib.ListN.{length, drop, getD, take}
 use denote.Ref.{now}
 use borrow.Author.Needs.{needs}
-use Rattle.list.specs.Convert.{intervalsOf}
+use Rattle.convert.specs.Convert.{intervalsOf}
 use Rattle.build.specs.Lent.{wordsFrom, wordsOf, listsFrom}
 use Rattle.build.specs.Passes.{allEntered}
 use Rattle.build.proofs.ListsLaws.{list-good, list-within}

@@ -4,7 +4,7 @@ use mathlib.Core.Bool.{_||_}
 use mathlib.Core.List.{[]}
 use Rattle.list.specs.declared.Place.{Place}
 use Rattle.list.specs.Cell.{numbersIn}
-use Rattle.list.specs.Convert.{among}
+use Rattle.list.specs.Among.{among}
 use Rattle.list.specs.Interval.{top, names}
 use Rattle.list.specs.Kept.{walked}
 use Rattle.list.proofs.KeptLaws.{kept-facts}

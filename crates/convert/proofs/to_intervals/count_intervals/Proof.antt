@@ -1,0 +1,86 @@
+-- The invariant: the intervals are those begun so far and one for each break to come. Rests on the pass over the numbers (RunLaws), whose cells are the contract's.
+use mathlib.Core.Path.{_≡_, sym, ap, _∙_}
+use Prim.Native.Nat.{ℕ, _≤_, _-_, _+_}
+use native.Mathlib.Omega.{arith}
+use lib.ListN.{length, drop}
+use mathlib.Core.List.{List}
+use denote.Ref.{now}
+use borrow.Author.Needs.{needs}
+use Rattle.list.specs.Interval.{top, intervals}
+use Rattle.convert.proofs.NumberLaws.{good-number-small}
+use Rattle.convert.proofs.RunLaws.{breaks, runs, breaks-at, breaks-end, runs-none, runs-count, runs-cells}
+use Rattle.convert.proofs.to_intervals.count_intervals.Statement.{statement}
+use Rattle.convert.proofs.to_intervals.count_intervals.Tie as tie
+
+abbrev Inv-loop : tie.InvT-loop
+Inv-loop numbers u₀ n₀ i₀ u n i =
+    (i ≤ length numbers) × (n ≤ i) × (u ≤ top) × (intervals (runs numbers) ≡ n + breaks u (drop i numbers))
+
+abbrev μ-loop : tie.MeasureT-loop
+μ-loop numbers u₀ n₀ i₀ u n i = length numbers - i
+
+returns : tie.Need-returns Inv-loop μ-loop
+returns c =
+    let start = c .before .before in
+    let xs = now (start .args .listed) in
+    sym (ap (λ (cells : List ℕ). intervals cells) (sym (runs-cells top xs (start .pre)) ∙ runs-none xs (c .if1 .taken)))
+
+shared-slice-read-u : tie.Need-shared-slice-read-u Inv-loop μ-loop
+shared-slice-read-u c = search needs
+
+loop-holds : tie.Need-loop-holds Inv-loop μ-loop
+loop-holds c =
+    let start = c .before .before .before in
+    let xs = now (start .args .listed) in
+    (search needs, search needs, good-number-small top xs (start .pre) 0 (omega arith), runs-count xs (omega arith))
+
+mul-x : tie.Need-mul-x Inv-loop μ-loop
+mul-x c = search needs
+
+shared-slice-read-x : tie.Need-shared-slice-read-x Inv-loop μ-loop
+shared-slice-read-x c = search needs
+
+gap-requires : tie.Need-gap-requires Inv-loop μ-loop
+gap-requires c κs = search needs
+
+add-n : tie.Need-add-n Inv-loop μ-loop
+add-n c = search needs
+
+add-i : tie.Need-add-i Inv-loop μ-loop
+add-i c = search needs
+
+loop-less : tie.Need-loop-less Inv-loop μ-loop
+loop-less c = search needs
+
+loop-again : tie.Need-loop-again Inv-loop μ-loop
+loop-again c =
+    let at = c .before .before .before in
+    let start = at .before .before .before .before in
+    let xs = now (start .args .listed) in
+    let h = breaks-at (at .loop .u) xs (at .loop .i) (omega arith) in
+    (search needs, search needs, good-number-small top xs (start .pre) (at .loop .i) (omega arith), omega arith)
+
+returns-2 : tie.Need-returns-2 Inv-loop μ-loop
+returns-2 c =
+    let at = c .before in
+    let start = at .before .before .before .before in
+    let xs = now (start .args .listed) in
+    omega (arith, breaks-end (at .loop .u) xs (at .loop .i) (c .loop-test .left), ap length (runs-cells top xs (start .pre)))
+
+pub count-intervals-spec : {M : Type 1} → statement M
+count-intervals-spec =
+    tie.close
+    (tie.spec
+    Inv-loop
+    μ-loop
+    returns
+    shared-slice-read-u
+    loop-holds
+    mul-x
+    shared-slice-read-x
+    gap-requires
+    add-n
+    add-i
+    loop-less
+    loop-again
+    returns-2)

@@ -1,0 +1,72 @@
+-- Each outcome by what the callees promise; a proper list has two cells for each interval (StretchLaws).
+use mathlib.Core.Path.{sym, _∙_}
+use native.Mathlib.Omega.{arith}
+use denote.Ref.{now}
+use borrow.Author.Tests.{le-leb, lt-leb}
+use borrow.Author.Needs.{needs}
+use Rattle.list.specs.Interval.{top}
+use Rattle.list.specs.Among.{among}
+use Rattle.list.proofs.StretchLaws.{cells-even}
+use Rattle.convert.proofs.to_intervals.to_intervals.Statement.{statement}
+use Rattle.convert.proofs.to_intervals.to_intervals.Tie as tie
+
+first-bad-number-requires : tie.Need-first-bad-number-requires
+first-bad-number-requires c κs = search needs
+
+enum-known-bad : tie.Need-enum-known-bad
+enum-known-bad c = search needs
+
+returns : tie.Need-returns
+returns c =
+    let at = c .before .before .before in
+    let e = sym (at .first-bad-number .ensures) ∙ c .before .bad .given .1 in
+    record { answer = rw e; cells = rw e }
+
+enum-told : tie.Need-enum-told
+enum-told c = search needs
+
+count-intervals-requires : tie.Need-count-intervals-requires
+count-intervals-requires c κs =
+    sym (c .before .before .first-bad-number .ensures) ∙ c .enum-told .given .1
+
+returns-2 : tie.Need-returns-2
+returns-2 c =
+    let at = c .before .before .before .before in
+    let e = sym (at .first-bad-number .ensures) ∙ c .before .before .enum-told .given .1 in
+    let n = c .before .count-intervals .ensures in
+    let no-room = lt-leb _ _ (c .if1 .taken) in
+    record { answer = rw (e, ← n, no-room); cells = rw (e, ← n, no-room) }
+
+write-intervals-requires : tie.Need-write-intervals-requires
+write-intervals-requires c κs =
+    let at = c .before .before .before .before .before in
+    let e = sym (at .first-bad-number .ensures) ∙ c .before .before .before .enum-told .given .1 in
+    let xs = now (at .before .before .before .args .numbers) in
+    (e, omega (arith, cells-even (among xs) top, c .before .before .count-intervals .ensures))
+
+same-length : tie.Need-same-length
+same-length c = search needs
+
+returns-3 : tie.Need-returns-3
+returns-3 c =
+    let called = c .before .before in
+    let tested = called .before .before in
+    let at = tested .before .before .before .before in
+    let e = sym (at .first-bad-number .ensures) ∙ tested .before .before .enum-told .given .1 in
+    let n = tested .before .count-intervals .ensures in
+    let room = le-leb _ _ (tested .if1 .left) in
+    record { answer = rw (e, ← n, room); cells = rw (e, ← n, room) (called .write-intervals .ensures) }
+
+pub to-intervals-spec : {M : Type 1} → statement M
+to-intervals-spec =
+    tie.close
+    (tie.spec
+    first-bad-number-requires
+    enum-known-bad
+    returns
+    enum-told
+    count-intervals-requires
+    returns-2
+    write-intervals-requires
+    same-length
+    returns-3)

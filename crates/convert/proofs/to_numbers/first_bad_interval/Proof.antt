@@ -1,0 +1,129 @@
+-- The invariant: the first bad interval is the first from place i on. Rests on how a search goes on (FirstLaws) and when an interval is bad (IntervalLaws).
+use mathlib.Core.Path.{_≡_, refl, sym, ap, _∙_}
+use Prim.Native.Nat.{_≤_, _-_, _+_, _/_}
+use native.Mathlib.Omega.{arith}
+use lib.ListN.{length}
+use denote.Ref.{now}
+use borrow.Author.Needs.{needs}
+use Rattle.refusal.specs.declared.Found.the-variants.{At}
+use Rattle.refusal.specs.First.{firstFrom}
+use Rattle.refusal.proofs.FirstLaws.{first-start, first-hit, first-miss, first-end}
+use Rattle.convert.specs.Convert.{leastLower, badInterval, badIntervalOf}
+use Rattle.convert.proofs.IntervalLaws.{bad-interval-cut, bad-interval-low, bad-interval-backward, bad-interval-high, good-interval, least-lower-next}
+use Rattle.convert.proofs.to_numbers.first_bad_interval.Statement.{statement}
+use Rattle.convert.proofs.to_numbers.first_bad_interval.Tie as tie
+
+abbrev Inv-loop : tie.InvT-loop
+Inv-loop cells whole least₀ i₀ least i =
+    (i ≤ whole)
+    × (least ≡ leastLower cells i)
+    × (badIntervalOf cells ≡ firstFrom (badInterval cells) i ((length cells + 1) / 2 - i))
+
+abbrev μ-loop : tie.MeasureT-loop
+μ-loop cells whole least₀ i₀ least i = whole - i
+
+loop-holds : tie.Need-loop-holds Inv-loop μ-loop
+loop-holds c =
+    let cells = now (c .args .cells) in
+    (search needs, refl, first-start (badInterval cells) ((length cells + 1) / 2))
+
+mul-l : tie.Need-mul-l Inv-loop μ-loop
+mul-l c = search needs
+
+mul-l-2 : tie.Need-mul-l-2 Inv-loop μ-loop
+mul-l-2 c = search needs
+
+shared-slice-read-l : tie.Need-shared-slice-read-l Inv-loop μ-loop
+shared-slice-read-l c = search needs
+
+mul-u : tie.Need-mul-u Inv-loop μ-loop
+mul-u c = search needs
+
+add-u : tie.Need-add-u Inv-loop μ-loop
+add-u c = search needs
+
+mul-u-2 : tie.Need-mul-u-2 Inv-loop μ-loop
+mul-u-2 c = search needs
+
+shared-slice-read-u : tie.Need-shared-slice-read-u Inv-loop μ-loop
+shared-slice-read-u c = search needs
+
+returns : tie.Need-returns Inv-loop μ-loop
+returns c =
+    let at = c .before .before .before .before in
+    let cells = now (at .before .args .cells) in
+    let i = at .loop .i in
+    let bad = bad-interval-low cells i (at .loop .least) (at .loop .inv .1) (omega arith) (c .if1 .taken) in
+    sym (at .loop .inv .2 ∙ first-hit (badInterval cells) i ((length cells + 1) / 2) (omega arith) bad)
+
+returns-2 : tie.Need-returns-2 Inv-loop μ-loop
+returns-2 c =
+    let at = c .before .before .before .before .before in
+    let cells = now (at .before .args .cells) in
+    let i = at .loop .i in
+    let bad = bad-interval-backward cells i (at .loop .least) (at .loop .inv .1) (omega arith) (c .before .if1 .left) (c .if2 .taken) in
+    sym (at .loop .inv .2 ∙ first-hit (badInterval cells) i ((length cells + 1) / 2) (omega arith) bad)
+
+returns-3 : tie.Need-returns-3 Inv-loop μ-loop
+returns-3 c =
+    let at = c .before .before .before .before .before .before in
+    let cells = now (at .before .args .cells) in
+    let i = at .loop .i in
+    let bad = bad-interval-high cells i (at .loop .least) (at .loop .inv .1) (omega arith) (c .before .before .if1 .left) (c .before .if2 .left) (c .if3 .taken) in
+    sym (at .loop .inv .2 ∙ first-hit (badInterval cells) i ((length cells + 1) / 2) (omega arith) bad)
+
+add-least : tie.Need-add-least Inv-loop μ-loop
+add-least c = search needs
+
+add-i : tie.Need-add-i Inv-loop μ-loop
+add-i c = search needs
+
+loop-less : tie.Need-loop-less Inv-loop μ-loop
+loop-less c = search needs
+
+loop-again : tie.Need-loop-again Inv-loop μ-loop
+loop-again c =
+    let at = c .before .before .before .before .before .before in
+    let cells = now (at .before .args .cells) in
+    let i = at .loop .i in
+    let good = good-interval cells i (at .loop .least) (at .loop .inv .1) (omega arith) (c .before .before .if1 .left) (c .before .if2 .left) (c .if3 .left) in
+    (search needs, sym (least-lower-next cells i), at .loop .inv .2 ∙ first-miss (badInterval cells) i ((length cells + 1) / 2) (omega arith) good)
+
+returns-4 : tie.Need-returns-4 Inv-loop μ-loop
+returns-4 c =
+    let at = c .before .before in
+    let cells = now (at .before .args .cells) in
+    let i = at .loop .i in
+    let e : i ≡ length cells / 2 = omega arith in
+    let bad = bad-interval-cut cells i (omega arith) in
+    sym (at .loop .inv .2 ∙ first-hit (badInterval cells) i ((length cells + 1) / 2) (omega arith) bad ∙ ap At e)
+
+returns-5 : tie.Need-returns-5 Inv-loop μ-loop
+returns-5 c =
+    let at = c .before .before in
+    let cells = now (at .before .args .cells) in
+    sym (at .loop .inv .2 ∙ first-end (badInterval cells) (at .loop .i) ((length cells + 1) / 2) (omega arith))
+
+pub first-bad-interval-spec : {M : Type 1} → statement M
+first-bad-interval-spec =
+    tie.close
+    (tie.spec
+    Inv-loop
+    μ-loop
+    loop-holds
+    mul-l
+    mul-l-2
+    shared-slice-read-l
+    mul-u
+    add-u
+    mul-u-2
+    shared-slice-read-u
+    returns
+    returns-2
+    returns-3
+    add-least
+    add-i
+    loop-less
+    loop-again
+    returns-4
+    returns-5)

@@ -1,0 +1,5 @@
+// Numbers to intervals, and intervals to numbers.
+
+pub mod numbers;
+pub mod to_intervals;
+pub mod to_numbers;

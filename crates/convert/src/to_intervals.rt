@@ -1,0 +1,88 @@
+// Numbers to intervals: a fault is looked for, then room is asked for, and only then is anything written.
+use crate::numbers::first_bad_number;
+use list::TOP;
+use list::Written;
+use refusal::Found;
+use refusal::Refusal;
+ghost use mathlib.Core.Path.{_≡_};
+ghost use mathlib.Core.Bool.{cond};
+ghost use mathlib.Core.List.{_++_};
+ghost use Prim.Native.Nat.{_+_, _≤_, _<_};
+ghost use lib.Dec.{eqb};
+ghost use lib.ListN.{length, drop};
+ghost use Rattle.list.specs.Interval.{top, intervals};
+ghost use Rattle.convert.specs.Convert.{badNumberOf, intervalsOf, ToIntervals};
+
+// 0 where x goes on with the stretch that ends with u, else 1.
+fn gap(u: u32, x: u32) -> usize
+    requires { ⌜ u ≤ top ⌝ }
+    ensures { λ r. ⌜ (r ≡ cond (eqb x (u + 1)) 0 1) × (r ≤ 1) ⌝ }
+{
+    if x == u + 1 { 0 } else { 1 }
+}
+
+// How many intervals the numbers listed make.
+fn count_intervals(listed: &[u32]) -> usize
+    requires { ⌜ badNumberOf (now listed) ≡ Found.Nowhere ⌝ }
+    ensures { λ r. ⌜ r ≡ intervals (intervalsOf (now (listed .entry))) ⌝ }
+{
+    if listed.len() == 0 {
+        return 0;
+    }
+    let mut u = listed[0];
+    let mut n: usize = 1;
+    let mut i = 1;
+    while i < listed.len() {
+        let x = listed[i];
+        n += gap(u, x);
+        u = x;
+        i += 1;
+    }
+    n
+}
+
+// Writes the intervals of the numbers from cell 0; the cells behind them stay.
+fn write_intervals(numbers: &[u32], out: &mut [u32])
+    requires { ⌜ (badNumberOf (now numbers) ≡ Found.Nowhere) × (length (intervalsOf (now numbers)) ≤ length (now out)) ⌝ }
+    ensures { λ _. ⌜ now (out .exit) ≡ intervalsOf (now (numbers .entry)) ++ drop (length (intervalsOf (now (numbers .entry)))) (now (out .entry)) ⌝ }
+{
+    if numbers.len() == 0 {
+        return;
+    }
+    let mut l = numbers[0];
+    let mut u = l;
+    let mut k = 0;
+    let mut i = 1;
+    while i < numbers.len() {
+        let x = numbers[i];
+        if x == u + 1 {
+            u = x;
+            i += 1;
+        } else {
+            out[k] = l;
+            out[k + 1] = u;
+            k += 2;
+            l = x;
+            u = x;
+            i += 1;
+        }
+    }
+    out[k] = l;
+    out[k + 1] = u;
+}
+
+// Numbers to intervals: refusals 15 (limit 16,777,215) and 12, or how many intervals were written.
+pub fn to_intervals(numbers: &[u32], out: &mut [u32]) -> Written
+    ensures { λ r. ⌜ ToIntervals (now (numbers .entry)) (now (out .entry)) (now (out .exit)) r ⌝ }
+{
+    let bad = first_bad_number(numbers, TOP);
+    if let Found::At(i) = bad {
+        return Written::Refused(Refusal::Number(i));
+    }
+    let n = count_intervals(numbers);
+    if out.len() / 2 < n {
+        return Written::Refused(Refusal::Room(n));
+    }
+    write_intervals(numbers, out);
+    Written::Wrote(n)
+}
