@@ -8,7 +8,7 @@ ghost use lib.Seq.{sets};
 ghost use Rattle.list.specs.Convert.{badNumberOf, intervalsOf};
 ghost use Rattle.build.specs.Lent.{wordsOf, listsFrom};
 ghost use Rattle.build.specs.Written.{cellBytes, cellsBytes, keptBytes, listsBytes};
-ghost use Rattle.build.specs.Build.{indexFrom};
+ghost use Rattle.build.specs.Build.{lentOf, indexFrom};
 ghost use Rattle.build.specs.Passes.{
   KeptOf,
   Lists,
@@ -20,7 +20,6 @@ ghost use Rattle.build.specs.Passes.{
   EnteredWithin,
   allEntered,
   AllWithin,
-  lentOf,
 };
 use crate::size::Kept;
 use crate::size::count_kept;
