@@ -13,6 +13,7 @@ use Rattle.refusal.specs.declared.Refusal.the-variants.{BuildLimit, Room}
 use Rattle.list.specs.declared.Written.{Written}
 use Rattle.list.specs.declared.Written.the-variants.{Wrote, Refused}
 use Rattle.list.specs.Convert.{among}
+use Rattle.list.proofs.NumberLaws.{ascends-good}
 use Rattle.index.specs.declared.Checked.{Checked}
 use Rattle.index.specs.declared.Checked.the-variants as checked
 use Rattle.index.specs.Format.{wordCount, highest, part, wordOf, listOf}
@@ -23,9 +24,9 @@ use Rattle.index.proofs.SoundLaws.{part-length}
 use Rattle.build.specs.Lent.{wordsOf, sumTo, listsFrom}
 use Rattle.build.specs.Written.{cellsIn}
 use Rattle.build.specs.Build.{lentOf, sizeAnswer, afterLent, indexFrom, buildOf, Builds}
-use Rattle.build.proofs.BytesLaws.{Below}
-use Rattle.build.proofs.IndexOfLaws.{Indexable, built-word-count, built-highest, built-word, built-list, built-sound, built-good, built-below}
-use Rattle.build.proofs.ReadsBackLaws.{recordsFor, built-has, reads-back}
+use Rattle.build.specs.ReadsBack.{Below, Indexable, recordsFor}
+use Rattle.build.proofs.IndexOfLaws.{built-word-count, built-highest, built-word, built-list, built-sound, built-good, built-below}
+use Rattle.build.proofs.ReadsBackLaws.{built-has, reads-back}
 use Rattle.build.proofs.LentLaws.{lists-at}
 use Rattle.build.proofs.GoodLaws.{LentGood, lent-good, good-word, good-few, good-many}
 
@@ -86,7 +87,7 @@ module _ (n : ℕ) (words counts numbers : List ℕ) (size : ℕ) (is : Accepted
         some = λ i h.
             let c = good .count i (omega arith) in
             rw (lent-list i h, part-length (sumTo counts i) (getD counts i 0) numbers (c .room)) (c .some);
-        ascends = λ i h. good .ascends i (omega arith);
+        records = λ i h. ascends-good n (getD (listsFrom counts numbers) i []) (good .ascends i (omega arith));
         size = is .small;
       }
 

@@ -10,11 +10,7 @@ use Rattle.laws.proofs.Lists.{drop-two}
 use Rattle.list.specs.Cell.{cell, cellAt, numbersIn}
 use Rattle.index.specs.Format.{part}
 use Rattle.build.specs.Written.{cellBytes, cellsBytes}
-
--- all numbers are below m
-abbrev pub Below : ℕ → List ℕ → Type 0
-Below m [] = Unit {0}
-Below m (x ∷ xs) = (x < m) × Below m xs
+use Rattle.build.specs.ReadsBack.{Below}
 
 -- 2 to the 32: what a cell holds is below it
 abbrev pub cellLimit : ℕ
