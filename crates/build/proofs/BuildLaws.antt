@@ -144,14 +144,3 @@ module _ (n : ℕ) (words counts numbers out out′ : List ℕ) (size : ℕ) (do
 
   pub build-below : Below 256 (take size out′)
   build-below = rw build-bytes (built-below n (wordsOf words) (listsFrom counts numbers) indexable)
-
--- ---- what is determined
-
--- "Every refusal leaves all lent memory unchanged"
-pub build-refused : (n : ℕ) (words counts numbers out out′ : List ℕ) (r : Refusal) → Builds n words counts numbers out out′ (Refused r) → out′ ≡ out
-build-refused n words counts numbers out out′ r done = rw (← done .answer) at (done .bytes)
-
--- the arguments determine the answer and each byte
-pub build-once : (n : ℕ) (words counts numbers out out₁ out₂ : List ℕ) (r₁ r₂ : Written) → Builds n words counts numbers out out₁ r₁ →
-    Builds n words counts numbers out out₂ r₂ → (r₁ ≡ r₂) × (out₁ ≡ out₂)
-build-once n words counts numbers out out₁ out₂ r₁ r₂ p q = (p .answer ∙ sym (q .answer), p .bytes ∙ sym (q .bytes))
