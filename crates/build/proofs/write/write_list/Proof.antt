@@ -133,7 +133,7 @@ loop-again-2 c =
     let put = c .before .before .put-interval in (
       search needs,
       good-number-small top xs (start .pre .0) (at .i) (omega arith),
-      ap length (put .ensures .0) ∙ laid-length (at .out) (at .at) (at .l) (at .u) ∙ at .inv .2,
+      rw (put .ensures .0) (laid-length (at .out) (at .at) (at .l) (at .u) ∙ at .inv .2),
       rw (put .ensures .1) (placed-on (at .out) (at .at) (at .l) (at .u) rest room here),
       rw (put .ensures .0, put .ensures .1) (at .inv .4 ∙ ap (keptPlan (at .out) (at .at)) e ∙ kept-laid (at .out) (at .at) (at .l) (at .u) rest room here),
     )
@@ -154,7 +154,7 @@ same-length c =
     let start = c .before .before .before .before .before .before .before .before .before .before .before .before in
     let xs = now (start .args .numbers) in
     let room = length (now (start .args .out)) in
-    ap length (c .before .before .put-interval2 .ensures .0) ∙ laid-length (at .out) (at .at) (at .l) (at .u) ∙ at .inv .2
+    rw (c .before .before .put-interval2 .ensures .0) (laid-length (at .out) (at .at) (at .l) (at .u) ∙ at .inv .2)
 
 returns-2 : tie.Need-returns-2 Inv-loop μ-loop
 returns-2 c =
