@@ -24,7 +24,7 @@ use Rattle.index.specs.declared.Checked.the-variants.{Good, Refused}
 use Rattle.index.specs.Check.{badPlace}
 use Rattle.index.specs.Format.{part}
 use Rattle.build.specs.declared.words.Words.the-variants.{Counted, Bad}
-use Rattle.build.specs.declared.write.Spots.{Spots}
+use Rattle.build.specs.declared.entry.Spots.{Spots}
 use Rattle.build.specs.Lent.{wordsOf, wordTotal, badLent, badCount, badRest, badListed, sumTo, listsFrom}
 use Rattle.build.specs.Written.{cellsBytes, listsBytes, wordsBytes}
 use Rattle.build.specs.Build.{badWords, badCounts, badNumbers, faultThen, lentOf, sizeAnswer, indexFrom, buildOf}

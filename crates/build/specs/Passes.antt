@@ -15,8 +15,8 @@ use Rattle.index.specs.Format.{part}
 use Rattle.build.specs.declared.words.Words.{Words}
 use Rattle.build.specs.declared.words.Words.the-variants.{Counted, Bad}
 use Rattle.build.specs.declared.size.Kept.{Kept}
-use Rattle.build.specs.declared.write.Places.{Places}
-use Rattle.build.specs.declared.write.Spots.{Spots}
+use Rattle.build.specs.declared.kept.Places.{Places}
+use Rattle.build.specs.declared.entry.Spots.{Spots}
 use Rattle.build.specs.Lent.{sumTo, badCount, badRest}
 use Rattle.build.specs.Written.{cellBytes, singlesIn, lowersIn, keptBytes, listsBytes, wordsBytes, entryBytes, directoryBytes}
 

@@ -14,8 +14,8 @@ use Rattle.list.proofs.RunLaws.{runsFrom, runs, runsFrom-on, runsFrom-off, runs
 use Rattle.build.specs.Passes.{laid, laidTo}
 use Rattle.build.proofs.KeptBytesLaws.{kept-length}
 use Rattle.build.proofs.WriteLaws.{keptPlan, keptPlaces, Placed, kept-laid, laid-within, placed-on, laid-length, kept-done, placed-start, kept-start, none-kept}
-use Rattle.build.proofs.write.write_list.Statement.{statement}
-use Rattle.build.proofs.write.write_list.Tie as tie
+use Rattle.build.proofs.kept.write_list.Statement.{statement}
+use Rattle.build.proofs.kept.write_list.Tie as tie
 
 abbrev Inv-loop : tie.InvT-loop
 Inv-loop out₀ numbers at₀ l₀ u₀ i₀ out at l u i =
