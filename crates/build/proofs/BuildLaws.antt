@@ -7,31 +7,28 @@ use mathlib.Core.List.{List, [], _++_}
 use lib.Dec.{leb, ltb}
 use lib.ListN.{length, getD, take, drop}
 use lib.Seq.{take-at, drop-at}
-use borrow.Author.Tests.{ltb-false, leb-true}
-use Rattle.laws.proofs.Tests.{leb-cases}
-use Rattle.refusal.specs.declared.Found.{Found}
-use Rattle.refusal.specs.declared.Found.the-variants.{At, Nowhere}
+use borrow.Author.Tests.{ltb-false}
 use Rattle.refusal.specs.declared.Refusal.{Refusal}
-use Rattle.refusal.specs.declared.Refusal.the-variants.{BuildWord, BuildCount, BuildLimit, Number, Room}
-use Rattle.refusal.specs.First.{first}
-use Rattle.refusal.proofs.FirstLaws.{first-none}
+use Rattle.refusal.specs.declared.Refusal.the-variants.{BuildLimit, Room}
 use Rattle.list.specs.declared.Written.{Written}
 use Rattle.list.specs.declared.Written.the-variants.{Wrote, Refused}
-use Rattle.list.specs.Interval.{top}
 use Rattle.list.specs.Among.{among}
-use Rattle.index.specs.declared.Checked.the-variants.{Good}
+use Rattle.convert.proofs.NumberLaws.{ascends-good}
+use Rattle.index.specs.declared.Checked.{Checked}
+use Rattle.index.specs.declared.Checked.the-variants as checked
 use Rattle.index.specs.Format.{wordCount, highest, part, wordOf, listOf}
 use Rattle.index.specs.Sound.{Sound}
 use Rattle.index.specs.Check.{checkOf}
 use Rattle.index.specs.Has.{has}
 use Rattle.index.proofs.SoundLaws.{part-length}
-use Rattle.build.specs.Lent.{wordsOf, wordTotal, badLent, badCount, badRest, badListed, sumTo, listsFrom}
+use Rattle.build.specs.Lent.{wordsOf, sumTo, listsFrom}
 use Rattle.build.specs.Written.{cellsIn}
-use Rattle.build.specs.Build.{faultOr, sizeAnswer, indexFrom, buildOf, Builds}
-use Rattle.build.proofs.BytesLaws.{Below}
-use Rattle.build.proofs.IndexOfLaws.{Indexable, built-word-count, built-highest, built-word, built-list, built-sound, built-good, built-below}
-use Rattle.build.proofs.ReadsBackLaws.{recordsFor, built-has, reads-back}
-use Rattle.build.proofs.LentLaws.{LentWord, lent-word, LentCount, lent-count, lent-rest, lists-length, lists-at, LentNumber, lent-number, list-ascends}
+use Rattle.build.specs.Build.{lentOf, sizeAnswer, afterLent, indexFrom, buildOf, Builds}
+use Rattle.build.specs.ReadsBack.{Below, Indexable, recordsFor}
+use Rattle.build.proofs.IndexOfLaws.{built-word-count, built-highest, built-word, built-list, built-sound, built-good, built-below}
+use Rattle.build.proofs.ReadsBackLaws.{built-has, reads-back}
+use Rattle.build.proofs.LentLaws.{lists-at}
+use Rattle.build.proofs.GoodLaws.{LentGood, lent-good, good-word, good-few, good-many}
 
 -- ---- what is written was not refused
 
@@ -42,100 +39,66 @@ cond-passed : (t : Bool) (r : Refusal) (next : Written) (size : ℕ) → cond t 
 cond-passed true r next size e = refused r size e
 cond-passed false r next size e = (refl, e)
 
-fault-passed : (refusal : ℕ → Refusal) (f : Found) (behind : Bool) (n : ℕ) (next : Written) (size : ℕ) → faultOr refusal f behind n next ≡ Wrote size →
-    (f ≡ Nowhere) × (behind ≡ false) × (next ≡ Wrote size)
-fault-passed refusal (At i) behind n next size e = refused (refusal i) size e
-fault-passed refusal Nowhere behind n next size e = let w = cond-passed behind (refusal n) next size e in (refl, w .0, w .1)
-
 wrote-same : (a b : ℕ) → Wrote a ≡ Wrote b → a ≡ b
 wrote-same a b e = cc
 
-fits-passed : (t : Bool) (a size : ℕ) → cond t (Wrote a) (Refused (Room a)) ≡ Wrote size → (t ≡ true) × (a ≡ size)
-fits-passed true a size e = (refl, wrote-same a size e)
+fits-passed : (t : Bool) (a size : ℕ) → cond t (Wrote a) (Refused (Room a)) ≡ Wrote size → a ≡ size
+fits-passed true a size e = wrote-same a size e
 fits-passed false a size e = refused (Room a) size e
 
-size-passed : (a room size : ℕ) → sizeAnswer a room ≡ Wrote size → (a ≤ 16777216) × (a ≤ room) × (a ≡ size)
+size-passed : (a room size : ℕ) → sizeAnswer a room ≡ Wrote size → (a ≤ 16777216) × (a ≡ size)
 size-passed a room size e =
     let p = cond-passed (ltb 16777216 a) (BuildLimit 1) (cond (leb a room) (Wrote a) (Refused (Room a))) size e in
     let q = fits-passed (leb a room) a size (p .1) in
-    (ltb-false 16777216 a (p .0), leb-true a room (q .0), q .1)
+    (ltb-false 16777216 a (p .0), q)
 
-pub record Accepted (n : ℕ) (words counts numbers : List ℕ) (room size : ℕ) : Type 0 where
-  pub limit : n ≤ 16777215
-  pub lent-words : (i : ℕ) → i < wordTotal words → LentWord (wordsOf words) i
-  pub lent-counts : (i : ℕ) → i < length (wordsOf words) → LentCount counts (length numbers) i
-  pub no-more-counts : length counts ≤ length (wordsOf words)
-  pub no-more-numbers : length numbers ≤ sumTo counts (length (wordsOf words))
-  pub lent-numbers : (k : ℕ) → k < length numbers → LentNumber n counts (length (wordsOf words)) numbers k
+pub record Accepted (n : ℕ) (words counts numbers : List ℕ) (size : ℕ) : Type 0 where
+  pub lent : LentGood n words counts numbers
   pub small : length (indexFrom n words counts numbers) ≤ 16777216
-  pub fits : length (indexFrom n words counts numbers) ≤ room
   pub is-size : length (indexFrom n words counts numbers) ≡ size
 
-pub accepted : (n : ℕ) (words counts numbers : List ℕ) (room size : ℕ) → buildOf n words counts numbers room ≡ Wrote size → Accepted n words counts numbers room size
+after-passed : (c : Checked) (next : Written) (size : ℕ) → afterLent c next ≡ Wrote size → (c ≡ checked.Good) × (next ≡ Wrote size)
+after-passed (checked.Refused r) next size e = refused r size e
+after-passed checked.Good next size e = (refl, e)
+
+pub accepted : (n : ℕ) (words counts numbers : List ℕ) (room size : ℕ) → buildOf n words counts numbers room ≡ Wrote size → Accepted n words counts numbers size
 unfolding buildOf
 accepted n words counts numbers room size e =
-    let ws = wordsOf words in
-    let a = cond-passed (ltb top n) (BuildLimit 0) _ size e in
-    let b = fault-passed BuildWord (first (badLent ws) (wordTotal words)) false 0 _ size (a .1) in
-    let c = fault-passed BuildCount (first (badCount counts (length numbers)) (length ws)) (badRest counts (length numbers) (length ws)) (length ws) _ size (b .2) in
-    let d = fault-passed Number (first (badListed n counts (length ws) numbers) (length numbers)) false 0 _ size (c .2) in
-    let s = size-passed (length (indexFrom n words counts numbers)) room size (d .2) in
-    let r = lent-rest counts (length numbers) (length ws) (c .1) in
-    record {
-      limit = ltb-false top n (a .0);
-      lent-words = λ i h. lent-word ws i (first-none (badLent ws) (wordTotal words) (b .0) i h);
-      lent-counts = λ i h. lent-count counts (length numbers) i (first-none (badCount counts (length numbers)) (length ws) (c .0) i h);
-      no-more-counts = r .0;
-      no-more-numbers = r .1;
-      lent-numbers = λ k h. lent-number n counts (length ws) numbers k (first-none (badListed n counts (length ws) numbers) (length numbers) (d .0) k h);
-      small = s .0;
-      fits = s .1;
-      is-size = s .2;
-    }
+    let p = after-passed (lentOf n words counts numbers) (sizeAnswer (length (indexFrom n words counts numbers)) room) size e in
+    let s = size-passed (length (indexFrom n words counts numbers)) room size (p .1) in
+    record { lent = lent-good n words counts numbers (p .0); small = s .0; is-size = s .1 }
 
 -- ---- it makes an index
 
-module _ (n : ℕ) (words counts numbers : List ℕ) (room size : ℕ) (is : Accepted n words counts numbers room size) where
-  -- all words are ended, and there are as many counts
-  lent-within : (i : ℕ) → i < length (wordsOf words) → i < wordTotal words
-  unfolding wordTotal
-  lent-within i h = omega arith
-
-  few-words : length (wordsOf words) ≤ 65535
-  few-words =
-      leb-cases (length (wordsOf words)) 65535 (λ h. h) (λ h. let f = is .lent-words 65535 (lent-within 65535 h) .few in absurd (omega arith))
-
-  pub counts-length : length counts ≡ length (wordsOf words)
-  counts-length =
-      leb-cases (length (wordsOf words)) (length counts) (λ h. omega (arith, is .no-more-counts))
-      (λ h. let f = is .lent-counts (length counts) h .within in absurd (omega arith))
-
+module _ (n : ℕ) (words counts numbers : List ℕ) (size : ℕ) (is : Accepted n words counts numbers size) where
   pub lent-list : (i : ℕ) → i < length (wordsOf words) → getD (listsFrom counts numbers) i [] ≡ part (sumTo counts i) (getD counts i 0) numbers
-  lent-list i h = lists-at counts numbers i (omega (arith, counts-length))
+  lent-list i h = lists-at counts numbers i (omega (arith, is .lent .as-many))
 
   pub accepted-indexable : Indexable n (wordsOf words) (listsFrom counts numbers)
   accepted-indexable =
+      let good = is .lent in
+      let m = good .as-many in
       record {
-        limit = is .limit;
-        few = few-words;
-        as-many = lists-length counts numbers ∙ counts-length;
-        word = λ i h. is .lent-words i (lent-within i h) .word;
-        order = λ i h. is .lent-words i (lent-within i h) .order;
+        limit = good .limit;
+        few = omega (arith, good-few n words counts numbers good);
+        as-many = good-many n words counts numbers good;
+        word = λ i h. good-word n words counts numbers good i h .word;
+        order = λ i h. good-word n words counts numbers good i h .order;
         some = λ i h.
-            let c = is .lent-counts i h in
+            let c = good .count i (omega arith) in
             rw (lent-list i h, part-length (sumTo counts i) (getD counts i 0) numbers (c .room)) (c .some);
-        ascends = λ i h. rw (lent-list i h) (list-ascends n counts (length (wordsOf words)) numbers i (is .lent-counts i h .room) (is .lent-numbers));
+        records = λ i h. ascends-good n (getD (listsFrom counts numbers) i []) (good .ascends i (omega arith));
         size = is .small;
       }
 
 -- ---- the bytes that a build wrote
 
 module _ (n : ℕ) (words counts numbers out out′ : List ℕ) (size : ℕ) (done : Builds n words counts numbers out out′ (Wrote size)) where
-  build-accepted : Accepted n words counts numbers (length out) size
+  build-accepted : Accepted n words counts numbers size
   build-accepted = accepted n words counts numbers (length out) size (sym (done .answer))
 
   indexable : Indexable n (wordsOf words) (listsFrom counts numbers)
-  indexable = accepted-indexable n words counts numbers (length out) size build-accepted
+  indexable = accepted-indexable n words counts numbers size build-accepted
 
   -- the index that was asked for, and behind it what was there
   pub build-out : out′ ≡ indexFrom n words counts numbers ++ drop size out
@@ -150,7 +113,7 @@ module _ (n : ℕ) (words counts numbers out out′ : List ℕ) (size : ℕ) (do
   pub build-sound : Sound (take size out′)
   build-sound = rw build-bytes (built-sound n (wordsOf words) (listsFrom counts numbers) indexable)
 
-  pub build-good : checkOf (take size out′) ≡ Good
+  pub build-good : checkOf (take size out′) ≡ checked.Good
   build-good = rw build-bytes (built-good n (wordsOf words) (listsFrom counts numbers) indexable)
 
   pub build-highest : highest (take size out′) ≡ n
@@ -176,19 +139,8 @@ module _ (n : ℕ) (words counts numbers out out′ : List ℕ) (size : ℕ) (do
       rw build-bytes
       (
       built-has n (wordsOf words) (listsFrom counts numbers) indexable i x h
-      ∙ ap (λ (xs : List ℕ). among xs x) (lent-list n words counts numbers (length out) size build-accepted i h)
+      ∙ ap (λ (xs : List ℕ). among xs x) (lent-list n words counts numbers size build-accepted i h)
       )
 
   pub build-below : Below 256 (take size out′)
   build-below = rw build-bytes (built-below n (wordsOf words) (listsFrom counts numbers) indexable)
-
--- ---- what is determined
-
--- "Every refusal leaves all lent memory unchanged"
-pub build-refused : (n : ℕ) (words counts numbers out out′ : List ℕ) (r : Refusal) → Builds n words counts numbers out out′ (Refused r) → out′ ≡ out
-build-refused n words counts numbers out out′ r done = rw (← done .answer) at (done .bytes)
-
--- the arguments determine the answer and each byte
-pub build-once : (n : ℕ) (words counts numbers out out₁ out₂ : List ℕ) (r₁ r₂ : Written) → Builds n words counts numbers out out₁ r₁ →
-    Builds n words counts numbers out out₂ r₂ → (r₁ ≡ r₂) × (out₁ ≡ out₂)
-build-once n words counts numbers out out₁ out₂ r₁ r₂ p q = (p .answer ∙ sym (q .answer), p .bytes ∙ sym (q .bytes))

@@ -10,11 +10,7 @@ use Rattle.laws.proofs.Lists.{drop-two}
 use Rattle.list.specs.Cell.{cell, cellAt, numbersIn}
 use Rattle.index.specs.Format.{part}
 use Rattle.build.specs.Written.{cellBytes, cellsBytes}
-
--- all numbers are below m
-abbrev pub Below : ℕ → List ℕ → Type 0
-Below m [] = Unit {0}
-Below m (x ∷ xs) = (x < m) × Below m xs
+use Rattle.build.specs.ReadsBack.{Below}
 
 -- 2 to the 32: what a cell holds is below it
 abbrev pub cellLimit : ℕ
@@ -108,15 +104,6 @@ cellAt-drop bytes i j =
     let f : i + j + 2 ≡ i + (j + 2) = omega arith in
     let g : i + j + 3 ≡ i + (j + 3) = omega arith in
     rw (e, f, g, getD-drop i bytes j 0, getD-drop i bytes (j + 1) 0, getD-drop i bytes (j + 2) 0, getD-drop i bytes (j + 3) 0)
-
--- the cell that was written
-pub cellAt-cell : (x : ℕ) (r : List ℕ) → x < cellLimit → cellAt (cellBytes x ++ r) 0 ≡ x
-cellAt-cell x r h = cell-value x h
-
-pub cellAt-between : (a : List ℕ) (x : ℕ) (c : List ℕ) (at : ℕ) → x < cellLimit → at ≡ length a → cellAt (a ++ (cellBytes x ++ c)) at ≡ x
-cellAt-between a x c at h e =
-    let z : at ≡ length a + 0 = omega arith in
-    rw z (cellAt-drop (a ++ (cellBytes x ++ c)) (length a) 0 ∙ rw (drop-at a (cellBytes x ++ c) (length a) refl) (cell-value x h))
 
 pub cellAt-cells : (xs : List ℕ) (i : ℕ) → Below cellLimit xs → i < length xs → cellAt (cellsBytes xs) (4 * i) ≡ getD xs i 0
 unfolding cellsBytes

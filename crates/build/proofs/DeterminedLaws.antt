@@ -27,8 +27,7 @@ use Rattle.index.proofs.SoundLaws.{words-step, sound-entry, sound-list, singles
 use Rattle.index.proofs.HasLaws.{has-entry, list-proper, below-down, entry-place, found-place, nowhere-has}
 use Rattle.build.specs.Lent.{wordsOf, listsFrom}
 use Rattle.build.specs.Build.{Builds}
-use Rattle.build.proofs.BytesLaws.{Below}
-use Rattle.build.proofs.ReadsBackLaws.{recordsFor}
+use Rattle.build.specs.ReadsBack.{Below, recordsFor}
 use Rattle.build.proofs.BuildLaws.{build-sound, build-highest, build-has, build-below}
 use Rattle.build.proofs.EncodingLaws.{one-encoding}
 

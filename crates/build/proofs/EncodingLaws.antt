@@ -15,6 +15,7 @@ use Rattle.list.specs.Among.{among}
 use Rattle.list.proofs.CellLaws.{numbersIn-length}
 use Rattle.list.proofs.StretchLaws.{cells-same, proper-cells}
 use Rattle.list.proofs.RecordLaws.{records-same, records-among, records-ascend, proper-count}
+use Rattle.convert.proofs.NumberLaws.{ascends-good}
 use Rattle.list.proofs.KeptCountLaws.{kept-count}
 use Rattle.index.specs.Format.{wordsStart, directoryStart, wordCount, highest, entryAt, wordStart, wordLength, listStart, singleCount, pairCount, listLength, wordsEnd, listsEnd, part, wordOf, singlesOf, lowerOf, upperOf, listOf}
 use Rattle.index.specs.Sound.{Sound}
@@ -22,16 +23,11 @@ use Rattle.index.proofs.SoundLaws.{sound-length, sound-edition, sound-word, wor
 use Rattle.index.proofs.HasLaws.{list-proper}
 use Rattle.build.specs.Lent.{lentBefore}
 use Rattle.build.specs.Written.{cellBytes, cellsBytes, singlesIn, lowersIn, uppersIn, keptBytes, cellsIn, listsBytes, wordsBytes, entryBytes, directoryBytes, trailerBytes, indexOf}
-use Rattle.build.proofs.BytesLaws.{Below, below-take, below-drop, numbers-cells, cell-split}
+use Rattle.build.specs.ReadsBack.{Below, Indexable, listed, wordsIn, recordsAt, listsIn}
+use Rattle.build.proofs.BytesLaws.{below-take, below-drop, numbers-cells, cell-split}
 use Rattle.build.proofs.KeptBytesLaws.{kept-length, kept-apart}
-use Rattle.build.proofs.IndexOfLaws.{Indexable}
 
 -- ---- an index's words and lists, in order
-
--- what f gives of the k numbers from i on
-unfoldable pub listed : (ℕ → List ℕ) → ℕ → ℕ → List (List ℕ)
-listed f i zero = []
-listed f i (suc k) = f i ∷ listed f (i + 1) k
 
 pub listed-same : (f g : ℕ → List ℕ) (i k : ℕ) → ((j : ℕ) → i ≤ j → j < i + k → f j ≡ g j) → listed f i k ≡ listed g i k
 unfolding listed
@@ -51,15 +47,6 @@ unfolding listed
 listed-at f i zero j h = absurd (omega arith)
 listed-at f i (suc k) zero h = ap f (omega arith)
 listed-at f i (suc k) (suc j) h = listed-at f (i + 1) k j (omega arith) ∙ ap f (omega arith)
-
-abbrev pub recordsAt : List ℕ → ℕ → List ℕ
-recordsAt index i = recordsOf (names (listOf index i)) (highest index)
-
-unfoldable pub wordsIn : List ℕ → List (List ℕ)
-wordsIn index = listed (wordOf index) 0 (wordCount index)
-
-unfoldable pub listsIn : List ℕ → List (List ℕ)
-listsIn index = listed (recordsAt index) 0 (wordCount index)
 
 -- nothing stands before a word
 word-first : (w : List ℕ) → isWord w ≡ true → before [] w ≡ true
@@ -344,7 +331,9 @@ module _ (index : List ℕ) (s : Sound index) (b : Below 256 index) where
         word = λ i h. let k : i < wordCount index = omega arith in rw (word-at i k) (sound-word index s i k);
         order = λ i h. words-order i (omega arith);
         some = λ i h. let k : i < wordCount index = omega arith in rw (list-at i k) (records-some i k);
-        ascends = λ i h. let k : i < wordCount index = omega arith in rw (list-at i k) (records-ascend (names (listOf index i)) (highest index));
+        records = λ i h.
+            let k : i < wordCount index = omega arith in
+            rw (list-at i k) (ascends-good (highest index) (recordsAt index i) (records-ascend (names (listOf index i)) (highest index)));
         size = rw (← sound-encoded) (sound-length index s .1);
       }
 

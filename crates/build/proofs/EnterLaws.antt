@@ -9,7 +9,7 @@ use Rattle.laws.proofs.Tests.{leb-cases}
 use Rattle.laws.proofs.Lists.{sets-append, sets-front}
 use Rattle.list.specs.Interval.{top}
 use Rattle.convert.specs.Convert.{intervalsOf}
-use Rattle.build.specs.declared.write.Spots.{Spots}
+use Rattle.build.specs.declared.entry.Spots.{Spots}
 use Rattle.build.specs.Lent.{wordsFrom, wordsOf, sumTo, listsFrom}
 use Rattle.build.specs.Written.{keptBytes, listsBytes, wordsBytes, entryBytes, directoryBytes, trailerBytes, indexOf}
 use Rattle.build.specs.Passes.{wordEnd, entered, enteredTo, EnteredWithin, allEntered, AllWithin}

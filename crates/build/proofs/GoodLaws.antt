@@ -1,5 +1,5 @@
--- What is lent to a build and is good: what the check's answer says of the build's, and what it says of the words, counts and numbers.
-use mathlib.Core.Path.{_≡_, refl, sym, ap, _∙_}
+-- What is lent to a build and is good: what the check's answer is, and what it says of the words, counts and numbers.
+use mathlib.Core.Path.{_≡_, refl, ap, _∙_}
 use Prim.Native.Nat.{ℕ, _+_, _-_, _*_, _≤_, _<_}
 use native.Mathlib.Omega.{arith}
 use mathlib.Core.Bool.{Bool, true, false, cond}
@@ -15,7 +15,6 @@ use Rattle.refusal.specs.declared.Refusal.{Refusal}
 use Rattle.refusal.specs.declared.Refusal.the-variants.{BuildWord, BuildCount, BuildLimit, Number}
 use Rattle.refusal.specs.First.{first}
 use Rattle.refusal.proofs.FirstLaws.{first-none}
-use Rattle.list.specs.declared.Written.{Written}
 use Rattle.list.specs.declared.Written.the-variants as written
 use Rattle.list.specs.Interval.{top}
 use Rattle.list.proofs.RecordLaws.{Ascends}
@@ -26,11 +25,11 @@ use Rattle.index.specs.Check.{badPlace}
 use Rattle.index.specs.Format.{part}
 use Rattle.index.proofs.CheckLaws.{not-good, cond-good, place-none}
 use Rattle.build.specs.declared.words.Words.the-variants.{Counted, Bad}
-use Rattle.build.specs.declared.write.Spots.{Spots}
+use Rattle.build.specs.declared.entry.Spots.{Spots}
 use Rattle.build.specs.Lent.{wordsOf, wordTotal, badLent, badCount, badRest, badListed, sumTo, listsFrom}
 use Rattle.build.specs.Written.{cellsBytes, listsBytes, wordsBytes}
-use Rattle.build.specs.Build.{faultOr, sizeAnswer, indexFrom, buildOf}
-use Rattle.build.specs.Passes.{wordsAnswer, Fair, Lists, allEntered, AllWithin, faultThen, lentOf}
+use Rattle.build.specs.Build.{badWords, badCounts, badNumbers, faultThen, lentOf, sizeAnswer, indexFrom, buildOf}
+use Rattle.build.specs.Passes.{wordsAnswer, Fair, Lists, allEntered, AllWithin}
 use Rattle.build.proofs.LentLaws.{LentWord, lent-word, LentCount, lent-count, lent-rest, lists-length, lists-at, lent-number, list-ascends}
 use Rattle.build.proofs.WordsLaws.{words-bytes-length}
 use Rattle.build.proofs.IndexOfLaws.{index-length}
@@ -59,80 +58,35 @@ fair-counts counts total words e f = let q = counts-many counts total words e f 
 -- ---- the check's answer
 
 module _ (n : ℕ) (words counts numbers : List ℕ) where
-  abbrev ws : List (List ℕ)
-  ws = wordsOf words
-
-  abbrev badWords : Found
-  badWords = first (badLent ws) (wordTotal words)
-
-  abbrev badCounts : Found
-  badCounts = badPlace (first (badCount counts (length numbers)) (length ws)) (badRest counts (length numbers) (length ws)) (length ws)
-
-  abbrev badNumbers : Found
-  badNumbers = first (badListed n counts (length ws) numbers) (length numbers)
-
   pub refused-limit : top < n → lentOf n words counts numbers ≡ Refused (BuildLimit 0)
   unfolding lentOf
   refused-limit h = rw (lt-ltb top n h)
 
-  pub refused-word : (i : ℕ) → n ≤ top → badWords ≡ At i → lentOf n words counts numbers ≡ Refused (BuildWord i)
+  pub refused-word : (i : ℕ) → n ≤ top → badWords words ≡ At i → lentOf n words counts numbers ≡ Refused (BuildWord i)
   unfolding lentOf
   refused-word i h e = rw (le-ltb top n h, e)
 
-  pub refused-count : (i : ℕ) → n ≤ top → badWords ≡ Nowhere → badCounts ≡ At i → lentOf n words counts numbers ≡ Refused (BuildCount i)
+  pub refused-count : (i : ℕ) → n ≤ top → badWords words ≡ Nowhere → badCounts words counts numbers ≡ At i → lentOf n words counts numbers ≡ Refused (BuildCount i)
   unfolding lentOf
   refused-count i h e f = rw (le-ltb top n h, e, f)
 
-  pub refused-number : (i : ℕ) → n ≤ top → badWords ≡ Nowhere → badCounts ≡ Nowhere → badNumbers ≡ At i → lentOf n words counts numbers ≡ Refused (Number i)
+  pub refused-number : (i : ℕ) → n ≤ top → badWords words ≡ Nowhere → badCounts words counts numbers ≡ Nowhere → badNumbers n words counts numbers ≡ At i → lentOf n words counts numbers ≡ Refused (Number i)
   unfolding lentOf
   refused-number i h e f g = rw (le-ltb top n h, e, f, g)
 
-  pub none-refused : n ≤ top → badWords ≡ Nowhere → badCounts ≡ Nowhere → badNumbers ≡ Nowhere → lentOf n words counts numbers ≡ Good
+  pub none-refused : n ≤ top → badWords words ≡ Nowhere → badCounts words counts numbers ≡ Nowhere → badNumbers n words counts numbers ≡ Nowhere → lentOf n words counts numbers ≡ Good
   unfolding lentOf
   none-refused h e f g = rw (le-ltb top n h, e, f, g)
 
--- ---- the build's answer by it
+  -- and the build's answer by it
+  pub refused-lent : (r : Refusal) (room : ℕ) → lentOf n words counts numbers ≡ Refused r → buildOf n words counts numbers room ≡ written.Refused r
+  unfolding buildOf
+  refused-lent r room e = rw e
 
-abbrev pub afterLent : Checked → Written → Written
-afterLent Good next = next
-afterLent (Refused r) next = written.Refused r
-
-after-cond : (t : Bool) (r : Refusal) (c : Checked) (next : Written) → afterLent (cond t (Refused r) c) next ≡ cond t (written.Refused r) (afterLent c next)
-after-cond true r c next = refl
-after-cond false r c next = refl
-
-after-then : (refusal : ℕ → Refusal) (f : Found) (c : Checked) (next : Written) → afterLent (faultThen refusal f c) next ≡ faultOr refusal f false 0 (afterLent c next)
-after-then refusal (At i) c next = refl
-after-then refusal Nowhere c next = refl
-
-after-place : (refusal : ℕ → Refusal) (f : Found) (b : Bool) (n : ℕ) (c : Checked) (next : Written) →
-    afterLent (faultThen refusal (badPlace f b n) c) next ≡ faultOr refusal f b n (afterLent c next)
-after-place refusal (At i) b n c next = refl
-after-place refusal Nowhere true n c next = refl
-after-place refusal Nowhere false n c next = refl
-
-pub build-after : (n : ℕ) (words counts numbers : List ℕ) (room : ℕ) →
-    buildOf n words counts numbers room ≡ afterLent (lentOf n words counts numbers) (sizeAnswer (length (indexFrom n words counts numbers)) room)
-unfolding buildOf lentOf
-build-after n words counts numbers room =
-    let k = length (wordsOf words) in
-    let next = sizeAnswer (length (indexFrom n words counts numbers)) room in
-    let f = first (badLent (wordsOf words)) (wordTotal words) in
-    let g = first (badCount counts (length numbers)) k in
-    let b = badRest counts (length numbers) k in
-    let h = first (badListed n counts k numbers) (length numbers) in
-    let third = faultThen Number h Good in
-    let second = faultThen BuildCount (badPlace g b k) third in
-    sym
-    (
-    after-cond (ltb top n) (BuildLimit 0) (faultThen BuildWord f second) next
-    ∙ ap (λ (w : Written). cond (ltb top n) (written.Refused (BuildLimit 0)) w)
-    (
-    after-then BuildWord f second next
-    ∙ ap (λ (w : Written). faultOr BuildWord f false 0 w)
-    (after-place BuildCount g b k third next ∙ ap (λ (w : Written). faultOr BuildCount g b k w) (after-then Number h Good next))
-    )
-    )
+  pub sized-lent : (room : ℕ) → lentOf n words counts numbers ≡ Good →
+      buildOf n words counts numbers room ≡ sizeAnswer (length (indexFrom n words counts numbers)) room
+  unfolding buildOf
+  sized-lent room e = rw e
 
 -- ---- what is good
 
@@ -143,7 +97,7 @@ then-good refusal Nowhere c e = (refl, e)
 pub record LentGood (n : ℕ) (words counts numbers : List ℕ) : Type 0 where
   pub limit : n ≤ top
   pub word : (i : ℕ) → i < wordTotal words → LentWord (wordsOf words) i
-  pub fair : Fair counts (length numbers)
+  pub count : (i : ℕ) → i < length counts → LentCount counts (length numbers) i
   pub as-many : length counts ≡ length (wordsOf words)
   pub ascends : (i : ℕ) → i < length counts → Ascends n 0 (getD (listsFrom counts numbers) i [])
   pub lists : Lists counts numbers
@@ -154,9 +108,9 @@ lent-good n words counts numbers e =
     let k = length (wordsOf words) in
     let total = length numbers in
     let a = cond-good (ltb top n) (BuildLimit 0) _ e in
-    let b = then-good BuildWord (first (badLent (wordsOf words)) (wordTotal words)) _ (a .1) in
-    let c = then-good BuildCount (badPlace (first (badCount counts total) k) (badRest counts total k) k) _ (b .1) in
-    let d = then-good Number (first (badListed n counts k numbers) total) _ (c .1) in
+    let b = then-good BuildWord (badWords words) _ (a .1) in
+    let c = then-good BuildCount (badCounts words counts numbers) _ (b .1) in
+    let d = then-good Number (badNumbers n words counts numbers) _ (c .1) in
     let p = place-none (first (badCount counts total) k) (badRest counts total k) k (c .0) in
     let q = counts-many counts total k (p .0) (p .1) in
     let limit = ltb-false top n (a .0) in
@@ -166,7 +120,7 @@ lent-good n words counts numbers e =
     record {
       limit = limit;
       word = λ i h. lent-word (wordsOf words) i (first-none (badLent (wordsOf words)) (wordTotal words) (b .0) i h);
-      fair = fair-counts counts total k (p .0) (p .1);
+      count = count;
       as-many = q;
       ascends = λ i h. rw (lists-at counts numbers i h) (rises i h);
       lists = record { room = λ i h. count i h .room; good = λ i h. ascends-good top (list i) (ascends-more n top 0 (list i) limit (rises i h)) };
@@ -186,14 +140,14 @@ module _ (n : ℕ) (words counts numbers : List ℕ) (is : LentGood n words coun
   pub good-bytes : length (wordsBytes (wordsOf words)) + length counts ≡ length words
   good-bytes = omega (arith, words-bytes-length words (is .word), is .as-many)
 
-  within : (i : ℕ) → i < length (wordsOf words) → i < wordTotal words
+  pub good-word : (i : ℕ) → i < length (wordsOf words) → LentWord (wordsOf words) i
   unfolding wordTotal
-  within i h = omega arith
+  good-word i h = is .word i (omega arith)
 
   pub good-few : length counts ≤ 65535
   good-few =
       leb-cases (length counts) 65535 (λ h. h)
-      (λ h. absurd (let w = is .word 65535 (within 65535 (omega (arith, is .as-many))) .few in omega arith))
+      (λ h. absurd (let w = good-word 65535 (omega (arith, is .as-many)) .few in omega arith))
 
   pub good-size : length (indexFrom n words counts numbers) ≡ length (listsBytes n xss) + (length words - length counts) + 20 * length counts + 20
   good-size = omega (arith, index-length n (wordsOf words) xss good-many, good-bytes, is .as-many)

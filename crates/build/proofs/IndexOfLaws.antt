@@ -8,12 +8,12 @@ use lib.ListN.{length, getD, take, drop, length-append, List·getD-append}
 use lib.Seq.{getD-append-add}
 use borrow.Author.Tests.{eq-eqb, ne-eqb, le-ltb}
 use Rattle.laws.proofs.Tests.{true-false}
-use Rattle.word.specs.Word.{before, isWord}
 use Rattle.list.specs.Interval.{top, isProper, names}
 use Rattle.list.specs.Cell.{cellAt, numbersIn}
 use Rattle.list.specs.Among.{among}
 use Rattle.list.proofs.StretchLaws.{cells-proper, cells-proper-from, cells-names}
 use Rattle.list.proofs.RecordLaws.{Ascends}
+use Rattle.convert.proofs.NumberLaws.{good-ascends}
 use Rattle.index.specs.Format.{
   wordsStart,
   directoryStart,
@@ -42,7 +42,8 @@ use Rattle.index.specs.Check.{checkOf}
 use Rattle.index.proofs.CheckLaws.{length-good, edition-good, sound-good}
 use Rattle.build.specs.Lent.{lentBefore}
 use Rattle.build.specs.Written.{cellsBytes, singlesIn, lowersIn, uppersIn, keptBytes, cellsIn, listsBytes, wordsBytes, directoryBytes, trailerBytes, indexOf}
-use Rattle.build.proofs.BytesLaws.{Below, cellLimit, below-append, cells-below, cells-length, cells-append, cells-numbers, cellAt-behind, part-between}
+use Rattle.build.specs.ReadsBack.{Below, Indexable}
+use Rattle.build.proofs.BytesLaws.{cellLimit, below-append, cells-below, cells-length, cells-append, cells-numbers, cellAt-behind, part-between}
 use Rattle.build.proofs.KeptBytesLaws.{kept-length, uppers-length, cells-count, singles-below, lowers-below, uppers-below, walked-cells, cells-kept}
 use Rattle.build.proofs.LayoutLaws.{
   wordsTo,
@@ -66,16 +67,8 @@ use Rattle.build.proofs.LayoutLaws.{
   lists-below,
 }
 
--- what N, words and lists are when no rule of building refuses them
-pub record Indexable (n : ℕ) (ws xss : List (List ℕ)) : Type 0 where
-  pub limit : n ≤ 16777215
-  pub few : length ws ≤ 65535
-  pub as-many : length xss ≡ length ws
-  pub word : (i : ℕ) → i < length ws → isWord (getD ws i []) ≡ true
-  pub order : (i : ℕ) → i < length ws → before (lentBefore ws i) (getD ws i []) ≡ true
-  pub some : (i : ℕ) → i < length ws → 1 ≤ length (getD xss i [])
-  pub ascends : (i : ℕ) → i < length ws → Ascends n 0 (getD xss i [])
-  pub size : length (indexOf n ws xss) ≤ 16777216
+pub indexable-ascends : (n : ℕ) (ws xss : List (List ℕ)) → Indexable n ws xss → (i : ℕ) → i < length ws → Ascends n 0 (getD xss i [])
+indexable-ascends n ws xss is i h = good-ascends n (getD xss i []) (is .records i h)
 
 -- ---- records that are some have a list that is not empty
 
@@ -320,7 +313,7 @@ module _ (n : ℕ) (ws xss : List (List ℕ)) (is : Indexable n ws xss) where
 
   list-some : (i : ℕ) → i < length ws → 1 ≤ length (singlesIn (listAt i)) + length (lowersIn (listAt i))
   list-some i h =
-      omega (arith, cells-count n 1 (listAt i) (cells-proper-from (among (getD xss i [])) n n (omega arith)), cells-some n (getD xss i []) (is .ascends i h) (is .some i h))
+      omega (arith, cells-count n 1 (listAt i) (cells-proper-from (among (getD xss i [])) n n (omega arith)), cells-some n (getD xss i []) (indexable-ascends n ws xss is i h) (is .some i h))
 
   good-trailer : badTrailer index ≡ false
   unfolding badTrailer

@@ -15,7 +15,8 @@ use Rattle.list.proofs.ProperLaws.{ProperFrom, proper-facts}
 use Rattle.list.proofs.KeptLaws.{longer-long}
 use Rattle.list.proofs.WalkLaws.{single-next-is, pair-next-is, placeAt, Weave, none, single, pair, walked-weaves}
 use Rattle.build.specs.Written.{cellsBytes, singlesIn, lowersIn, uppersIn, keptBytes}
-use Rattle.build.proofs.BytesLaws.{Below, cells-length, cells-below, below-append}
+use Rattle.build.specs.ReadsBack.{Below}
+use Rattle.build.proofs.BytesLaws.{cells-length, cells-below, below-append}
 
 -- ---- how many there are
 

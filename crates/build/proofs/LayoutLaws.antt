@@ -12,7 +12,8 @@ use borrow.Author.Tests.{leb-true}
 use Rattle.laws.proofs.Tests.{and-both, or-either}
 use Rattle.word.specs.Word.{between, isWordByte, allWordBytes, isOperator, isWord}
 use Rattle.build.specs.Written.{cellsBytes, singlesIn, lowersIn, keptBytes, cellsIn, listsBytes, wordsBytes, entryBytes, directoryBytes}
-use Rattle.build.proofs.BytesLaws.{Below, cellLimit, below-append, cells-append}
+use Rattle.build.specs.ReadsBack.{Below}
+use Rattle.build.proofs.BytesLaws.{cellLimit, below-append, cells-append}
 use Rattle.build.proofs.KeptBytesLaws.{kept-length, kept-below}
 
 -- ---- words

@@ -4,7 +4,7 @@ use Prim.Native.Nat.{ℕ, zero, suc, _≤_, _<_}
 use native.Mathlib.Omega.{arith}
 use native.Mathlib.Nat.{lt-of-not-le}
 use native.Mathlib.Decide.{decLe}
-use mathlib.Core.Bool.{true, false, cond}
+use mathlib.Core.Bool.{true, false}
 use mathlib.Core.List.{List, [], _∷_}
 use lib.ListN.{length, getD}
 use Rattle.refusal.specs.declared.Found.{Found}
@@ -20,13 +20,8 @@ use Rattle.list.proofs.RecordLaws.{Ascends, among-below, among-above}
 use Rattle.index.specs.Has.{has}
 use Rattle.index.proofs.HasLaws.{has-entry, has-nowhere}
 use Rattle.build.specs.Written.{cellsIn, indexOf}
-use Rattle.build.proofs.IndexOfLaws.{Indexable, built-word-count, built-word, built-list, built-sound}
-
--- the records of a word, of words and their lists
-unfoldable pub recordsFor : List (List ℕ) → List (List ℕ) → List ℕ → List ℕ
-recordsFor [] xss w = []
-recordsFor (v ∷ ws) [] w = []
-recordsFor (v ∷ ws) (xs ∷ xss) w = cond (same v w) xs (recordsFor ws xss w)
+use Rattle.build.specs.ReadsBack.{Indexable, recordsFor}
+use Rattle.build.proofs.IndexOfLaws.{indexable-ascends, built-word-count, built-word, built-list, built-sound}
 
 pub records-for-at : (ws xss : List (List ℕ)) (w : List ℕ) (i : ℕ) → length xss ≡ length ws → i < length ws → same (getD ws i []) w ≡ true →
     ((j : ℕ) → j < i → same (getD ws j []) w ≡ false) → recordsFor ws xss w ≡ getD xss i []
@@ -60,7 +55,7 @@ module _ (n : ℕ) (ws xss : List (List ℕ)) (is : Indexable n ws xss) where
   built-has i x h =
       has-entry (indexOf n ws xss) (built-sound n ws xss is) (getD ws i []) i x (omega (arith, built-word-count n ws xss is)) (built-word n ws xss is i h)
       ∙ ap (λ (c : List ℕ). names c x) (built-list n ws xss is i h)
-      ∙ cells-among n (getD xss i []) x (is .ascends i h)
+      ∙ cells-among n (getD xss i []) x (indexable-ascends n ws xss is i h)
 
   pub built-lacks : (w : List ℕ) (x : ℕ) → ((i : ℕ) → i < length ws → same (getD ws i []) w ≡ false) → has (indexOf n ws xss) w x ≡ false
   built-lacks w x f =

@@ -14,8 +14,8 @@ use Rattle.laws.proofs.Tests.{leb-cases}
 use Rattle.laws.proofs.Lists.{sets-append, sets-front}
 use Rattle.laws.proofs.Parts.{tail-written}
 use Rattle.list.specs.Ginix.{one}
-use Rattle.build.specs.declared.write.Places.{Places}
-use Rattle.build.specs.declared.write.Spots.{Spots}
+use Rattle.build.specs.declared.kept.Places.{Places}
+use Rattle.build.specs.declared.entry.Spots.{Spots}
 use Rattle.build.specs.Written.{cellBytes, cellsBytes, singlesIn, lowersIn, uppersIn, keptBytes, cellsIn, listsBytes, wordsBytes, entryBytes, directoryBytes}
 use Rattle.build.specs.Passes.{laid, laidTo, LaidWithin, entered, enteredTo}
 use Rattle.build.proofs.BytesLaws.{cells-length}

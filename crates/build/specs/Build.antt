@@ -1,7 +1,7 @@
 -- "Build: 19(0), 17, 18, 15 (limit N), 19(1), 12."
 use Prim.Native.Nat.{ℕ}
 use mathlib.Core.Path.{_≡_}
-use mathlib.Core.Bool.{Bool, true, false, cond}
+use mathlib.Core.Bool.{cond}
 use mathlib.Core.List.{List, _++_}
 use lib.Dec.{leb, ltb}
 use lib.ListN.{length, drop}
@@ -11,19 +11,49 @@ use Rattle.refusal.specs.declared.Refusal.{Refusal}
 use Rattle.refusal.specs.declared.Refusal.the-variants.{BuildWord, BuildCount, BuildLimit, Number, Room}
 use Rattle.refusal.specs.First.{first}
 use Rattle.list.specs.declared.Written.{Written}
-use Rattle.list.specs.declared.Written.the-variants.{Wrote, Refused}
+use Rattle.list.specs.declared.Written.the-variants as written
 use Rattle.list.specs.Interval.{top}
+use Rattle.index.specs.declared.Checked.{Checked}
+use Rattle.index.specs.declared.Checked.the-variants.{Good, Refused}
+use Rattle.index.specs.Check.{badPlace}
 use Rattle.build.specs.Lent.{wordsOf, wordTotal, badLent, badCount, badRest, badListed, listsFrom}
 use Rattle.build.specs.Written.{indexOf}
 
--- a fault at a place, a fault behind all places, or what comes next
-abbrev pub faultOr : (ℕ → Refusal) → Found → Bool → ℕ → Written → Written
-faultOr refusal (At i) behind n next = Refused (refusal i)
-faultOr refusal Nowhere behind n next = cond behind (Refused (refusal n)) next
+-- 17: the first bad word
+abbrev pub badWords : List ℕ → Found
+badWords words = first (badLent (wordsOf words)) (wordTotal words)
+
+-- 18: "first bad count; word count if surplus or left over"
+abbrev pub badCounts : List ℕ → List ℕ → List ℕ → Found
+badCounts words counts numbers =
+    badPlace (first (badCount counts (length numbers)) (length (wordsOf words))) (badRest counts (length numbers) (length (wordsOf words))) (length (wordsOf words))
+
+-- 15, with limit N: the place of the first bad number
+abbrev pub badNumbers : ℕ → List ℕ → List ℕ → List ℕ → Found
+badNumbers n words counts numbers = first (badListed n counts (length (wordsOf words)) numbers) (length numbers)
+
+-- a fault is refused, or what comes next is asked
+abbrev pub faultThen : (ℕ → Refusal) → Found → Checked → Checked
+faultThen refusal (At i) next = Refused (refusal i)
+faultThen refusal Nowhere next = next
+
+-- "19(0), 17, 18, 15": what is lent, before its size is asked for
+unfoldable pub lentOf : ℕ → List ℕ → List ℕ → List ℕ → Checked
+lentOf n words counts numbers =
+    cond (ltb top n) (Refused (BuildLimit 0))
+    (faultThen BuildWord (badWords words)
+    (faultThen BuildCount (badCounts words counts numbers)
+    (faultThen Number (badNumbers n words counts numbers) Good)))
 
 -- 19(1): "index over 16,777,216 bytes"; 12: "no room: bytes needed"
 abbrev pub sizeAnswer : ℕ → ℕ → Written
-sizeAnswer size room = cond (ltb 16777216 size) (Refused (BuildLimit 1)) (cond (leb size room) (Wrote size) (Refused (Room size)))
+sizeAnswer size room =
+    cond (ltb 16777216 size) (written.Refused (BuildLimit 1)) (cond (leb size room) (written.Wrote size) (written.Refused (Room size)))
+
+-- what is lent is refused, or its size answers
+abbrev pub afterLent : Checked → Written → Written
+afterLent (Refused r) next = written.Refused r
+afterLent Good next = next
 
 -- the index that the arguments ask for
 abbrev pub indexFrom : ℕ → List ℕ → List ℕ → List ℕ → List ℕ
@@ -31,17 +61,12 @@ indexFrom n words counts numbers = indexOf n (wordsOf words) (listsFrom counts n
 
 unfoldable pub buildOf : ℕ → List ℕ → List ℕ → List ℕ → ℕ → Written
 buildOf n words counts numbers room =
-    cond (ltb top n) (Refused (BuildLimit 0))
-    (faultOr BuildWord (first (badLent (wordsOf words)) (wordTotal words)) false 0
-    (faultOr BuildCount (first (badCount counts (length numbers)) (length (wordsOf words))) (badRest counts (length numbers) (length (wordsOf words)))
-    (length (wordsOf words))
-    (faultOr Number (first (badListed n counts (length (wordsOf words)) numbers) (length numbers)) false 0
-    (sizeAnswer (length (indexFrom n words counts numbers)) room))))
+    afterLent (lentOf n words counts numbers) (sizeAnswer (length (indexFrom n words counts numbers)) room)
 
 -- what the lent bytes hold then
 abbrev pub bytesAfter : Written → List ℕ → List ℕ → List ℕ
-bytesAfter (Wrote size) index out = index ++ drop size out
-bytesAfter (Refused r) index out = out
+bytesAfter (written.Wrote size) index out = index ++ drop size out
+bytesAfter (written.Refused r) index out = out
 
 pub record Builds (n : ℕ) (words counts numbers out out′ : List ℕ) (r : Written) : Type 0 where
   pub answer : r ≡ buildOf n words counts numbers (length out)

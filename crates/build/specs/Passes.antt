@@ -3,26 +3,21 @@ use Prim.Native.Nat.{ℕ, suc, _+_, _*_, _≤_, _<_}
 use mathlib.Core.Path.{_≡_}
 use mathlib.Core.Bool.{Bool, true, false, cond}
 use mathlib.Core.List.{List, [], _∷_}
-use lib.Dec.{eqb, ltb}
+use lib.Dec.{eqb}
 use lib.ListN.{length, getD}
 use lib.Seq.{sets}
 use Rattle.refusal.specs.declared.Found.{Found}
 use Rattle.refusal.specs.declared.Found.the-variants.{At, Nowhere}
-use Rattle.refusal.specs.declared.Refusal.{Refusal}
-use Rattle.refusal.specs.declared.Refusal.the-variants.{BuildWord, BuildCount, BuildLimit, Number}
 use Rattle.refusal.specs.First.{first}
 use Rattle.list.specs.Interval.{top}
 use Rattle.convert.specs.Convert.{badNumberOf, intervalsOf}
 use Rattle.index.specs.Format.{part}
-use Rattle.index.specs.declared.Checked.{Checked}
-use Rattle.index.specs.declared.Checked.the-variants.{Good, Refused}
-use Rattle.index.specs.Check.{badPlace}
 use Rattle.build.specs.declared.words.Words.{Words}
 use Rattle.build.specs.declared.words.Words.the-variants.{Counted, Bad}
 use Rattle.build.specs.declared.size.Kept.{Kept}
-use Rattle.build.specs.declared.write.Places.{Places}
-use Rattle.build.specs.declared.write.Spots.{Spots}
-use Rattle.build.specs.Lent.{wordsOf, wordTotal, badLent, sumTo, badCount, badRest, badListed}
+use Rattle.build.specs.declared.kept.Places.{Places}
+use Rattle.build.specs.declared.entry.Spots.{Spots}
+use Rattle.build.specs.Lent.{sumTo, badCount, badRest}
 use Rattle.build.specs.Written.{cellBytes, singlesIn, lowersIn, keptBytes, listsBytes, wordsBytes, entryBytes, directoryBytes}
 
 -- how many bytes stand before the first byte 10
@@ -92,17 +87,3 @@ pub record AllWithin (at : Spots) (ws xss : List (List ℕ)) (room : ℕ) : Type
   pub entries : at .entry + 20 * length ws ≤ room
   pub small : at .entry + 20 * length ws ≤ 16777216
   pub as-many : length xss ≡ length ws
-
--- a fault is refused, or what comes next is asked
-abbrev pub faultThen : (ℕ → Refusal) → Found → Checked → Checked
-faultThen refusal (At i) next = Refused (refusal i)
-faultThen refusal Nowhere next = next
-
--- "Build: 19(0), 17, 18, 15 (limit N)": what is lent, before its size is asked for
-unfoldable pub lentOf : ℕ → List ℕ → List ℕ → List ℕ → Checked
-lentOf n words counts numbers =
-    cond (ltb top n) (Refused (BuildLimit 0))
-    (faultThen BuildWord (first (badLent (wordsOf words)) (wordTotal words))
-    (faultThen BuildCount
-    (badPlace (first (badCount counts (length numbers)) (length (wordsOf words))) (badRest counts (length numbers) (length (wordsOf words))) (length (wordsOf words)))
-    (faultThen Number (first (badListed n counts (length (wordsOf words)) numbers) (length numbers)) Good)))

@@ -1,10 +1,9 @@
 -- The index of N, words and lists, as bytes: "From byte 0 stand the lists, then the words' bytes, then the directory, then the trailer, without gaps."
-use Prim.Native.Nat.{ℕ, _+_, _*_, _/_, _%_}
-use mathlib.Core.Bool.{Bool, true, false, cond}
+use Prim.Native.Nat.{ℕ, _+_, _/_, _%_}
+use mathlib.Core.Bool.{cond}
 use mathlib.Core.List.{List, [], _∷_, _++_}
 use lib.Dec.{eqb}
 use lib.ListN.{length}
-use Rattle.list.specs.Interval.{intervals}
 use Rattle.list.specs.Stretches.{cellsOf}
 use Rattle.list.specs.Among.{among}
 

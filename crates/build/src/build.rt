@@ -1,8 +1,7 @@
 // The build: all that is lent is checked, then the index is written.
 ghost use mathlib.Core.Path.{_≡_};
 ghost use lib.ListN.{length};
-ghost use Rattle.build.specs.Build.{indexFrom, sizeAnswer, bytesAfter, Builds};
-ghost use Rattle.build.specs.Passes.{lentOf};
+ghost use Rattle.build.specs.Build.{lentOf, indexFrom, sizeAnswer, bytesAfter, Builds};
 use crate::counts::check_counts;
 use crate::numbers::check_numbers;
 use crate::size::lists_size;

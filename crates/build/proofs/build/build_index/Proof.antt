@@ -3,7 +3,7 @@ use mathlib.Core.Path.{sym, _∙_}
 use lib.ListN.{length}
 use denote.Ref.{now}
 use borrow.Author.Needs.{needs}
-use Rattle.build.proofs.GoodLaws.{build-after}
+use Rattle.build.proofs.GoodLaws.{refused-lent, sized-lent}
 use Rattle.build.proofs.build.build_index.Statement.{statement}
 use Rattle.build.proofs.build.build_index.Tie as tie
 
@@ -22,9 +22,9 @@ build-checked-requires c κs = sym (c .before .before .before .check-lent .ensur
 returns : tie.Need-returns
 returns c =
     let start = c .before .before .before .before .before .before .before .before .args in
-    let after = build-after (start .n) (now (start .words)) (now (start .counts)) (now (start .numbers)) (length (now (start .out))) in
     let e = sym (c .before .before .before .check-lent .ensures) ∙ c .before .refusal .given .1 in
-    record { answer = rw (after, e); bytes = rw (after, e) }
+    let after = refused-lent (start .n) (now (start .words)) (now (start .counts)) (now (start .numbers)) _ (length (now (start .out))) e in
+    record { answer = sym after; bytes = rw after }
 
 same-length : tie.Need-same-length
 same-length c = search needs
@@ -32,10 +32,10 @@ same-length c = search needs
 returns-2 : tie.Need-returns-2
 returns-2 c =
     let start = c .before .before .before .before .before .before .before .before .before .before .before .args in
-    let after = build-after (start .n) (now (start .words)) (now (start .counts)) (now (start .numbers)) (length (now (start .out))) in
     let e = sym (c .before .before .before .before .before .before .check-lent .ensures) ∙ c .before .before .before .before .enum-told .given .1 in
+    let after = sized-lent (start .n) (now (start .words)) (now (start .counts)) (now (start .numbers)) (length (now (start .out))) e in
     let built = c .before .before .build-checked .ensures in
-    record { answer = rw (after, e) (built .0); bytes = rw (after, e) (built .1) }
+    record { answer = built .0 ∙ sym after; bytes = rw after (built .1) }
 
 pub build-index-spec : {M : Type 1} → statement M
 build-index-spec =

@@ -149,7 +149,7 @@ loop-again c =
     let end = c .before .before .before .before .before .before .before .word-end in
     let last = (at .first + getD counts (at .i) 0) in
     let wrote = c .before .before .write-word in (
-      ap length (wrote .ensures .0) ∙ entered-length (at .out) (at .at) (take (end .result - at .start) (drop (at .start) words)) (intervalsOf (take (last - at .first) (drop (at .first) numbers))) ∙ at .inv .0,
+      rw (wrote .ensures .0) (entered-length (at .out) (at .at) (take (end .result - at .start) (drop (at .start) words)) (intervalsOf (take (last - at .first) (drop (at .first) numbers))) ∙ at .inv .0),
       rw (wrote .ensures .1) (enter-on words counts numbers room (at .at) (at .start) (at .first) (at .i) (at .inv .1) (end .result) last (end .ensures .0) (end .ensures .2) refl (omega arith)),
       rw (wrote .ensures .0, wrote .ensures .1) (at .inv .2 ∙ enter-left words counts numbers room (at .at) (at .start) (at .first) (at .i) (at .inv .1) (end .result) last (end .ensures .0) (end .ensures .2) refl (omega arith) (at .out)),
     )

@@ -3,8 +3,8 @@ use mathlib.Core.Path.{sym}
 use denote.Ref.{now}
 use borrow.Author.Needs.{needs}
 use Rattle.build.proofs.WriteLaws.{five-cells}
-use Rattle.build.proofs.write.put_five.Statement.{statement}
-use Rattle.build.proofs.write.put_five.Tie as tie
+use Rattle.build.proofs.cells.put_five.Statement.{statement}
+use Rattle.build.proofs.cells.put_five.Tie as tie
 
 put-cell-requires : tie.Need-put-cell-requires
 put-cell-requires c κs = search needs

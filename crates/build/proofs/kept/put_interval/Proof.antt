@@ -7,8 +7,8 @@ use lib.Seq.{sets}
 use borrow.Author.Tests.{eq-eqb, ne-eqb}
 use borrow.Author.Needs.{needs}
 use Rattle.build.specs.Written.{cellBytes}
-use Rattle.build.proofs.write.put_interval.Statement.{statement}
-use Rattle.build.proofs.write.put_interval.Tie as tie
+use Rattle.build.proofs.kept.put_interval.Statement.{statement}
+use Rattle.build.proofs.kept.put_interval.Tie as tie
 
 put-cell-requires : tie.Need-put-cell-requires
 put-cell-requires c κs =

@@ -6,8 +6,8 @@ use lib.ListN.{length-set}
 use denote.Ref.{now}
 use borrow.Author.Needs.{needs}
 use Rattle.build.proofs.WriteLaws.{four-bytes}
-use Rattle.build.proofs.write.put_cell.Statement.{statement}
-use Rattle.build.proofs.write.put_cell.Tie as tie
+use Rattle.build.proofs.cells.put_cell.Statement.{statement}
+use Rattle.build.proofs.cells.put_cell.Tie as tie
 
 low-requires : tie.Need-low-requires
 low-requires c κs = search needs

@@ -6,8 +6,8 @@ use lib.Seq.{sets}
 use denote.Ref.{now}
 use borrow.Author.Needs.{needs}
 use Rattle.laws.proofs.Lists.{drop-next, drop-none, sets-one, sets-front}
-use Rattle.build.proofs.write.write_bytes.Statement.{statement}
-use Rattle.build.proofs.write.write_bytes.Tie as tie
+use Rattle.build.proofs.entry.write_bytes.Statement.{statement}
+use Rattle.build.proofs.entry.write_bytes.Tie as tie
 
 abbrev Inv-loop : tie.InvT-loop
 Inv-loop out₀ bytes i₀ out i = (i ≤ length bytes) × (length out ≡ length out₀) × (sets out₀ 0 bytes ≡ sets out i (drop i bytes))

@@ -10,8 +10,8 @@ use Rattle.convert.specs.Convert.{intervalsOf}
 use Rattle.build.specs.Written.{keptBytes}
 use Rattle.build.proofs.KeptBytesLaws.{kept-length}
 use Rattle.build.proofs.WriteLaws.{tail-sets, word-entered, tail-length}
-use Rattle.build.proofs.write.write_word.Statement.{statement}
-use Rattle.build.proofs.write.write_word.Tie as tie
+use Rattle.build.proofs.entry.write_word.Statement.{statement}
+use Rattle.build.proofs.entry.write_word.Tie as tie
 
 count-kept-requires : tie.Need-count-kept-requires
 count-kept-requires c κs = search needs

@@ -14,8 +14,8 @@ use Rattle.convert.proofs.RunLaws.{runsFrom, runs, runsFrom-on, runsFrom-off, r
 use Rattle.build.specs.Passes.{laid, laidTo}
 use Rattle.build.proofs.KeptBytesLaws.{kept-length}
 use Rattle.build.proofs.WriteLaws.{keptPlan, keptPlaces, Placed, kept-laid, laid-within, placed-on, laid-length, kept-done, placed-start, kept-start, none-kept}
-use Rattle.build.proofs.write.write_list.Statement.{statement}
-use Rattle.build.proofs.write.write_list.Tie as tie
+use Rattle.build.proofs.kept.write_list.Statement.{statement}
+use Rattle.build.proofs.kept.write_list.Tie as tie
 
 abbrev Inv-loop : tie.InvT-loop
 Inv-loop out₀ numbers at₀ l₀ u₀ i₀ out at l u i =
@@ -133,7 +133,7 @@ loop-again-2 c =
     let put = c .before .before .put-interval in (
       search needs,
       good-number-small top xs (start .pre .0) (at .i) (omega arith),
-      ap length (put .ensures .0) ∙ laid-length (at .out) (at .at) (at .l) (at .u) ∙ at .inv .2,
+      rw (put .ensures .0) (laid-length (at .out) (at .at) (at .l) (at .u) ∙ at .inv .2),
       rw (put .ensures .1) (placed-on (at .out) (at .at) (at .l) (at .u) rest room here),
       rw (put .ensures .0, put .ensures .1) (at .inv .4 ∙ ap (keptPlan (at .out) (at .at)) e ∙ kept-laid (at .out) (at .at) (at .l) (at .u) rest room here),
     )
@@ -154,7 +154,7 @@ same-length c =
     let start = c .before .before .before .before .before .before .before .before .before .before .before .before in
     let xs = now (start .args .numbers) in
     let room = length (now (start .args .out)) in
-    ap length (c .before .before .put-interval2 .ensures .0) ∙ laid-length (at .out) (at .at) (at .l) (at .u) ∙ at .inv .2
+    rw (c .before .before .put-interval2 .ensures .0) (laid-length (at .out) (at .at) (at .l) (at .u) ∙ at .inv .2)
 
 returns-2 : tie.Need-returns-2 Inv-loop μ-loop
 returns-2 c =

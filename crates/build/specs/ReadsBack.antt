@@ -1,0 +1,52 @@
+-- The words in which it is said that a built index reads back, and that a sound one has one encoding.
+use Prim.Native.Nat.{ℕ, zero, suc, _+_, _≤_, _<_}
+use mathlib.Core.Path.{_≡_}
+use mathlib.Core.Bool.{true, cond}
+use mathlib.Core.List.{List, [], _∷_}
+use lib.ListN.{length, getD}
+use Rattle.refusal.specs.declared.Found.the-variants.{Nowhere}
+use Rattle.refusal.specs.First.{first}
+use Rattle.word.specs.Word.{same, before, isWord}
+use Rattle.list.specs.Interval.{names}
+use Rattle.list.specs.Stretches.{recordsOf}
+use Rattle.convert.specs.Convert.{badNumber}
+use Rattle.index.specs.Format.{wordCount, highest, wordOf, listOf}
+use Rattle.build.specs.Lent.{lentBefore}
+use Rattle.build.specs.Written.{indexOf}
+
+-- all numbers are below m: with 256, they are bytes
+abbrev pub Below : ℕ → List ℕ → Type 0
+Below m [] = Unit {0}
+Below m (x ∷ xs) = (x < m) × Below m xs
+
+-- N, words and lists that no rule of building refuses, 12 apart
+pub record Indexable (n : ℕ) (ws xss : List (List ℕ)) : Type 0 where
+  pub limit : n ≤ 16777215
+  pub few : length ws ≤ 65535
+  pub as-many : length xss ≡ length ws
+  pub word : (i : ℕ) → i < length ws → isWord (getD ws i []) ≡ true
+  pub order : (i : ℕ) → i < length ws → before (lentBefore ws i) (getD ws i []) ≡ true
+  pub some : (i : ℕ) → i < length ws → 1 ≤ length (getD xss i [])
+  pub records : (i : ℕ) → i < length ws → first (badNumber n (getD xss i [])) (length (getD xss i [])) ≡ Nowhere
+  pub size : length (indexOf n ws xss) ≤ 16777216
+
+-- the records of word w, of words and their lists: none where it is not among the words
+unfoldable pub recordsFor : List (List ℕ) → List (List ℕ) → List ℕ → List ℕ
+recordsFor [] xss w = []
+recordsFor (v ∷ ws) [] w = []
+recordsFor (v ∷ ws) (xs ∷ xss) w = cond (same v w) xs (recordsFor ws xss w)
+
+-- what f gives of the k numbers from i on
+unfoldable pub listed : (ℕ → List ℕ) → ℕ → ℕ → List (List ℕ)
+listed f i zero = []
+listed f i (suc k) = f i ∷ listed f (i + 1) k
+
+-- an index's words, the records of entry i, and those of all entries
+unfoldable pub wordsIn : List ℕ → List (List ℕ)
+wordsIn index = listed (wordOf index) 0 (wordCount index)
+
+abbrev pub recordsAt : List ℕ → ℕ → List ℕ
+recordsAt index i = recordsOf (names (listOf index i)) (highest index)
+
+unfoldable pub listsIn : List ℕ → List (List ℕ)
+listsIn index = listed (recordsAt index) 0 (wordCount index)

@@ -1,0 +1,73 @@
+// Writing one list as it is kept: the singles, then the lower and the upper bounds.
+ghost use mathlib.Core.Path.{_≡_};
+ghost use mathlib.Core.List.{_++_};
+ghost use Prim.Native.Nat.{_≤_};
+ghost use lib.Dec.{eqb};
+ghost use lib.ListN.{length, drop};
+ghost use Rattle.convert.specs.Convert.{badNumberOf, intervalsOf};
+ghost use Rattle.build.specs.Written.{keptBytes};
+ghost use Rattle.build.specs.Passes.{KeptOf, laid, laidTo, LaidWithin};
+use crate::cells::put_cell;
+use crate::size::Kept;
+use refusal::Found;
+
+// Where the next single, the next lower and the next upper bound of a list belong.
+pub struct Places {
+    pub single: usize,
+    pub lower: usize,
+    pub upper: usize,
+}
+
+// Writes an interval of a list where the next of its kind belongs.
+fn put_interval(out: &mut [u8], at: Places, l: u32, u: u32) -> Places
+    requires { ⌜ LaidWithin (eqb l u) at (length (now out)) ⌝ }
+    ensures { λ r. ⌜ (now (out .exit) ≡ laid (eqb l u) (now (out .entry)) at l u) × (r ≡ laidTo (eqb l u) at) ⌝ }
+{
+    if l == u {
+        put_cell(out, at.single, l);
+        Places {
+            single: at.single + 4,
+            lower: at.lower,
+            upper: at.upper,
+        }
+    } else {
+        put_cell(out, at.lower, l);
+        put_cell(out, at.upper, u);
+        Places {
+            single: at.single,
+            lower: at.lower + 4,
+            upper: at.upper + 4,
+        }
+    }
+}
+
+// Writes the list of ascending numbers from byte 0, as it is kept, in one pass; the bytes behind it stay.
+pub fn write_list(out: &mut [u8], numbers: &[u32], kept: Kept)
+    requires { ⌜ (badNumberOf (now numbers) ≡ Found.Nowhere) × KeptOf (now numbers) kept × (length (keptBytes (intervalsOf (now numbers))) ≤ length (now out)) ⌝ }
+    ensures { λ _. ⌜ now (out .exit) ≡ keptBytes (intervalsOf (now (numbers .entry))) ++ drop (length (keptBytes (intervalsOf (now (numbers .entry))))) (now (out .entry)) ⌝ }
+{
+    if numbers.len() == 0 {
+        return;
+    }
+    let mut at = Places {
+        single: 0,
+        lower: 4 * kept.singles,
+        upper: 4 * (kept.singles + kept.pairs),
+    };
+    let mut l = numbers[0];
+    let mut u = l;
+    let mut i = 1;
+    while i < numbers.len() {
+        let x = numbers[i];
+        if x == u + 1 {
+            u = x;
+            i += 1;
+        } else {
+            at = put_interval(out, at, l, u);
+            l = x;
+            u = x;
+            i += 1;
+        }
+    }
+    put_interval(out, at, l, u);
+}
