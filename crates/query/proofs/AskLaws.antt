@@ -30,7 +30,7 @@ use Rattle.question.specs.Reading.{Asked, asks, refuses, asked, readingOf}
 use Rattle.question.specs.Reading as read
 use Rattle.question.proofs.AskedLaws.{asked-accepts}
 use Rattle.query.specs.Ask.{satisfying, Answers, Asks}
-use Rattle.query.specs.Code.{codesOf}
+use Rattle.evaluate.specs.Code.{codesOf}
 use Rattle.query.specs.Compile.{Coded, Slots}
 use Rattle.query.specs.Drive.{TreeOf, testOf, Tallied}
 use Rattle.query.specs.Prepared.{Prepared, Listing}

@@ -13,7 +13,7 @@ use Rattle.question.specs.declared.token.Token.{Token}
 use Rattle.question.specs.declared.token.Token.the-variants.{End, Word, Op, Open, Close, Other}
 use Rattle.question.specs.Token.{tokensAt}
 use Rattle.question.specs.Next.{headed, Within, NextToken, endOf}
-use Rattle.query.specs.Code.{codesOf}
+use Rattle.evaluate.specs.Code.{codesOf}
 use Rattle.query.specs.Compile.{tokenCode}
 
 -- a token's code stands before the codes behind it

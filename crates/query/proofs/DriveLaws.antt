@@ -27,16 +27,16 @@ use Rattle.question.proofs.TreeWords.{Words, question-words}
 use Rattle.window.specs.Window.{member, Holds}
 use Rattle.window.specs.Flips.{odd, flips}
 use Rattle.window.proofs.SweepLaws.{window-part, jump-part}
-use Rattle.query.specs.declared.look.Look.{Look}
-use Rattle.query.specs.declared.eval.Step.{Step}
-use Rattle.query.specs.Code.{wordCodes}
-use Rattle.query.specs.Slots.{slotHas}
-use Rattle.query.specs.Senses.{Known}
-use Rattle.query.specs.Engine.{Evaluated}
-use Rattle.query.specs.Look.{Looks}
+use Rattle.evaluate.specs.declared.look.Look.{Look}
+use Rattle.evaluate.specs.declared.eval.Step.{Step}
+use Rattle.evaluate.specs.Code.{wordCodes}
+use Rattle.evaluate.specs.Slots.{slotHas}
+use Rattle.evaluate.specs.Senses.{Known}
+use Rattle.evaluate.specs.Engine.{Evaluated}
+use Rattle.evaluate.specs.Look.{Looks}
 use Rattle.query.specs.Drive.{Constant, TreeOf, testOf, Tallied}
-use Rattle.query.proofs.CodeLaws.{codes-words}
-use Rattle.query.proofs.SlotLaws.{slots-none}
+use Rattle.evaluate.proofs.CodeLaws.{codes-words}
+use Rattle.evaluate.proofs.SlotLaws.{slots-none}
 
 -- ---- the codes read as t
 

@@ -23,7 +23,7 @@ use Rattle.question.specs.Token.{cut}
 use Rattle.question.specs.Words.{Places}
 use Rattle.question.proofs.RuleLaws.{from-left-keeps}
 use Rattle.question.proofs.TreeWords.{accepted-words, WordsStand, word-places-stand}
-use Rattle.query.specs.Slots.{slotHas}
+use Rattle.evaluate.specs.Slots.{slotHas}
 use Rattle.query.specs.Compile.{IsAsked, entryHas, EntryOf, Slots}
 
 -- ---- an entry number for a word

@@ -1,17 +1,9 @@
-pub mod CodeLaws
-pub mod ReadsLaws
 pub mod CompileLaws
 pub mod EntryLaws
-pub mod SlotLaws
-pub mod AddedLaws
-pub mod FillingLaws
 pub mod SatisfyLaws
 pub mod Demand3
 pub mod DriverLaws
 pub mod DriveLaws
-pub mod EvalLaws
-pub mod SenseLaws
-pub mod SensedLaws
 pub mod WholeLaws
 pub mod QuestionBound
 pub mod AskLaws

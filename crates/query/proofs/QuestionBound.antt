@@ -22,10 +22,10 @@ use Rattle.question.specs.Grammar.{Tree, word, pair, part, fromLeft, wordsOf}
 use Rattle.question.specs.Meaning.{combine, fits}
 use Rattle.question.specs.Reading.{asks, asked}
 use Rattle.query.specs.Ask.{satisfying}
-use Rattle.query.specs.Slots.{slotHas, slotFits}
+use Rattle.evaluate.specs.Slots.{slotHas, slotFits}
 use Rattle.query.specs.Compile.{Slots}
 use Rattle.query.specs.Bound.{slotIntervals, slotsIntervals}
-use Rattle.query.proofs.SlotLaws.{slots-none}
+use Rattle.evaluate.proofs.SlotLaws.{slots-none}
 use Rattle.query.proofs.WholeLaws.{slot-fits}
 
 -- ---- one slot

@@ -1,5 +1,5 @@
 -- Laws of the records that satisfy a question: none outside 1 to N, and the list of those within.
-use mathlib.Core.Path.{_≡_, refl, sym, _∙_}
+use mathlib.Core.Path.{_≡_, sym, _∙_}
 use Prim.Native.Nat.{ℕ, _*_, _≤_}
 use native.Mathlib.Omega.{arith}
 use mathlib.Core.Bool.{Bool, false}
@@ -12,19 +12,13 @@ use Rattle.index.specs.Format.{highest}
 use Rattle.index.specs.Sound.{Sound}
 use Rattle.index.specs.Has.{has}
 use Rattle.index.proofs.HasLaws.{has-zero, has-above}
-use Rattle.question.specs.declared.token.Op.{Op}
-use Rattle.question.specs.declared.token.Op.the-variants.{And, Or, Not}
 use Rattle.question.specs.Grammar.{Tree, word, pair, part}
-use Rattle.question.specs.Meaning.{combine, fits, Same}
+use Rattle.question.specs.Meaning.{fits, Same}
+use Rattle.evaluate.proofs.SlotLaws.{combine-none}
 use Rattle.query.specs.Ask.{satisfying}
 use Rattle.query.specs.Demand3.{SameRecords}
 
 -- a record with none of the words satisfies no question
-pub combine-none : (o : Op) (b : Bool) → b ≡ false → combine o false b ≡ false
-combine-none And b e = refl
-combine-none Or b e = e
-combine-none Not b e = refl
-
 pub fits-none : (had : List ℕ → ℕ → Bool) (x : ℕ) → ((w : List ℕ) → had w x ≡ false) → (t : Tree) → fits had t x ≡ false
 unfolding fits
 fits-none had x h (word w) = h w

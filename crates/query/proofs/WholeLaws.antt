@@ -10,7 +10,7 @@ use Rattle.question.specs.Grammar.{Tree, word, pair, part, wordsOf, fromLeft}
 use Rattle.question.specs.Meaning.{combine, fits}
 use Rattle.question.specs.Reading.{asks, asked}
 use Rattle.question.proofs.MeaningLaws.{fitsBy, fits-by}
-use Rattle.query.specs.Slots.{slotHas, slotFits}
+use Rattle.evaluate.specs.Slots.{slotHas, slotFits}
 use Rattle.query.specs.Compile.{Slots}
 
 -- what fits by the slots is what fits by the words, where each slot has what is said of its word

@@ -13,8 +13,8 @@ use Rattle.question.specs.declared.token.Token.the-variants.{End, Word, Op, Ope
 use Rattle.question.specs.Token.{tokens}
 use Rattle.question.specs.Grammar.{Tree, fromLeft, wordsOf}
 use Rattle.question.specs.Reading.{asks, asked}
-use Rattle.query.specs.Code.{opCode, codesOf}
-use Rattle.query.specs.Slots.{slotHas}
+use Rattle.evaluate.specs.Code.{opCode, codesOf}
+use Rattle.evaluate.specs.Slots.{slotHas}
 
 -- the code of the token that stands next; the end has none
 abbrev pub tokenCode : Token → ℕ

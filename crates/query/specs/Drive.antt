@@ -11,9 +11,9 @@ use Rattle.list.specs.Answer.{tallyOf}
 use Rattle.question.specs.Token.{Tok}
 use Rattle.question.specs.Grammar.{Tree, good, fromLeft, question}
 use Rattle.window.specs.Flips.{odd, flips}
-use Rattle.query.specs.Code.{codesOf, wordCodes}
-use Rattle.query.specs.Slots.{slotHas, slotFits}
-use Rattle.query.specs.Senses.{Sensed}
+use Rattle.evaluate.specs.Code.{codesOf, wordCodes}
+use Rattle.evaluate.specs.Slots.{slotHas, slotFits}
+use Rattle.evaluate.specs.Senses.{Sensed}
 use Rattle.query.specs.declared.drive.At.{At}
 
 -- ---- one step, for any test

@@ -1,11 +1,6 @@
 pub mod Ask
-pub mod Code
-pub mod Slots
 pub mod Compile
-pub mod Engine
 pub mod Demand3
 pub mod Drive
-pub mod Senses
-pub mod Look
 pub mod Bound
 pub mod Prepared

@@ -11,7 +11,7 @@ use Rattle.question.specs.Grammar.{Tree}
 use Rattle.question.specs.Meaning.{fits}
 use Rattle.query.specs.Ask.{satisfying}
 use Rattle.query.specs.Bound.{slotsIntervals}
-use Rattle.query.specs.Code.{wordCodes}
+use Rattle.evaluate.specs.Code.{wordCodes}
 use Rattle.query.specs.Drive.{TreeOf, testOf}
 
 -- the codes read as t and have so many words, its test by the slots is that by the words, and its answer has no more intervals than the lists of its slots together

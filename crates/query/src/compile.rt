@@ -3,7 +3,7 @@ ghost use mathlib.Core.Path.{_≡_};
 ghost use Prim.Native.Nat.{_≤_};
 ghost use lib.ListN.{length};
 ghost use Rattle.index.specs.Sound.{Sound};
-ghost use Rattle.query.specs.Code.{opCode};
+ghost use Rattle.evaluate.specs.Code.{opCode};
 ghost use Rattle.query.specs.Compile.{tokenCode, Coded, IsAsked, EntryOf, Slots};
 use index::find::find_word;
 use index::find::word_count;

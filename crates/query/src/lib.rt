@@ -2,12 +2,6 @@
 
 pub mod ask;
 pub mod bound;
-pub mod code;
 pub mod compile;
 pub mod drive;
-pub mod eval;
-pub mod fill;
-pub mod look;
-pub mod sense_pair;
-pub mod senses;
 pub mod steps;

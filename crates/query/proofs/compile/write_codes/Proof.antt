@@ -7,7 +7,7 @@ use mathlib.Core.List.{_++_}
 use lib.ListN.{length, take, length-set}
 use Rattle.question.specs.Token.{tokensAt, tokens}
 use Rattle.question.specs.Next.{endOf}
-use Rattle.query.specs.Code.{codesOf}
+use Rattle.evaluate.specs.Code.{codesOf}
 use Rattle.query.specs.Compile.{tokenCode}
 use Rattle.query.proofs.CompileLaws.{code-next, code-none, write-next, write-end}
 use Rattle.query.proofs.compile.write_codes.Statement.{statement}

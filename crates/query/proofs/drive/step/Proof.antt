@@ -3,9 +3,9 @@ use mathlib.Core.Path.{refl, _∙_}
 use Prim.Native.Nat.{_-_, _*_}
 use native.Mathlib.Omega.{arith}
 use borrow.Author.Needs.{needs}
-use Rattle.query.specs.Slots.{slotHas}
+use Rattle.evaluate.specs.Slots.{slotHas}
 use Rattle.query.specs.Drive.{testOf}
-use Rattle.query.proofs.SensedLaws.{sensed-later}
+use Rattle.evaluate.proofs.SensedLaws.{sensed-later}
 use Rattle.query.proofs.DriveLaws.{steady-constant, jump-room, part-words}
 use Rattle.query.proofs.drive.step.Statement.{statement}
 use Rattle.query.proofs.drive.step.Tie as tie

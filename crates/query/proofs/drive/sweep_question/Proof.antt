@@ -1,8 +1,8 @@
 -- At first no sense says anything.
 use mathlib.Core.Path.{refl}
 use borrow.Author.Needs.{needs}
-use Rattle.query.specs.Slots.{slotHas}
-use Rattle.query.proofs.SensedLaws.{sensed-none}
+use Rattle.evaluate.specs.Slots.{slotHas}
+use Rattle.evaluate.proofs.SensedLaws.{sensed-none}
 use Rattle.query.proofs.drive.sweep_question.Statement.{statement}
 use Rattle.query.proofs.drive.sweep_question.Tie as tie
 

@@ -1,0 +1,45 @@
+-- What a window holds of a word, of a part and of two sides, by the slots of their words.
+use mathlib.Core.Path.{_≡_, refl, sym, ap}
+use Prim.Native.Nat.{ℕ, zero, suc, _+_}
+use native.Mathlib.Omega.{arith}
+use mathlib.Core.Bool.{Bool}
+use mathlib.Core.List.{List, [], _∷_, _++_}
+use lib.ListN.{length, take, replicate}
+use Rattle.window.specs.Window.{Holds, Combined}
+use Rattle.window.proofs.HoldLaws.{holds-agree, holds-combined}
+use Rattle.question.specs.declared.token.Op.{Op}
+use Rattle.question.specs.Grammar.{Tree, word, pair, part, wordsOf}
+use Rattle.question.specs.Meaning.{combine}
+use Rattle.evaluate.specs.Engine.{Added}
+use Rattle.evaluate.specs.Slots.{slotFits}
+use Rattle.evaluate.proofs.AddedLaws.{added-holds}
+use Rattle.evaluate.proofs.SlotLaws.{slot-word, slot-part, slot-pair}
+
+-- ---- a window that is the front of a longer one
+
+pub front-blank : (m n : ℕ) → take {A = ℕ} m (replicate n 0) ≡ replicate (length (take {A = ℕ} m (replicate n 0))) 0
+front-blank zero n = refl
+front-blank (suc m) zero = refl
+front-blank (suc m) (suc n) = ap (λ (l : List ℕ). 0 ∷ l) (front-blank m n)
+
+pub front-back : (m : ℕ) (vs r : List ℕ) → length vs ≡ m → take m (vs ++ r) ≡ vs
+front-back zero [] r e = refl
+front-back zero (v ∷ vs) r e = absurd (omega arith)
+front-back (suc m) [] r e = absurd (omega arith)
+front-back (suc m) (v ∷ vs) r e = ap (λ (l : List ℕ). v ∷ l) (front-back m vs r (omega arith))
+
+-- ---- what the windows hold
+
+module _ (v : ℕ → ℕ → Bool) (k base : ℕ) where
+  pub holds-word : (w ws₀ ws : List ℕ) → ws₀ ≡ replicate (length ws₀) 0 → Added (v k) base ws₀ ws → Holds (slotFits v (word w) k) base ws
+  holds-word w ws₀ ws e a = holds-agree (v k) (slotFits v (word w) k) base ws (λ n h. sym (slot-word v k (base + n) w)) (added-holds (v k) base (length ws₀) ws₀ ws e a)
+
+  pub holds-part : (t : Tree) (ws : List ℕ) → Holds (slotFits v t k) base ws → Holds (slotFits v (part t) k) base ws
+  holds-part t ws h = holds-agree (slotFits v t k) (slotFits v (part t) k) base ws (λ n l. sym (slot-part v k (base + n) t)) h
+
+  -- j is the slot of the right side's first word
+  pub holds-pair : (o : Op) (a b : Tree) (j : ℕ) (xs ys zs : List ℕ) → j ≡ k + length (wordsOf a) → length ys ≡ length xs → Combined (combine o) xs ys zs →
+      Holds (slotFits v a k) base xs → Holds (slotFits v b j) base ys → Holds (slotFits v (pair o a b) k) base zs
+  holds-pair o a b j xs ys zs e l c h g =
+      holds-agree (λ x. combine o (slotFits v a k x) (slotFits v b j x)) (slotFits v (pair o a b) k) base zs (λ n w. sym (slot-pair v k (base + n) o a b j e))
+      (holds-combined (combine o) (slotFits v a k) (slotFits v b j) base xs ys zs l c h g)

@@ -1,0 +1,58 @@
+-- Laws of kept senses: none says anything at first, what is said at x is said at each later record, and one slot is renewed.
+use Prim.Native.Nat.{ℕ, zero, suc, _+_, _/_, _≤_, _<_}
+use native.Mathlib.Decide.{ℕ-discrete}
+use native.Mathlib.Omega.{arith}
+use mathlib.Core.Path.{_≡_, refl, sym, ap, _∙_, subst}
+use mathlib.Core.Bool.{Bool}
+use mathlib.Core.List.{List}
+use lib.ListN.{length, getD, set, replicate, length-set}
+use lib.Seq.{getD-set-same, getD-set-other}
+use Rattle.laws.proofs.Tests.{leb-cases}
+use Rattle.list.specs.Interval.{top}
+use Rattle.list.specs.Sense.{Steady}
+use Rattle.evaluate.specs.Senses.{inIt, untilOf, Sensed, Known, Renewed}
+
+none : (n k : ℕ) → _≡_ {A = ℕ} (getD (replicate n 0) k 0) 0
+none zero k = refl
+none (suc n) zero = refl
+none (suc n) (suc k) = none n k
+
+pub sensed-none : (v : ℕ → ℕ → Bool) (n x : ℕ) → Sensed v (replicate n 0) x
+sensed-none v n x = record { near = λ k. omega (arith, none n k); same = λ k y h l. absurd (omega (arith, none n k)) }
+
+module _ (v : ℕ → ℕ → Bool) (senses : List ℕ) (x : ℕ) (s : Sensed v senses x) where
+  pub sensed-later : (y : ℕ) → x ≤ y → Sensed v senses y
+  sensed-later y h = record { near = s .near; same = λ k z g l. s .same k z (omega arith) l }
+
+  pub sensed-known : (slots : ℕ) → ((k : ℕ) → k < slots → x < untilOf senses k) → Known v senses slots x
+  sensed-known slots h k l = record { later = h k l; near = s .near k; same = s .same k }
+
+-- one slot more
+pub renewed-next : (v : ℕ → ℕ → Bool) (x k : ℕ) (senses senses′ : List ℕ) → Renewed v x k senses senses′ → ((j : ℕ) → j < k → x < untilOf senses j) →
+    (j : ℕ) → j < k + 1 → x < untilOf senses′ j
+renewed-next v x k senses senses′ r h j l = go (ℕ-discrete j k)
+  where
+    go : Dec (j ≡ k) → x < untilOf senses′ j
+    go (yes e) = rw e (r .here)
+    go (no e) = r .others j (h j (let m = leb-cases {A = j < k} k j (λ g. absurd (e (omega arith))) (λ g. g) in m))
+
+-- what holds of the number set at k, and of the one that was at j, holds of the one that is
+set-cases : (P : ℕ → Type 0) (senses : List ℕ) (k n j : ℕ) → k < length senses → (j ≡ k → P n) → P (getD senses j 0) → P (getD (set senses k n) j 0)
+set-cases P senses k n j h f g = go (ℕ-discrete j k)
+  where
+    go : Dec (j ≡ k) → P (getD (set senses k n) j 0)
+    go (yes e) = subst P (sym (ap (λ (i : ℕ). getD (set senses k n) i 0) e ∙ getD-set-same senses k n 0 h)) (f e)
+    go (no e) = subst P (sym (getD-set-other senses k j n 0 e)) g
+
+module _ (v : ℕ → ℕ → Bool) (senses : List ℕ) (x k : ℕ) (s : Sensed v senses x) (inside : Bool) (until n : ℕ) (t : Steady (v k) x inside until) where
+  pub renewed-set : k < length senses → n / 2 ≡ until → inIt n ≡ inside → Renewed v x k senses (set senses k n)
+  renewed-set h e f = record {
+    long = length-set senses k n;
+    sensed = record {
+      near = λ j. set-cases (λ m. m / 2 ≤ top + 1) senses k n j h (λ _. omega (arith, t .near)) (s .near j);
+      same = λ j y g. set-cases (λ m. y < m / 2 → v j y ≡ inIt m) senses k n j h
+          (λ i l. ap (λ (j : ℕ). v j y) i ∙ t .same y g (omega arith) ∙ sym f) (s .same j y g);
+    };
+    here = omega (arith, getD-set-same senses k n 0 h, t .later);
+    others = λ j l. set-cases (λ m. x < m / 2) senses k n j h (λ _. omega (arith, t .later)) l;
+  }

@@ -1,0 +1,375 @@
+-- By the laws of reading codes and of senses. The measure is the brackets that may still open; in the loop, what is left of the codes.
+use Prim.Native.Nat.{ℕ, _+_, _-_, _*_, _<_, _≤_}
+use native.Mathlib.Omega.{arith}
+use mathlib.Core.Path.{_≡_, sym, _∙_}
+use lib.ListN.{length, getD}
+use borrow.Author.Needs.{needs}
+use borrow.Author.Tests.{not-true, not-false}
+use Rattle.evaluate.specs.Code.{opCode, opOf}
+use Rattle.evaluate.specs.Look.{Tells}
+use Rattle.evaluate.proofs.CodeLaws.{op-range, operator-code, operator-none}
+use Rattle.evaluate.proofs.ReadsLaws.{
+  code-within,
+  operand-none,
+  operand-word,
+  operand-many,
+  operand-deep,
+  operand-part,
+  operand-unclosed,
+  Level,
+  level-start,
+  level-step,
+  level-end,
+}
+use Rattle.evaluate.proofs.SenseLaws.{tells-word, tells-part, tells-pair}
+use borrow.Fn.Kinds.{In}
+use borrow.Fn.PlainCycle.{Measures, is, falls, and}
+use Rattle.evaluate.proofs.look.look_level.Reads as look-level
+use Rattle.evaluate.proofs.look.look_level.Kinds as look-level-kinds
+use Rattle.evaluate.proofs.look.+look_level+look_operand.Lts-look_level as look-level-lts
+use Rattle.evaluate.proofs.look.look_operand.Reads as look-operand
+use Rattle.evaluate.proofs.look.look_operand.Kinds as look-operand-kinds
+use Rattle.evaluate.proofs.look.+look_level+look_operand.Lts-look_operand as look-operand-lts
+use Rattle.evaluate.proofs.code.code_at.Reads as code-at-reads
+use Rattle.evaluate.proofs.code.is_operator.Reads as is-operator-reads
+use Rattle.evaluate.proofs.senses.sense_of.Reads as sense-of-reads
+use Rattle.evaluate.proofs.look.unread.Reads as unread-reads
+use Rattle.evaluate.proofs.sense_pair.pair_senses.Reads as pair-senses-reads
+use Rattle.evaluate.proofs.look.+look_level+look_operand.{statement}
+use Rattle.evaluate.proofs.look.+look_level+look_operand.Tie.{close}
+
+abbrev μ-look-level : Measures 2 look-level-kinds.ps ℕ
+μ-look-level κs a = 2 * (a .1 .1 .1 .0) + 1
+
+abbrev μ-look-operand : Measures 2 look-operand-kinds.ps ℕ
+μ-look-operand κs a = 2 * (a .1 .1 .1 .0)
+
+abbrev look-level-at : ℕ → In 2 look-level-kinds.ps
+look-level-at t =
+    and 2 look-level-kinds.ps (is 2 look-level-kinds.ps μ-look-level t) look-level.Pre
+
+abbrev look-level-below : ℕ → In 2 look-level-kinds.ps
+look-level-below t =
+    and 2 look-level-kinds.ps (falls 2 look-level-kinds.ps _<_ μ-look-level t) look-level.Pre
+
+abbrev look-operand-at : ℕ → In 2 look-operand-kinds.ps
+look-operand-at t =
+    and 2 look-operand-kinds.ps (is 2 look-operand-kinds.ps μ-look-operand t) look-operand.Pre
+
+abbrev look-operand-below : ℕ → In 2 look-operand-kinds.ps
+look-operand-below t =
+    and
+    2
+    look-operand-kinds.ps
+    (falls 2 look-operand-kinds.ps _<_ μ-look-operand t)
+    look-operand.Pre
+
+-- what the calls of each promise
+abbrev level-claims : ℕ → look-level-lts.Claims
+level-claims t = (look-operand-below t, look-operand.Post, code-at-reads.Asked, code-at-reads.Learnt, is-operator-reads.Asked, is-operator-reads.Learnt, pair-senses-reads.Asked, pair-senses-reads.Learnt)
+
+abbrev operand-claims : ℕ → look-operand-lts.Claims
+operand-claims t = (code-at-reads.Asked, code-at-reads.Learnt, sense-of-reads.Asked, sense-of-reads.Learnt, unread-reads.Asked, unread-reads.Learnt, look-level-below t, look-level.Post)
+
+abbrev look-level-Inv-loop : look-level-lts.InvT-loop
+look-level-Inv-loop codes i k d senses at₀ slot₀ inside₀ until₀ at slot inside until =
+    (i ≤ at) × (at ≤ length codes) × Level codes d k i at slot (Tells senses k inside until)
+
+abbrev look-level-μ-loop : look-level-lts.MeasureT-loop
+look-level-μ-loop codes i k d senses at₀ slot₀ inside₀ until₀ at slot inside until = length codes - at
+
+-- where the loop goes on an operator stands
+abbrev GoesOn : ℕ → Type 0
+GoesOn t = look-level-lts.Else1 (level-claims t) (look-level-at t) look-level.Post look-level-Inv-loop look-level-μ-loop
+
+operator-here : (t : ℕ) (c : GoesOn t) → let code = c .before .before .code-at .result in
+    (code ≡ opCode (opOf code)) × (c .before .before .before .loop .at < length (c .before .before .before .before .before .before .before .args .codes .now))
+operator-here t c =
+    let code = c .before .before .code-at in
+    let is = operator-code (code .result) (sym (c .before .is-operator .ensures) ∙ not-false (c .before .is-operator .result) (c .if1 .left)) in
+    (is, code-within (c .before .before .before .before .before .before .before .args .codes .now) (c .before .before .before .loop .at) (let r = op-range (opOf (code .result)) in let w = code .ensures in omega arith))
+
+look-level-look-operand-requires : (t : ℕ) → look-level-lts.Need-look-operand-requires (level-claims t) (look-level-at t) look-level.Post look-level-Inv-loop look-level-μ-loop
+look-level-look-operand-requires t c κs = search needs
+
+look-level-loop-holds : (t : ℕ) → look-level-lts.Need-loop-holds (level-claims t) (look-level-at t) look-level.Post look-level-Inv-loop look-level-μ-loop
+look-level-loop-holds t c =
+    let start = c .before .before .before in
+    let codes = start .args .codes .now in
+    let senses = start .args .senses .now in
+    let i = start .args .i in
+    let k = start .args .k in
+    let d = start .args .d in
+    let first = c .look-operand in
+    let r = first .result in
+    (first .ensures .ahead, first .ensures .inside, level-start codes d k i (r .code) (r .slot) (Tells senses k (r .inside) (r .until)) (first .ensures .reads))
+
+look-level-code-at-requires : (t : ℕ) → look-level-lts.Need-code-at-requires (level-claims t) (look-level-at t) look-level.Post look-level-Inv-loop look-level-μ-loop
+look-level-code-at-requires t c κs = search needs
+
+look-level-is-operator-requires : (t : ℕ) → look-level-lts.Need-is-operator-requires (level-claims t) (look-level-at t) look-level.Post look-level-Inv-loop look-level-μ-loop
+look-level-is-operator-requires t c κs = search needs
+
+look-level-returns : (t : ℕ) → look-level-lts.Need-returns (level-claims t) (look-level-at t) look-level.Post look-level-Inv-loop look-level-μ-loop
+look-level-returns t c =
+    let start = c .before .before .before .before .before .before .before in
+    let codes = start .args .codes .now in
+    let senses = start .args .senses .now in
+    let i = start .args .i in
+    let k = start .args .k in
+    let d = start .args .d in
+    let at = c .before .before .before .loop in
+    let none = operator-none (c .before .before .code-at .result) (sym (c .before .is-operator .ensures) ∙ not-true (c .before .is-operator .result) (c .if1 .taken)) in
+    record {
+      ahead = at .inv .0;
+      inside = at .inv .1;
+      reads = level-end codes d k i (at .at) (at .slot) (Tells senses k (at .inside) (at .until)) (at .inv .2) (λ o e. none o (c .before .before .code-at .ensures ∙ e));
+    }
+
+look-level-add-look-operand : (t : ℕ) → look-level-lts.Need-add-look-operand (level-claims t) (look-level-at t) look-level.Post look-level-Inv-loop look-level-μ-loop
+look-level-add-look-operand t c =
+    let operator = operator-here t c in
+    omega (arith, operator .1)
+
+look-level-look-operand-requires-2 : (t : ℕ) → look-level-lts.Need-look-operand-requires-2 (level-claims t) (look-level-at t) look-level.Post look-level-Inv-loop look-level-μ-loop
+look-level-look-operand-requires-2 t c κs =
+    let start = c .before .before .before .before .before .before .before in
+    let operator = operator-here t c in
+    (omega arith, (omega (arith, operator .1), start .pre .1 .1))
+
+look-level-pair-senses-requires : (t : ℕ) → look-level-lts.Need-pair-senses-requires (level-claims t) (look-level-at t) look-level.Post look-level-Inv-loop look-level-μ-loop
+look-level-pair-senses-requires t c κs = search needs
+
+look-level-loop-less : (t : ℕ) → look-level-lts.Need-loop-less (level-claims t) (look-level-at t) look-level.Post look-level-Inv-loop look-level-μ-loop
+look-level-loop-less t c =
+    let operator = operator-here t (c .before .before) in
+    let next = c .before .look-operand2 .ensures in
+    omega (arith, operator .1, next .ahead, next .inside)
+
+look-level-loop-again : (t : ℕ) → look-level-lts.Need-loop-again (level-claims t) (look-level-at t) look-level.Post look-level-Inv-loop look-level-μ-loop
+look-level-loop-again t c =
+    let start = c .before .before .before .before .before .before .before .before .before in
+    let codes = start .args .codes .now in
+    let senses = start .args .senses .now in
+    let i = start .args .i in
+    let k = start .args .k in
+    let d = start .args .d in
+    let at = c .before .before .before .before .before .loop in
+    let operator = operator-here t (c .before .before) in
+    let code = c .before .before .before .before .code-at in
+    let o = opOf (code .result) in
+    let next = c .before .look-operand2 in
+    let n = next .result in
+    let r = c .pair-senses .result in (
+      omega (arith, next .ensures .ahead),
+      next .ensures .inside,
+      level-step codes d k i (at .at) (at .slot) (n .code) (n .slot)
+          (Tells senses k (at .inside) (at .until))
+          (Tells senses (at .slot) (n .inside) (n .until))
+          (Tells senses k (r .inside) (r .until))
+          o (sym (code .ensures) ∙ operator .0) (at .inv .2) (next .ensures .reads)
+          (λ a b h s u. tells-pair senses k (r .inside) (r .until) o a b (at .slot) h (at .inside) (n .inside) (at .until) (n .until) (c .pair-senses .ensures o (operator .0)) s u),
+    )
+
+look-operand-code-at-requires : (t : ℕ) → look-operand-lts.Need-code-at-requires (operand-claims t) (look-operand-at t) look-operand.Post
+look-operand-code-at-requires t c κs = search needs
+
+look-operand-sense-of-requires : (t : ℕ) → look-operand-lts.Need-sense-of-requires (operand-claims t) (look-operand-at t) look-operand.Post
+look-operand-sense-of-requires t c κs = search needs
+
+look-operand-add-t12 : (t : ℕ) → look-operand-lts.Need-add-t12 (operand-claims t) (look-operand-at t) look-operand.Post
+look-operand-add-t12 t c =
+    let start = c .before .before .before .before .before .before in
+    let codes = start .args .codes .now in
+    let i = start .args .i in
+    let here : getD codes i 6 ≡ 0 = sym (c .before .before .before .code-at .ensures) ∙ c .before .before .if1 .taken in
+    let within = code-within codes i (omega arith) in
+    omega arith
+
+look-operand-add-t13 : (t : ℕ) → look-operand-lts.Need-add-t13 (operand-claims t) (look-operand-at t) look-operand.Post
+look-operand-add-t13 t c = search needs
+
+look-operand-returns : (t : ℕ) → look-operand-lts.Need-returns (operand-claims t) (look-operand-at t) look-operand.Post
+look-operand-returns t c =
+    let start = c .before .before .before .before .before .before in
+    let codes = start .args .codes .now in
+    let senses = start .args .senses .now in
+    let i = start .args .i in
+    let k = start .args .k in
+    let d = start .args .d in
+    let here : getD codes i 6 ≡ 0 = sym (c .before .before .before .code-at .ensures) ∙ c .before .before .if1 .taken in
+    let within = code-within codes i (omega arith) in
+    let r = c .sense-of .result in
+    record {
+      ahead = omega arith;
+      inside = omega arith;
+      reads = λ f. operand-word codes f d k i here (Tells senses k (r .inside) (r .until)) (tells-word senses k (r .inside) (r .until) (c .sense-of .ensures .0) (c .sense-of .ensures .1));
+    }
+
+look-operand-unread-requires : (t : ℕ) → look-operand-lts.Need-unread-requires (operand-claims t) (look-operand-at t) look-operand.Post
+look-operand-unread-requires t c κs = search needs
+
+look-operand-returns-2 : (t : ℕ) → look-operand-lts.Need-returns-2 (operand-claims t) (look-operand-at t) look-operand.Post
+look-operand-returns-2 t c =
+    let start = c .before .before .before .before .before .before in
+    let codes = start .args .codes .now in
+    let senses = start .args .senses .now in
+    let i = start .args .i in
+    let k = start .args .k in
+    let d = start .args .d in
+    let here : getD codes i 6 ≡ 0 = sym (c .before .before .before .code-at .ensures) ∙ c .before .before .if1 .taken in
+    let r = c .unread .result in
+    record {
+      ahead = omega (arith, c .unread .ensures);
+      inside = omega (arith, start .pre .1 .0, c .unread .ensures);
+      reads = λ f. operand-many codes f d k i here (r .code) (r .slot) (Tells senses k (r .inside) (r .until)) (c .before .if2 .left);
+    }
+
+look-operand-unread-requires-2 : (t : ℕ) → look-operand-lts.Need-unread-requires-2 (operand-claims t) (look-operand-at t) look-operand.Post
+look-operand-unread-requires-2 t c κs = search needs
+
+look-operand-returns-3 : (t : ℕ) → look-operand-lts.Need-returns-3 (operand-claims t) (look-operand-at t) look-operand.Post
+look-operand-returns-3 t c =
+    let start = c .before .before .before .before .before .before .before in
+    let codes = start .args .codes .now in
+    let senses = start .args .senses .now in
+    let i = start .args .i in
+    let k = start .args .k in
+    let d = start .args .d in
+    let here : getD codes i 6 ≡ 4 = sym (c .before .before .before .before .code-at .ensures) ∙ c .before .before .if3 .taken in
+    let r = c .unread2 .result in
+    record {
+      ahead = omega (arith, c .unread2 .ensures);
+      inside = omega (arith, start .pre .1 .0, c .unread2 .ensures);
+      reads = λ f. operand-deep codes f d k i here (r .code) (r .slot) (Tells senses k (r .inside) (r .until)) (c .before .if4 .taken);
+    }
+
+look-operand-add-look-level : (t : ℕ) → look-operand-lts.Need-add-look-level (operand-claims t) (look-operand-at t) look-operand.Post
+look-operand-add-look-level t c =
+    let start = c .before .before .before .before .before .before in
+    let codes = start .args .codes .now in
+    let i = start .args .i in
+    let here : getD codes i 6 ≡ 4 = sym (c .before .before .before .code-at .ensures) ∙ c .before .if3 .taken in
+    let within = code-within codes i (omega arith) in
+    omega arith
+
+look-operand-sub-look-level : (t : ℕ) → look-operand-lts.Need-sub-look-level (operand-claims t) (look-operand-at t) look-operand.Post
+look-operand-sub-look-level t c = search needs
+
+look-operand-look-level-requires : (t : ℕ) → look-operand-lts.Need-look-level-requires (operand-claims t) (look-operand-at t) look-operand.Post
+look-operand-look-level-requires t c κs =
+    let start = c .before .before .before .before .before .before in
+    let codes = start .args .codes .now in
+    let i = start .args .i in
+    let here : getD codes i 6 ≡ 4 = sym (c .before .before .before .code-at .ensures) ∙ c .before .if3 .taken in
+    let within = code-within codes i (omega arith) in
+    (omega arith, (omega arith, start .pre .1 .1))
+
+look-operand-code-at-requires-2 : (t : ℕ) → look-operand-lts.Need-code-at-requires-2 (operand-claims t) (look-operand-at t) look-operand.Post
+look-operand-code-at-requires-2 t c κs = search needs
+
+look-operand-add-t18 : (t : ℕ) → look-operand-lts.Need-add-t18 (operand-claims t) (look-operand-at t) look-operand.Post
+look-operand-add-t18 t c =
+    let start = c .before .before .before .before .before .before .before .before .before in
+    let codes = start .args .codes .now in
+    let i = start .args .i in
+    let here : getD codes i 6 ≡ 4 = sym (c .before .before .before .before .before .before .code-at .ensures) ∙ c .before .before .before .before .if3 .taken in
+    let close = code-within codes (c .before .before .look-level .result .code) (omega (arith, c .before .code-at2 .ensures, c .if5 .taken)) in
+    omega arith
+
+look-operand-returns-4 : (t : ℕ) → look-operand-lts.Need-returns-4 (operand-claims t) (look-operand-at t) look-operand.Post
+look-operand-returns-4 t c =
+    let start = c .before .before .before .before .before .before .before .before .before in
+    let codes = start .args .codes .now in
+    let senses = start .args .senses .now in
+    let i = start .args .i in
+    let k = start .args .k in
+    let d = start .args .d in
+    let here : getD codes i 6 ≡ 4 = sym (c .before .before .before .before .before .before .code-at .ensures) ∙ c .before .before .before .before .if3 .taken in
+    let inner = c .before .before .look-level in
+    let p = inner .result in
+    let there : getD codes (p .code) 6 ≡ 5 = sym (c .before .code-at2 .ensures) ∙ c .if5 .taken in
+    let close = code-within codes (p .code) (omega arith) in
+    record {
+      ahead = omega (arith, inner .ensures .ahead);
+      inside = omega arith;
+      reads = λ f. operand-part codes f d k i here (p .code) (p .slot) (Tells senses k (p .inside) (p .until)) (inner .ensures .reads) (Tells senses k (p .inside) (p .until)) there (tells-part senses k (p .inside) (p .until));
+    }
+
+look-operand-unread-requires-3 : (t : ℕ) → look-operand-lts.Need-unread-requires-3 (operand-claims t) (look-operand-at t) look-operand.Post
+look-operand-unread-requires-3 t c κs = search needs
+
+look-operand-returns-5 : (t : ℕ) → look-operand-lts.Need-returns-5 (operand-claims t) (look-operand-at t) look-operand.Post
+look-operand-returns-5 t c =
+    let start = c .before .before .before .before .before .before .before .before .before .before in
+    let codes = start .args .codes .now in
+    let senses = start .args .senses .now in
+    let i = start .args .i in
+    let k = start .args .k in
+    let d = start .args .d in
+    let here : getD codes i 6 ≡ 4 = sym (c .before .before .before .before .before .before .before .code-at .ensures) ∙ c .before .before .before .before .before .if3 .taken in
+    let inner = c .before .before .before .look-level in
+    let p = inner .result in
+    let r = c .unread3 .result in
+    record {
+      ahead = omega (arith, inner .ensures .ahead, c .unread3 .ensures);
+      inside = omega (arith, inner .ensures .inside, c .unread3 .ensures);
+      reads = λ f. operand-unclosed codes f d k i here (p .code) (p .slot) (Tells senses k (p .inside) (p .until)) (inner .ensures .reads) (r .code) (r .slot) (Tells senses k (r .inside) (r .until)) (λ e. c .before .if5 .left (c .before .before .code-at2 .ensures ∙ e));
+    }
+
+look-operand-unread-requires-4 : (t : ℕ) → look-operand-lts.Need-unread-requires-4 (operand-claims t) (look-operand-at t) look-operand.Post
+look-operand-unread-requires-4 t c κs = search needs
+
+look-operand-returns-6 : (t : ℕ) → look-operand-lts.Need-returns-6 (operand-claims t) (look-operand-at t) look-operand.Post
+look-operand-returns-6 t c =
+    let start = c .before .before .before .before .before .before in
+    let codes = start .args .codes .now in
+    let senses = start .args .senses .now in
+    let i = start .args .i in
+    let k = start .args .k in
+    let d = start .args .d in
+    let r = c .unread4 .result in
+    record {
+      ahead = omega (arith, c .unread4 .ensures);
+      inside = omega (arith, start .pre .1 .0, c .unread4 .ensures);
+      reads = λ f. operand-none codes f d k i (r .code) (r .slot) (Tells senses k (r .inside) (r .until)) (λ e. c .before .before .if1 .left (c .before .before .before .code-at .ensures ∙ e)) (λ e. c .before .if3 .left (c .before .before .before .code-at .ensures ∙ e));
+    }
+
+pub +look-level+look-operand-spec : {M : Type 1} → statement M
++look-level+look-operand-spec = close μ-look-level μ-look-operand (λ t. look-level-lts.spec (level-claims t)
+    (look-level-at t)
+    look-level.Post
+    look-level-Inv-loop
+    look-level-μ-loop
+    (look-level-look-operand-requires t)
+    (look-level-loop-holds t)
+    (look-level-code-at-requires t)
+    (look-level-is-operator-requires t)
+    (look-level-returns t)
+    (look-level-add-look-operand t)
+    (look-level-look-operand-requires-2 t)
+    (look-level-pair-senses-requires t)
+    (look-level-loop-less t)
+    (look-level-loop-again t))
+    λ t. look-operand-lts.spec (operand-claims t)
+    (look-operand-at t)
+    look-operand.Post
+    (look-operand-code-at-requires t)
+    (look-operand-sense-of-requires t)
+    (look-operand-add-t12 t)
+    (look-operand-add-t13 t)
+    (look-operand-returns t)
+    (look-operand-unread-requires t)
+    (look-operand-returns-2 t)
+    (look-operand-unread-requires-2 t)
+    (look-operand-returns-3 t)
+    (look-operand-add-look-level t)
+    (look-operand-sub-look-level t)
+    (look-operand-look-level-requires t)
+    (look-operand-code-at-requires-2 t)
+    (look-operand-add-t18 t)
+    (look-operand-returns-4 t)
+    (look-operand-unread-requires-3 t)
+    (look-operand-returns-5 t)
+    (look-operand-unread-requires-4 t)
+    (look-operand-returns-6 t)

@@ -1,0 +1,60 @@
+-- `or` by `and` of the opposites, `not` by `and` with the opposite of the right side.
+use mathlib.Core.Path.{sym, _∙_}
+use mathlib.Core.Bool.{not, _&&_}
+use Rattle.evaluate.proofs.SenseLaws.{paired-and, paired-or, paired-not}
+use borrow.Author.Needs.{needs}
+use Rattle.evaluate.proofs.sense_pair.pair_senses.Statement.{statement}
+use Rattle.evaluate.proofs.sense_pair.pair_senses.Tie as tie
+
+both-requires : tie.Need-both-requires
+both-requires c κs = search needs
+
+returns : tie.Need-returns
+returns c = λ o e p q x s t. let r = c .both .result in paired-and p q x (r .inside) (r .until) o (sym (c .before .if1 .taken) ∙ e) (c .both .ensures p q x s t)
+
+opposite-requires : tie.Need-opposite-requires
+opposite-requires c κs = search needs
+
+opposite-requires-2 : tie.Need-opposite-requires-2
+opposite-requires-2 c κs = search needs
+
+both-requires-2 : tie.Need-both-requires-2
+both-requires-2 c κs = search needs
+
+opposite-requires-3 : tie.Need-opposite-requires-3
+opposite-requires-3 c κs = search needs
+
+returns-2 : tie.Need-returns-2
+returns-2 c = λ o e p q x s t.
+    let a = c .before .before .before .opposite .ensures p x s in
+    let b = c .before .before .opposite2 .ensures q x t in
+    let n = c .opposite3 .ensures (λ y. not (p y) && not (q y)) x (c .before .both2 .ensures (λ y. not (p y)) (λ y. not (q y)) x a b) in
+    let r = c .opposite3 .result in
+    paired-or p q x (r .inside) (r .until) o (sym (c .before .before .before .before .if2 .taken) ∙ e) n
+
+opposite-requires-4 : tie.Need-opposite-requires-4
+opposite-requires-4 c κs = search needs
+
+both-requires-3 : tie.Need-both-requires-3
+both-requires-3 c κs = search needs
+
+returns-3 : tie.Need-returns-3
+returns-3 c = λ o e p q x s t.
+    let n = c .both3 .ensures p (λ y. not (q y)) x s (c .before .opposite4 .ensures q x t) in
+    let r = c .both3 .result in
+    paired-not p q x (r .inside) (r .until) (c .before .before .before .before .args .code) o e (c .before .before .before .if1 .left) (c .before .before .if2 .left) n
+
+pub pair-senses-spec : {M : Type 1} → statement M
+pair-senses-spec =
+    tie.close
+    (tie.spec
+    both-requires
+    returns
+    opposite-requires
+    opposite-requires-2
+    both-requires-2
+    opposite-requires-3
+    returns-2
+    opposite-requires-4
+    both-requires-3
+    returns-3)

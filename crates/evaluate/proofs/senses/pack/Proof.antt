@@ -1,0 +1,30 @@
+-- The last digit says whether it is in.
+use Prim.Native.Nat.{_+_, _*_, _%_}
+use native.Mathlib.Omega.{arith}
+use mathlib.Core.Path.{_≡_, sym, _∙_}
+use borrow.Author.Needs.{needs}
+use borrow.Author.Tests.{eq-eqb, ne-eqb}
+use Rattle.evaluate.proofs.senses.pack.Statement.{statement}
+use Rattle.evaluate.proofs.senses.pack.Tie as tie
+
+mul-result : tie.Need-mul-result
+mul-result c = search needs
+
+add-result : tie.Need-add-result
+add-result c = search needs
+
+mul-result-2 : tie.Need-mul-result-2
+mul-result-2 c = search needs
+
+returns : tie.Need-returns
+returns c =
+    let until = c .before .before .args .sense .until in
+    (omega arith, eq-eqb ((2 * until + 1) % 2) 1 (omega arith) ∙ sym (c .before .if1 .taken))
+
+returns-2 : tie.Need-returns-2
+returns-2 c =
+    let until = c .before .before .args .sense .until in
+    (omega arith, ne-eqb (2 * until % 2) 1 (λ (e : 2 * until % 2 ≡ 1). omega arith) ∙ sym (c .before .if1 .left))
+
+pub pack-spec : {M : Type 1} → statement M
+pack-spec = tie.close (tie.spec mul-result add-result mul-result-2 returns returns-2)

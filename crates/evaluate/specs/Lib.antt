@@ -1,0 +1,5 @@
+pub mod Code
+pub mod Slots
+pub mod Engine
+pub mod Senses
+pub mod Look

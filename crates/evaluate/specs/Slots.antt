@@ -1,0 +1,38 @@
+-- Each word of a question has a slot, its place in reading order; a slot keeps the word's entry number.
+use Prim.Native.Nat.{ℕ, _+_, _≤_}
+use mathlib.Core.Path.{_≡_}
+use mathlib.Core.Bool.{Bool, false, cond}
+use mathlib.Core.List.{List}
+use lib.Dec.{ltb}
+use lib.ListN.{length, getD, drop}
+use Rattle.list.specs.Interval.{names}
+use Rattle.index.specs.Format.{wordCount, listOf}
+use Rattle.index.specs.Sound.{Sound}
+use Rattle.question.specs.Token.{Tok}
+use Rattle.question.specs.Grammar.{Tree, word, pair, part, Out, good, wordsOf}
+use Rattle.question.specs.Meaning.{combine}
+use Rattle.evaluate.specs.Code.{codesOf}
+
+-- whether the word of slot k stands in record x: an entry number that is no entry's names no record
+unfoldable pub slotHas : List ℕ → List ℕ → ℕ → ℕ → Bool
+slotHas index entries k x = cond (ltb (getD entries k 0) (wordCount index)) (names (listOf index (getD entries k 0)) x) false
+
+-- what slots are read by: a sound index, the entries of 16 slots, and a hint for each side of their lists
+pub record ReadBy (index entries ps qs : List ℕ) : Type 0 where
+  pub sound : Sound index
+  pub entries-long : length entries ≡ 16
+  pub ps-long : length ps ≡ 16
+  pub qs-long : length qs ≡ 16
+
+-- whether record x fits a tree whose first word has slot k, by what each slot has
+unfoldable pub slotFits : (ℕ → ℕ → Bool) → Tree → ℕ → ℕ → Bool
+slotFits v (word w) k x = v k x
+slotFits v (pair o a b) k x = combine o (slotFits v a k x) (slotFits v b (k + length (wordsOf a)) x)
+slotFits v (part t) k x = slotFits v t k x
+
+-- what an evaluation of the codes from i on, with k words before them and d brackets that may still open, must come to, where the tokens read as t:
+-- the code and the slot behind it, and in Q of t what the evaluation gives
+abbrev pub Reads : (List Tok → Out Tree) → List ℕ → ℕ → ℕ → ℕ → (Tree → Type 0) → Type 0
+Reads reading codes i i′ k′ Q =
+    (toks : List Tok) (t : Tree) (rest : List Tok) (j : ℕ) → codesOf toks ≡ codes → reading (drop i toks) ≡ good t rest j →
+    (drop i′ toks ≡ rest) × (k′ ≡ j) × (i ≤ i′) × (i′ ≤ length codes) × Q t

@@ -1,0 +1,120 @@
+// A question answered for a window, by its codes: a level evaluates its first operand into the window, and each further one into a window of
+// its own, which is then combined with it. The bracket depth left falls at each call.
+ghost use mathlib.Core.Path.{_≡_};
+ghost use lib.ListN.{length};
+ghost use Rattle.window.specs.Window.{Combined};
+ghost use Rattle.question.specs.Grammar.{fromLeft, question, operand};
+ghost use Rattle.question.specs.Meaning.{combine};
+ghost use Rattle.evaluate.specs.Code.{opOf};
+ghost use Rattle.evaluate.specs.Engine.{Ready, Evaluated};
+use crate::code::code_at;
+
+// The code behind what was evaluated, and the slot of the next word.
+pub struct Step {
+    pub code: usize,
+    pub slot: usize,
+}
+
+// Combines a window with the window of its right side, by the operator's code.
+fn combine_into(code: u8, ws: &mut [u64], other: &[u64])
+    requires { ⌜ length (now other) ≡ length (now ws) ⌝ }
+    ensures { λ _. ⌜ Combined (combine (opOf code)) (now (ws .entry)) (now (other .entry)) (now (ws .exit)) ⌝ }
+{
+    if code <= 1 {
+        window::combine::and_into(ws, other);
+        return;
+    }
+    if code == 2 {
+        window::combine::or_into(ws, other);
+        return;
+    }
+    window::combine::and_not_into(ws, other);
+}
+
+// Evaluates the level whose codes begin at i, where k words stand before it and d brackets may still open, for the records from base on.
+pub fn eval_level(
+    codes: &[u8],
+    i: usize,
+    k: usize,
+    d: usize,
+    index: &[u8],
+    entries: &[usize],
+    base: u32,
+    ps: &mut [usize],
+    qs: &mut [usize],
+    ws: &mut [u64],
+) -> Step
+    requires { ⌜ Ready (now codes) i (now index) (now entries) base (now ps) (now qs) (now ws) ⌝ }
+    ensures { λ r. ⌜ Evaluated (λ f. question fromLeft f d k) (now (codes .entry)) i k (now (index .entry)) (now (entries .entry)) base (now (ps .entry)) (now (qs .entry)) (now (ws .entry)) (now (ps .exit)) (now (qs .exit)) (now (ws .exit)) r ⌝ }
+{
+    let first = eval_operand(codes, i, k, d, index, entries, base, ps, qs, ws);
+    let mut at = first.code;
+    let mut slot = first.slot;
+    let n = ws.len();
+    loop {
+        let code = code_at(codes, at);
+        if !crate::code::is_operator(code) {
+            return Step { code: at, slot };
+        }
+        let mut other: [u64; 128] = [0; 128];
+        let next = eval_operand(
+            codes,
+            at + 1,
+            slot,
+            d,
+            index,
+            entries,
+            base,
+            ps,
+            qs,
+            &mut other[0..n],
+        );
+        combine_into(code, ws, &other[0..n]);
+        at = next.code;
+        slot = next.slot;
+    }
+}
+
+// Evaluates the operand that begins at i: a word, or a level in brackets. Where none can stand there, the answer says nothing.
+fn eval_operand(
+    codes: &[u8],
+    i: usize,
+    k: usize,
+    d: usize,
+    index: &[u8],
+    entries: &[usize],
+    base: u32,
+    ps: &mut [usize],
+    qs: &mut [usize],
+    ws: &mut [u64],
+) -> Step
+    requires { ⌜ Ready (now codes) i (now index) (now entries) base (now ps) (now qs) (now ws) ⌝ }
+    ensures { λ r. ⌜ Evaluated (λ f. operand fromLeft f d k) (now (codes .entry)) i k (now (index .entry)) (now (entries .entry)) base (now (ps .entry)) (now (qs .entry)) (now (ws .entry)) (now (ps .exit)) (now (qs .exit)) (now (ws .exit)) r ⌝ }
+{
+    let code = code_at(codes, i);
+    if code == 0 {
+        if k < entries.len() {
+            crate::fill::fill_slot(index, entries, k, base, ps, qs, ws);
+            return Step {
+                code: i + 1,
+                slot: k + 1,
+            };
+        }
+        return Step { code: i, slot: k };
+    }
+    if code != 4 {
+        return Step { code: i, slot: k };
+    }
+    if d == 0 {
+        return Step { code: i, slot: k };
+    }
+    let inside = eval_level(codes, i + 1, k, d - 1, index, entries, base, ps, qs, ws);
+    let end = inside.code;
+    if code_at(codes, end) != 5 {
+        return Step { code: i, slot: k };
+    }
+    Step {
+        code: end + 1,
+        slot: inside.slot,
+    }
+}

@@ -1,0 +1,127 @@
+// A kept list filled into a window: the singles bit by bit, the pairs stretch by stretch, each side from what does not end before the window.
+ghost use mathlib.Core.Path.{_≡_};
+ghost use Prim.Native.Nat.{_-_, _≤_, _<_};
+ghost use mathlib.Core.List.{[]};
+ghost use lib.ListN.{length};
+ghost use Rattle.list.specs.Cell.{numbersIn};
+ghost use Rattle.list.specs.Among.{among};
+ghost use Rattle.list.specs.Interval.{top, names};
+ghost use Rattle.list.specs.Kept.{walked};
+ghost use Rattle.list.specs.Reading.{KeptIn, listIn, placeOf};
+ghost use Rattle.list.specs.Seek.{Ascends, countBelow};
+ghost use Rattle.index.specs.Sound.{Sound};
+ghost use Rattle.evaluate.specs.Engine.{Added, Apart};
+ghost use Rattle.evaluate.specs.Slots.{slotHas};
+use list::PairAt;
+use list::Place;
+use list::SingleAt;
+use list::cell::number_at;
+
+// Sets the bits of the singles from place `from` on, before which all lie below base. The answer is the first single behind the window.
+fn fill_singles(singles: &[u8], from: usize, base: u32, ws: &mut [u64]) -> usize
+    requires { ⌜ Ascends (numbersIn (now singles)) × (from ≡ countBelow base (numbersIn (now singles))) × (length (now ws) ≤ 128) × (base ≤ 16777216) ⌝ }
+    ensures { λ r. ⌜ Added (among (numbersIn (now (singles .entry)))) base (now (ws .entry)) (now (ws .exit)) ⌝ }
+{
+    let end = base + 64 * ws.len() as u32;
+    let count = singles.len() / 4;
+    let mut i = from;
+    while i < count {
+        let s = number_at(singles, i);
+        if end <= s {
+            return i;
+        }
+        window::fill::set_bit(ws, s - base);
+        i += 1;
+    }
+    i
+}
+
+// How far l lies above base, and 0 where it does not.
+fn above(l: u32, base: u32) -> u32
+    ensures { λ r. ⌜ r ≡ l - base ⌝ }
+{
+    if l < base { 0 } else { l - base }
+}
+
+// Sets the bits of the pairs from place `from` on, before which all end before base. The answer is the first pair that does not end in the window.
+fn fill_pairs(lower: &[u8], upper: &[u8], from: usize, base: u32, ws: &mut [u64]) -> usize
+    requires { ⌜ Apart (numbersIn (now lower)) (numbersIn (now upper)) × (from ≡ countBelow base (numbersIn (now upper))) × (length (now ws) ≤ 128) × (base ≤ 16777216) ⌝ }
+    ensures { λ r. ⌜ Added (names (walked [] (numbersIn (now (lower .entry))) (numbersIn (now (upper .entry))))) base (now (ws .entry)) (now (ws .exit)) ⌝ }
+{
+    let size = 64 * ws.len() as u32;
+    if size == 0 {
+        return from;
+    }
+    let end = base + size;
+    let count = lower.len() / 4;
+    let mut q = from;
+    while q < count {
+        let l = number_at(lower, q);
+        if end <= l {
+            return q;
+        }
+        let u = number_at(upper, q);
+        let a = above(l, base);
+        if end <= u {
+            window::fill::fill_range(ws, a, size - 1);
+            return q;
+        }
+        window::fill::fill_range(ws, a, u - base);
+        q += 1;
+    }
+    q
+}
+
+// Sets the bits of a list's records, from the place of base on. The answer is where the next window reads on.
+fn fill_list(
+    singles: &[u8],
+    lower: &[u8],
+    upper: &[u8],
+    at: Place,
+    base: u32,
+    ws: &mut [u64],
+) -> Place
+    requires { ⌜ KeptIn top (now singles) (now lower) (now upper) × (at ≡ placeOf base (numbersIn (now singles)) (numbersIn (now upper))) × (length (now ws) ≤ 128) × (base ≤ 16777216) ⌝ }
+    ensures { λ r. ⌜ Added (names (listIn (now (singles .entry)) (now (lower .entry)) (now (upper .entry)))) base (now (ws .entry)) (now (ws .exit)) ⌝ }
+{
+    let p = at.p;
+    let q = at.q;
+    let single = fill_singles(singles, p.0, base, ws);
+    let pair = fill_pairs(lower, upper, q.0, base, ws);
+    Place {
+        p: SingleAt(single),
+        q: PairAt(pair),
+    }
+}
+
+// Sets the bits of the records that have the word of slot k. The hints of the slot say where its list was read last, and are moved on.
+pub fn fill_slot(
+    index: &[u8],
+    entries: &[usize],
+    k: usize,
+    base: u32,
+    ps: &mut [usize],
+    qs: &mut [usize],
+    ws: &mut [u64],
+)
+    requires { ⌜ Sound (now index) × (k < length (now entries)) × (k < length (now ps)) × (k < length (now qs)) × (length (now ws) ≤ 128) × (base ≤ 16777216) ⌝ }
+    ensures hints { λ _. ⌜ (length (now (ps .exit)) ≡ length (now (ps .entry))) × (length (now (qs .exit)) ≡ length (now (qs .entry))) ⌝ }
+    ensures adds { λ _. ⌜ Added (slotHas (now (index .entry)) (now (entries .entry)) k) base (now (ws .entry)) (now (ws .exit)) ⌝ }
+{
+    let entry = entries[k];
+    if entry < index::find::word_count(index) {
+        let singles = index::parts::singles_of(index, entry);
+        let lower = index::parts::lower_of(index, entry);
+        let upper = index::parts::upper_of(index, entry);
+        let hint = Place {
+            p: SingleAt(ps[k]),
+            q: PairAt(qs[k]),
+        };
+        let at = list::reading::place_of(singles, upper, hint, base);
+        let next = fill_list(singles, lower, upper, at, base, ws);
+        let p = next.p;
+        let q = next.q;
+        ps[k] = p.0;
+        qs[k] = q.0;
+    }
+}

@@ -1,0 +1,104 @@
+// Whether a record fits a question, by its codes and the senses of its slots there, and until which number that stays so.
+ghost use mathlib.Core.Path.{_≡_};
+ghost use Prim.Native.Nat.{_≤_};
+ghost use lib.ListN.{length};
+ghost use Rattle.question.specs.Grammar.{fromLeft, question, operand};
+ghost use Rattle.evaluate.specs.Look.{Looks};
+use crate::code::code_at;
+use crate::code::is_operator;
+use crate::sense_pair::pair_senses;
+use crate::senses::sense_of;
+use list::sense::Sense;
+
+// The code and the slot behind what was looked at, and its sense.
+pub struct Look {
+    pub code: usize,
+    pub slot: usize,
+    pub inside: bool,
+    pub until: u32,
+}
+
+// What was read is no operand or no level, which no accepted question comes to.
+fn unread(code: usize) -> Look
+    ensures { λ r. ⌜ r .code ≡ code ⌝ }
+{
+    Look {
+        code,
+        slot: 0,
+        inside: false,
+        until: 0,
+    }
+}
+
+// The operands of a level, from the left.
+pub fn look_level(codes: &[u8], i: usize, k: usize, d: usize, senses: &[u32]) -> Look
+    requires { ⌜ (i ≤ length (now codes)) × (length (now senses) ≡ 16) ⌝ }
+    ensures { λ r. ⌜ Looks (λ f. question fromLeft f d k) (now (codes .entry)) i k (now (senses .entry)) r ⌝ }
+{
+    let first = look_operand(codes, i, k, d, senses);
+    let mut at = first.code;
+    let mut slot = first.slot;
+    let mut inside = first.inside;
+    let mut until = first.until;
+    loop {
+        let operator = code_at(codes, at);
+        if !is_operator(operator) {
+            return Look {
+                code: at,
+                slot,
+                inside,
+                until,
+            };
+        }
+        let next = look_operand(codes, at + 1, slot, d, senses);
+        let sense = pair_senses(
+            operator,
+            Sense { inside, until },
+            Sense {
+                inside: next.inside,
+                until: next.until,
+            },
+        );
+        inside = sense.inside;
+        until = sense.until;
+        slot = next.slot;
+        at = next.code;
+    }
+}
+
+// A word, or a level in brackets, of which d may still open.
+fn look_operand(codes: &[u8], i: usize, k: usize, d: usize, senses: &[u32]) -> Look
+    requires { ⌜ (i ≤ length (now codes)) × (length (now senses) ≡ 16) ⌝ }
+    ensures { λ r. ⌜ Looks (λ f. operand fromLeft f d k) (now (codes .entry)) i k (now (senses .entry)) r ⌝ }
+{
+    let code = code_at(codes, i);
+    if code == 0 {
+        if k < 16 {
+            let sense = sense_of(senses, k);
+            return Look {
+                code: i + 1,
+                slot: k + 1,
+                inside: sense.inside,
+                until: sense.until,
+            };
+        }
+        return unread(i);
+    }
+    if code == 4 {
+        if d == 0 {
+            return unread(i);
+        }
+        let part = look_level(codes, i + 1, k, d - 1, senses);
+        let close = part.code;
+        if code_at(codes, close) == 5 {
+            return Look {
+                code: close + 1,
+                slot: part.slot,
+                inside: part.inside,
+                until: part.until,
+            };
+        }
+        return unread(close);
+    }
+    unread(i)
+}

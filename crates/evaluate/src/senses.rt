@@ -1,0 +1,125 @@
+// What each slot's word says from a record on, and until where, kept from look to look: most senses outlast many steps.
+ghost use mathlib.Core.Path.{_≡_};
+ghost use Prim.Native.Nat.{_+_, _/_, _≤_, _<_};
+ghost use lib.ListN.{length};
+ghost use Rattle.list.specs.Interval.{top};
+ghost use Rattle.list.specs.Sense.{Steady};
+ghost use Rattle.index.specs.Sound.{Sound};
+ghost use Rattle.evaluate.specs.Slots.{slotHas, ReadBy};
+ghost use Rattle.evaluate.specs.Senses.{untilOf, insideOf, inIt, Sensed, Known, Renewed};
+use index::find::word_count;
+use index::parts::lower_of;
+use index::parts::singles_of;
+use index::parts::upper_of;
+use list::END;
+use list::PairAt;
+use list::Place;
+use list::SingleAt;
+use list::reading::place_of;
+use list::sense::Sense;
+use list::sense::sense_at;
+
+// What the word of slot k says of record x; ps and qs keep where its list is read on.
+fn look_slot(
+    index: &[u8],
+    entries: &[usize],
+    k: usize,
+    x: u32,
+    ps: &mut [usize],
+    qs: &mut [usize],
+) -> Sense
+    requires { ⌜ Sound (now index) × (k < length (now entries)) × (k < length (now ps)) × (k < length (now qs)) × (x ≤ 16777215) ⌝ }
+    ensures hints { λ r. ⌜ (length (now (ps .exit)) ≡ length (now (ps .entry))) × (length (now (qs .exit)) ≡ length (now (qs .entry))) ⌝ }
+    ensures steady { λ r. ⌜ Steady (slotHas (now (index .entry)) (now (entries .entry)) k) x (r .inside) (r .until) ⌝ }
+{
+    let entry = entries[k];
+    if word_count(index) <= entry {
+        return Sense {
+            inside: false,
+            until: END,
+        };
+    }
+    let singles = singles_of(index, entry);
+    let lower = lower_of(index, entry);
+    let upper = upper_of(index, entry);
+    let hint = Place {
+        p: SingleAt(ps[k]),
+        q: PairAt(qs[k]),
+    };
+    let at = place_of(singles, upper, hint, x);
+    let p = at.p;
+    let q = at.q;
+    ps[k] = p.0;
+    qs[k] = q.0;
+    sense_at(singles, lower, upper, at, x)
+}
+
+// A sense as one number.
+fn pack(sense: Sense) -> u32
+    requires { ⌜ sense .until ≤ top + 1 ⌝ }
+    ensures { λ r. ⌜ (r / 2 ≡ sense .until) × (inIt r ≡ sense .inside) ⌝ }
+{
+    if sense.inside {
+        2 * sense.until + 1
+    } else {
+        2 * sense.until
+    }
+}
+
+// The kept sense of slot k.
+pub fn sense_of(senses: &[u32], k: usize) -> Sense
+    requires { ⌜ k < length (now senses) ⌝ }
+    ensures { λ r. ⌜ (r .until ≡ untilOf (now (senses .entry)) k) × (r .inside ≡ insideOf (now (senses .entry)) k) ⌝ }
+{
+    let sense = senses[k];
+    Sense {
+        inside: sense % 2 == 1,
+        until: sense / 2,
+    }
+}
+
+// Renews the sense of slot k, if it ends at x or before.
+fn renew_sense(
+    index: &[u8],
+    entries: &[usize],
+    k: usize,
+    x: u32,
+    ps: &mut [usize],
+    qs: &mut [usize],
+    senses: &mut [u32],
+)
+    requires lends { ⌜ ReadBy (now index) (now entries) (now ps) (now qs) × (length (now senses) ≡ 16) ⌝ }
+    requires within { ⌜ (k < 16) × (x ≤ 16777215) ⌝ }
+    requires sensed { ⌜ Sensed (slotHas (now index) (now entries)) (now senses) x ⌝ }
+    ensures hints { λ _. ⌜ (length (now (ps .exit)) ≡ length (now (ps .entry))) × (length (now (qs .exit)) ≡ length (now (qs .entry))) ⌝ }
+    ensures renews { λ _. ⌜ Renewed (slotHas (now (index .entry)) (now (entries .entry))) x k (now (senses .entry)) (now (senses .exit)) ⌝ }
+{
+    if x < senses[k] / 2 {
+        return;
+    }
+    senses[k] = pack(look_slot(index, entries, k, x, ps, qs));
+}
+
+// Renews the senses of the first `slots` slots, so that each of them is known at x.
+pub fn renew_senses(
+    index: &[u8],
+    entries: &[usize],
+    slots: usize,
+    x: u32,
+    ps: &mut [usize],
+    qs: &mut [usize],
+    senses: &mut [u32],
+)
+    requires lends { ⌜ ReadBy (now index) (now entries) (now ps) (now qs) × (length (now senses) ≡ 16) ⌝ }
+    requires within { ⌜ (slots ≤ 16) × (x ≤ 16777215) ⌝ }
+    requires sensed { ⌜ Sensed (slotHas (now index) (now entries)) (now senses) x ⌝ }
+    ensures hints { λ _. ⌜ (length (now (ps .exit)) ≡ length (now (ps .entry))) × (length (now (qs .exit)) ≡ length (now (qs .entry))) × (length (now (senses .exit)) ≡ length (now (senses .entry))) ⌝ }
+    ensures sensed { λ _. ⌜ Sensed (slotHas (now (index .entry)) (now (entries .entry))) (now (senses .exit)) x ⌝ }
+    ensures known { λ _. ⌜ Known (slotHas (now (index .entry)) (now (entries .entry))) (now (senses .exit)) slots x ⌝ }
+{
+    let mut k = 0;
+    while k < slots {
+        renew_sense(index, entries, k, x, ps, qs, senses);
+        k += 1;
+    }
+}
