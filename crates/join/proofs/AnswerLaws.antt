@@ -14,19 +14,20 @@ use Rattle.list.specs.declared.answer.Answer.the-variants as answer
 use Rattle.list.specs.Interval.{intervals}
 use Rattle.list.specs.Answer.{listAnswer, listCells}
 use Rattle.list.specs.Ginix.{unionOf, intersectionOf}
+use Rattle.list.specs.Interval.{top}
 use Rattle.list.proofs.StretchLaws.{proper-length}
 use Rattle.list.proofs.JoinLaws.{union-proper, intersection-proper}
-use Rattle.list.specs.Interval.{top}
 use Rattle.index.specs.Format.{listOf}
 use Rattle.index.specs.declared.Checked.the-variants.{Good, Refused}
+use Rattle.merge.specs.Asked.{Asked, listsOf}
+use Rattle.merge.specs.Sweep.{Sweeps}
+use Rattle.merge.proofs.ListsLaws.{asked-proper}
 use Rattle.join.specs.declared.Method.{Method}
 use Rattle.join.specs.declared.Method.the-variants.{ScanLine, ActiveInterval, TwinHeap, Probing}
-use Rattle.join.specs.Join.{requestOf, listsOf, Joins}
-use Rattle.join.specs.Asked.{Asked, intervalSum}
+use Rattle.join.specs.Join.{requestOf, Joins}
+use Rattle.join.specs.Bound.{intervalSum}
 use Rattle.join.specs.Method.{joinOf}
-use Rattle.join.specs.Sweep.{Sweeps}
 use Rattle.join.proofs.JoinBound.{union-bound, intersection-bound}
-use Rattle.join.proofs.ListsLaws.{asked-proper}
 
 -- ---- every method
 

@@ -1,15 +1,19 @@
--- A union or an intersection has no more intervals than its lists together.
+-- A union or an intersection has no more intervals than its lists together, and how many those are.
 use mathlib.Core.Path.{_≡_, refl}
-use Prim.Native.Nat.{ℕ, _+_, _≤_}
+use Prim.Native.Nat.{ℕ, _+_, _≤_, _<_}
 use mathlib.Core.Bool.{Bool, true, false}
 use mathlib.Core.List.{List, [], _∷_}
+use lib.ListN.{length, getD, drop}
 use Rattle.list.specs.Interval.{top, isProper, names, intervals}
 use Rattle.list.specs.Ginix.{inSome, unionOf, inEvery, intersectionOf}
 use Rattle.list.proofs.NamesLaws.{proper-names-zero}
 use Rattle.list.proofs.StretchLaws.{proper-cells}
 use Rattle.list.proofs.JoinLaws.{AllProper}
 use Rattle.list.proofs.BoundLaws.{Still, AllOut, together, cells-bound}
-use Rattle.join.specs.Asked.{intervalSum}
+use Rattle.index.specs.Format.{listOf}
+use Rattle.merge.specs.Asked.{listsOf}
+use Rattle.merge.proofs.ListsLaws.{lists-next, lists-end}
+use Rattle.join.specs.Bound.{intervalSum}
 
 -- the numbers that each list names, as tests
 unfoldable testsOf : List (List ℕ) → List (ℕ → Bool)
@@ -56,3 +60,14 @@ unfolding intersectionOf
 intersection-bound c cs p =
     rw (← tests-together (c ∷ cs) p)
     (cells-bound (inEvery (c ∷ cs)) (testsOf (c ∷ cs)) top (every-zero c cs (p .0)) (all-out (c ∷ cs) p) (λ x h s. every-still (c ∷ cs) x s))
+
+-- ---- summed list by list
+
+pub sum-next : (index entries : List ℕ) (j : ℕ) → j < length entries →
+    intervalSum (listsOf index (drop j entries)) ≡ intervals (listOf index (getD entries j 0)) + intervalSum (listsOf index (drop (j + 1) entries))
+unfolding intervalSum
+sum-next index entries j h = rw (lists-next index entries j h)
+
+pub sum-end : (index entries : List ℕ) (j : ℕ) → length entries ≤ j → intervalSum (listsOf index (drop j entries)) ≡ 0
+unfolding intervalSum
+sum-end index entries j h = rw (lists-end index entries j h)

@@ -19,8 +19,8 @@ use Rattle.index.specs.declared.Checked.the-variants.{Good, Refused}
 use Rattle.index.specs.Format.{wordCount}
 use Rattle.index.specs.Check.{checkOf}
 use Rattle.index.proofs.CheckLaws.{not-good, cond-good, good-sound}
+use Rattle.merge.specs.Asked.{Asked}
 use Rattle.join.specs.Join.{badListCount, badEntryNumber, entriesAfter, entriesOf, requestAfter, requestOf}
-use Rattle.join.specs.Asked.{Asked}
 
 -- ---- rule by rule
 

@@ -2,7 +2,7 @@
 use Prim.Native.Nat.{ℕ, _/_}
 use mathlib.Core.Path.{_≡_}
 use mathlib.Core.Bool.{Bool, cond, _||_}
-use mathlib.Core.List.{List, [], _∷_}
+use mathlib.Core.List.{List}
 use lib.Dec.{eqb, leb, ltb}
 use lib.ListN.{length, getD}
 use Rattle.refusal.specs.declared.Found.{Found}
@@ -14,8 +14,9 @@ use Rattle.list.specs.declared.answer.Answer.the-variants as answer
 use Rattle.list.specs.Answer.{listAnswer, listCells}
 use Rattle.index.specs.declared.Checked.{Checked}
 use Rattle.index.specs.declared.Checked.the-variants.{Good, Refused}
-use Rattle.index.specs.Format.{wordCount, listOf}
+use Rattle.index.specs.Format.{wordCount}
 use Rattle.index.specs.Check.{checkOf}
+use Rattle.merge.specs.Asked.{listsOf}
 
 -- 13: "lists to join: none, or over 16"
 unfoldable pub badListCount : List ℕ → Bool
@@ -41,11 +42,6 @@ requestAfter Good next = next
 -- whether the request may be answered: 1 to 5, 13, 14
 unfoldable pub requestOf : List ℕ → List ℕ → Checked
 requestOf index entries = requestAfter (checkOf index) (entriesOf index entries)
-
--- the lists of the entries asked for
-unfoldable pub listsOf : List ℕ → List ℕ → List (List ℕ)
-listsOf index [] = []
-listsOf index (e ∷ es) = listOf index e ∷ listsOf index es
 
 abbrev pub joinAnswer : Checked → List ℕ → ℕ → Answer
 joinAnswer (Refused r) c room = answer.Refused r

@@ -1,12 +1,3 @@
 pub mod Join
-pub mod Asked
-pub mod Places
-pub mod Heap
-pub mod Twin
-pub mod Keys
-pub mod Put
-pub mod Active
-pub mod Probing
-pub mod Sweep
+pub mod Bound
 pub mod Method
-pub mod Scan

@@ -5,21 +5,21 @@ ghost use Prim.Native.Nat.{_/_, _≤_};
 ghost use lib.ListN.{length};
 ghost use Rattle.list.specs.Answer.{listAnswer, listCells};
 ghost use Rattle.list.specs.Ginix.{unionOf, intersectionOf};
-ghost use Rattle.join.specs.Asked.{Asked};
-ghost use Rattle.join.specs.Join.{listsOf, Joins};
+ghost use Rattle.merge.specs.Asked.{Asked, listsOf};
+ghost use Rattle.merge.specs.Sweep.{Sweeps};
+ghost use Rattle.join.specs.Join.{Joins};
 ghost use Rattle.join.specs.Method.{joinOf};
-ghost use Rattle.join.specs.Sweep.{Sweeps};
 use crate::Method;
-use crate::active::sweep_active;
-use crate::probing::sweep_probing;
 use crate::request::check_request;
 use crate::request::interval_sum;
-use crate::scan::sweep_scan;
-use crate::twin::sweep_twin;
 use index::Checked;
+use intersection::probing::sweep_probing;
+use intersection::twin::sweep_twin;
 use list::answer::Answer;
 use list::answer::Tally;
 use refusal::Refusal;
+use union::active::sweep_active;
+use union::scan::sweep_scan;
 
 // Counts, and writes where asked, the join of a request by a method.
 fn sweep(index: &[u8], entries: &[u32], writing: bool, out: &mut [u32], method: Method) -> Tally

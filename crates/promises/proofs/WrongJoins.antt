@@ -16,13 +16,13 @@ use Rattle.list.specs.declared.answer.Answer.{Answer}
 use Rattle.list.specs.declared.answer.Answer.the-variants.{Refused}
 use Rattle.index.specs.declared.Checked.the-variants.{Good}
 use Rattle.index.specs.Format.{entryAt, listStart, singleCount, pairCount, singlesOf, lowerOf, upperOf, listOf}
+use Rattle.merge.specs.Asked.{listsOf}
 use Rattle.join.specs.Join.{
   badListCount,
   badEntryNumber,
   entriesOf,
   requestAfter,
   requestOf,
-  listsOf,
   joinAnswer,
   joinCells,
 }

@@ -5,9 +5,9 @@ use native.Mathlib.Omega.{arith}
 use denote.Ref.{now}
 use lib.ListN.{length, drop}
 use borrow.Author.Needs.{needs}
-use Rattle.join.specs.Join.{listsOf}
-use Rattle.join.specs.Asked.{intervalSum}
-use Rattle.join.proofs.ListsLaws.{sum-next, sum-end}
+use Rattle.merge.specs.Asked.{listsOf}
+use Rattle.join.specs.Bound.{intervalSum}
+use Rattle.join.proofs.JoinBound.{sum-next, sum-end}
 use Rattle.join.proofs.request.interval_sum.Statement.{statement}
 use Rattle.join.proofs.request.interval_sum.Tie as tie
 

@@ -1,0 +1,147 @@
+-- The walk of the shortest list, and the sweep that puts what of each of its intervals stands in every list.
+use mathlib.Core.Path.{_≡_, refl}
+use Prim.Native.Nat.{ℕ, _+_, _*_, _≤_, _<_}
+use native.Mathlib.Omega.{arith}
+use mathlib.Core.Bool.{Bool, true, false}
+use mathlib.Core.List.{List}
+use lib.ListN.{length, getD}
+use Rattle.list.specs.declared.Place.{Place}
+use Rattle.list.specs.declared.answer.Tally.{Tally}
+use Rattle.list.specs.Interval.{top, names, intervals, records}
+use Rattle.list.specs.Stretches.{cellsOf}
+use Rattle.list.specs.Ginix.{intersectionOf}
+use Rattle.list.specs.Kept.{start, nextPlace, lowerAt, upperAt}
+use Rattle.list.specs.Reading.{Goes}
+use Rattle.list.proofs.LeftLaws.{ReadTo, read-start, read-goes, read-end, read-bounds, read-before, read-inside, read-behind, read-next}
+use Rattle.list.proofs.ReadingLaws.{next-fits}
+use Rattle.list.proofs.SweepLaws.{Swept, swept-start, swept-skip, swept-count, swept-records, swept-written}
+use Rattle.index.specs.Format.{highest, listOf}
+use Rattle.index.proofs.SoundLaws.{sound-trailer}
+use Rattle.merge.specs.Asked.{Asked, listsOf}
+use Rattle.merge.specs.Places.{singlesIn, lowerIn, upperIn}
+use Rattle.merge.specs.Sweep.{Sweeps}
+use Rattle.merge.proofs.ListsLaws.{entry-kept}
+use Rattle.intersection.specs.Probing.{between, Fits, Puts, inAll, Within}
+use Rattle.intersection.proofs.BetweenLaws.{between-even, swept-between, between-room, between-cells-few, between-records-few}
+use Rattle.intersection.proofs.ProbingLaws.{every-out}
+
+-- list e is read up to a place, after i intervals; the numbers below x are swept
+pub record Going (index entries : List ℕ) (e : ℕ) (writing : Bool) (out₀ out : List ℕ) (t : Tally) (at : Place) (i : ℕ) : Type 0 where
+  pub x : ℕ
+  pub k : ℕ
+  pub near : (x ≤ k) × (k ≤ x + 1)
+  pub passed : i ≡ at .p .0 + at .q .0
+  pub read : ReadTo (highest index) (singlesIn index e) (lowerIn index e) (upperIn index e) at k
+  pub swept : Swept (inAll index entries) top writing out₀ out false x (2 * t .intervals) (t .records)
+
+module _ (index entries : List ℕ) (asked : Asked index entries) (j : ℕ) (h : j < length entries) where
+  list-top : highest index ≤ top
+  list-top = sound-trailer index (asked .sound) .highest-bound
+
+  -- what the list does not name is not in every list
+  out-all : (z : ℕ) → names (listOf index (getD entries j 0)) z ≡ false → inAll index entries z ≡ false
+  out-all z e = every-out index entries j z h e
+
+  pub going-start : (writing : Bool) (out : List ℕ) (t : Tally) → t .intervals ≡ 0 → t .records ≡ 0 →
+      Going index entries (getD entries j 0) writing out out t start 0
+  going-start w out t e f =
+      let z : 2 * t .intervals ≡ 0 = omega arith in
+      record {
+        x = 1;
+        k = 1;
+        near = (omega arith, omega arith);
+        passed = refl;
+        read = read-start (highest index) (singlesIn index (getD entries j 0)) (lowerIn index (getD entries j 0)) (upperIn index (getD entries j 0)) (entry-kept index (asked .sound) (getD entries j 0) (asked .below j h));
+        swept = rw (z, f) (swept-start (inAll index entries) top w out);
+      }
+
+  module _ (writing : Bool) (out₀ out : List ℕ) (t : Tally) (at : Place) (i : ℕ) (g : Going index entries (getD entries j 0) writing out₀ out t at i) where
+    abbrev S : List ℕ
+    S = singlesIn index (getD entries j 0)
+
+    abbrev L : List ℕ
+    L = lowerIn index (getD entries j 0)
+
+    abbrev U : List ℕ
+    U = upperIn index (getD entries j 0)
+
+    pub going-goes : i < length S + length L → Goes S L at
+    going-goes m = read-goes (highest index) S L U at (g .k) (g .read) (let p = g .passed in omega arith)
+
+    -- every interval is passed
+    pub going-end : length S + length L ≤ i → (writing ≡ true → length (intersectionOf (listsOf index entries)) ≤ length out₀) →
+        Sweeps (intersectionOf (listsOf index entries)) writing out₀ out t
+    unfolding intersectionOf listOf
+    going-end m r =
+        let n = g .near in
+        let p = g .passed in
+        let none : (z : ℕ) → g .x ≤ z → z < top + 1 → inAll index entries z ≡ false = λ z f d. out-all z (read-end (highest index) S L U at (g .k) (g .read) (omega arith) z (omega arith)) in
+        let s = swept-skip (inAll index entries) top writing out₀ out (g .x) (2 * t .intervals) (t .records) (g .swept) (top + 1) (g .swept .near .1) (omega arith) none in
+        let c = swept-count (inAll index entries) top writing out₀ out (2 * t .intervals) (t .records) s in
+        let v : t .intervals ≡ intervals (cellsOf (inAll index entries) top) = omega arith in
+        let w : t .records ≡ records (cellsOf (inAll index entries) top) = swept-records (inAll index entries) top writing out₀ out (2 * t .intervals) (t .records) s in
+        record {
+          tally = rw (← v, ← w);
+          cells = swept-written (inAll index entries) top writing out₀ out (2 * t .intervals) (t .records) s r;
+        }
+
+    -- an interval is left
+    module _ (o : Goes S L at) where
+      abbrev l : ℕ
+      l = lowerAt S L at
+
+      abbrev u : ℕ
+      u = upperAt S L U at
+
+      bounds : (g .k ≤ l) × (l ≤ u) × (u ≤ highest index)
+      bounds = read-bounds (highest index) S L U at (g .k) (g .read) o
+
+      up : u ≤ top
+      up = let b = bounds in let t = list-top in omega arith
+
+      pub going-within : Within index entries j l u
+      unfolding listOf
+      going-within = record { asked = asked; list = h; high = up; covers = read-inside (highest index) S L U at (g .k) (g .read) o }
+
+      pub going-ordered : l ≤ u
+      going-ordered = bounds .1
+
+      reach : g .x ≤ l
+      reach = let b = bounds in let n = g .near in omega arith
+
+      low : (z : ℕ) → g .x ≤ z → z < l → inAll index entries z ≡ false
+      unfolding listOf
+      low z f d = out-all z (read-before (highest index) S L U at (g .k) (g .read) o z (let n = g .near in omega arith) d)
+
+      stop : u < top → inAll index entries (u + 1) ≡ false
+      unfolding listOf
+      stop f = out-all (u + 1) (read-behind (highest index) S L U at (g .k) (g .read) o)
+
+      pub going-fits : (writing ≡ true → length (intersectionOf (listsOf index entries)) ≤ length out₀) → Fits writing out t (between (inAll index entries) l u)
+      unfolding intersectionOf
+      going-fits r =
+          let e = between-even (inAll index entries) l u in
+          record {
+            room = λ w. between-room (inAll index entries) top writing out₀ out (g .x) (2 * t .intervals) (t .records) (g .swept) l u reach (bounds .1) up low stop w (r w);
+            intervals-small =
+                let f = between-cells-few (inAll index entries) top writing out₀ out (g .x) (2 * t .intervals) (t .records) (g .swept) l u reach (bounds .1) up low stop in
+                omega arith;
+            records-small = between-records-few (inAll index entries) top writing out₀ out (g .x) (2 * t .intervals) (t .records) (g .swept) l u reach (bounds .1) up low stop;
+          }
+
+      pub going-next : (out′ : List ℕ) (t′ : Tally) → Puts writing out out′ t (between (inAll index entries) l u) t′ →
+          Going index entries (getD entries j 0) writing out₀ out′ t′ (nextPlace S L at) (i + 1)
+      going-next out′ t′ q =
+          let e = between-even (inAll index entries) l u in
+          let f = next-fits S L at o in
+          let p = g .passed in
+          let d = q .intervals-more in
+          let a : 2 * t′ .intervals ≡ 2 * t .intervals + length (between (inAll index entries) l u) = omega arith in
+          record {
+            x = u + 1;
+            k = u + 2;
+            near = (omega arith, omega arith);
+            passed = omega arith;
+            read = read-next (highest index) S L U at (g .k) (g .read) o;
+            swept = rw (a, q .records-more, q .cells) (swept-between (inAll index entries) top writing out₀ out (g .x) (2 * t .intervals) (t .records) (g .swept) l u reach (bounds .1) up low stop);
+          }

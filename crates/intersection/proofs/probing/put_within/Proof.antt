@@ -1,0 +1,92 @@
+-- What is pending is put piece by piece.
+use Prim.Native.Nat.{_+_, _-_}
+use mathlib.Core.Path.{_∙_}
+use native.Mathlib.Omega.{arith}
+use denote.Ref.{now}
+use borrow.Author.Needs.{needs}
+use Rattle.intersection.specs.Probing.{inAll}
+use Rattle.intersection.proofs.ProbingLaws.{within-later, Cut, cut-start, cut-fits, cut-next, cut-end-fits, cut-end, puts-long}
+use Rattle.intersection.proofs.probing.put_within.Statement.{statement}
+use Rattle.intersection.proofs.probing.put_within.Tie as tie
+
+abbrev Inv-loop : tie.InvT-loop
+Inv-loop index entries j writing out₀ b x₀ tally₀ piece₀ out x tally piece =
+    Cut (inAll index entries) x₀ b writing out₀ tally₀ out tally (piece .«open») (piece .lower) x
+
+abbrev μ-loop : tie.MeasureT-loop
+μ-loop index entries j writing out₀ b x₀ tally₀ piece₀ out x tally piece = b + 1 - x
+
+loop-holds : tie.Need-loop-holds Inv-loop μ-loop
+loop-holds c =
+    let start = c .before .before .before in
+    let a = start .args in
+    cut-start (inAll (now (a .index)) (now (a .entries))) (a .within .lower) (a .within .upper) (a .writing) (now (a .out)) (a .before) (a .within .lower) (start .pre .1)
+
+probe-requires : tie.Need-probe-requires Inv-loop μ-loop
+probe-requires c κs =
+    let start = c .before .before .before .before .before in
+    let a = start .args in
+    (within-later (now (a .index)) (now (a .entries)) (a .j) (a .within .lower) (a .within .upper) (c .before .loop .x) (c .before .loop .inv .near .0) (start .pre .0), c .loop-test .taken)
+
+close-piece-requires : tie.Need-close-piece-requires Inv-loop μ-loop
+close-piece-requires c κs =
+    let at = c .before .before .before .loop in
+    let start = c .before .before .before .before .before .before .before in
+    let a = start .args in
+    let s = c .before .probe in
+    (at .inv .begun, cut-fits (inAll (now (a .index)) (now (a .entries))) (a .within .lower) (a .within .upper) (a .writing) (now (a .out)) (a .before) (at .out) (at .tally) (at .piece .«open») (at .piece .lower) (at .x) (at .inv) (s .result .inside) (s .result .until) (s .ensures .0) (s .ensures .1) (start .pre .2))
+
+next-piece-requires : tie.Need-next-piece-requires Inv-loop μ-loop
+next-piece-requires c κs = search needs
+
+loop-less : tie.Need-loop-less Inv-loop μ-loop
+loop-less c =
+    let s = c .before .before .before .before .before .probe .ensures .0 .later in
+    let t = c .before .before .before .before .before .before .loop-test .taken in
+    omega arith
+
+loop-again : tie.Need-loop-again Inv-loop μ-loop
+loop-again c =
+    let s = c .before .before .before .before .before .probe in
+    let at = c .before .before .before .before .before .before .before .loop in
+    let start = c .before .before .before .before .before .before .before .before .before .before .before in
+    let a = start .args in
+    rw (c .next-piece .ensures .0, c .next-piece .ensures .1)
+    (cut-next (inAll (now (a .index)) (now (a .entries))) (a .within .lower) (a .within .upper) (a .writing) (now (a .out)) (a .before) (at .out) (at .tally) (at .piece .«open») (at .piece .lower) (at .x) (at .inv) (s .result .inside) (s .result .until) _ (c .before .before .before .close-piece .result) (s .ensures .0) (s .ensures .1) (c .before .before .before .close-piece .ensures))
+
+close-piece-requires-2 : tie.Need-close-piece-requires-2 Inv-loop μ-loop
+close-piece-requires-2 c κs =
+    let at = c .before .before .loop in
+    let start = c .before .before .before .before .before .before in
+    let a = start .args in
+    (at .inv .begun, cut-end-fits (inAll (now (a .index)) (now (a .entries))) (a .within .lower) (a .within .upper) (a .writing) (now (a .out)) (a .before) (at .out) (at .tally) (at .piece .«open») (at .piece .lower) (at .x) (at .inv) (c .before .loop-test .left) (start .pre .2))
+
+same-length : tie.Need-same-length Inv-loop μ-loop
+same-length c =
+    let put = c .before .before in
+    let at = put .before .before .before .loop in
+    puts-long _ _ _ _ _ _ (put .close-piece2 .ensures) ∙ at .inv .long
+
+returns : tie.Need-returns Inv-loop μ-loop
+returns c =
+    let put = c .before .before in
+    let at = put .before .before .before .loop in
+    let start = put .before .before .before .before .before .before .before in
+    let a = start .args in
+    cut-end (inAll (now (a .index)) (now (a .entries))) (a .within .lower) (a .within .upper) (a .writing) (now (a .out)) (a .before) (at .out) (at .tally) (at .piece .«open») (at .piece .lower) (at .x) (at .inv) _ (put .close-piece2 .result) (put .before .before .loop-test .left) (put .close-piece2 .ensures)
+
+pub put-within-spec : {M : Type 1} → statement M
+put-within-spec =
+    tie.close
+    (tie.spec
+    Inv-loop
+    μ-loop
+    loop-holds
+    probe-requires
+    close-piece-requires
+    next-piece-requires
+    loop-less
+    loop-again
+    close-piece-requires-2
+    same-length
+    returns)

@@ -1,0 +1,89 @@
+-- Of the lists below j, none has fewer intervals than the best.
+use Prim.Native.Nat.{_-_}
+use mathlib.Core.Logic.{⊎-elim}
+use native.Mathlib.Omega.{arith}
+use denote.Ref.{now}
+use lib.ListN.{length}
+use borrow.Author.Needs.{needs}
+use Rattle.intersection.proofs.ProbingLaws.{Best, best-start, best-same, best-other}
+use Rattle.intersection.proofs.probing.shortest.Statement.{statement}
+use Rattle.intersection.proofs.probing.shortest.Tie as tie
+
+abbrev Inv-loop : tie.InvT-loop
+Inv-loop index entries best₀ fewest₀ j₀ best fewest j = Best index entries best fewest j
+
+abbrev μ-loop : tie.MeasureT-loop
+μ-loop index entries best₀ fewest₀ j₀ best fewest j = length entries - j
+
+shared-slice-read-interval-count : tie.Need-shared-slice-read-interval-count Inv-loop μ-loop
+shared-slice-read-interval-count c = let s = c .before .before .before .pre .some in omega arith
+
+cast-interval-count : tie.Need-cast-interval-count Inv-loop μ-loop
+cast-interval-count c = omega (arith, c .shared-slice-known3 .given 0)
+
+interval-count-requires : tie.Need-interval-count-requires Inv-loop μ-loop
+interval-count-requires c κs = let a = c .before .before .before .pre in (a .sound, a .below 0 (a .some))
+
+loop-holds : tie.Need-loop-holds Inv-loop μ-loop
+loop-holds c =
+    let start = c .before .before .before .before in
+    best-start (now (start .args .index)) (now (start .args .entries)) (c .interval-count .result) (start .pre .some) (c .interval-count .ensures .0)
+
+mul-interval-count : tie.Need-mul-interval-count Inv-loop μ-loop
+mul-interval-count c = search needs
+
+shared-slice-read-interval-count-2 : tie.Need-shared-slice-read-interval-count-2 Inv-loop μ-loop
+shared-slice-read-interval-count-2 c = search needs
+
+cast-interval-count-2 : tie.Need-cast-interval-count-2 Inv-loop μ-loop
+cast-interval-count-2 c = omega (arith, c .shared-slice-known4 .given (c .before .before .loop .j))
+
+interval-count-requires-2 : tie.Need-interval-count-requires-2 Inv-loop μ-loop
+interval-count-requires-2 c κs =
+    let a = c .before .before .before .before .before .before .before .pre in
+    (a .sound, a .below (c .before .before .loop .j) (c .before .loop-test .taken))
+
+add-j : tie.Need-add-j Inv-loop μ-loop
+add-j c = search needs
+
+loop-less : tie.Need-loop-less Inv-loop μ-loop
+loop-less c = search needs
+
+loop-again : tie.Need-loop-again Inv-loop μ-loop
+loop-again c =
+    let count = c .before in
+    let at = count .before .before .before .loop in
+    let start = count .before .before .before .before .before .before .before .before in
+    let index = now (start .args .index) in
+    let entries = now (start .args .entries) in
+    let h = count .before .before .loop-test .taken in
+    let e = count .interval-count2 .ensures .0 in
+    ⊎-elim
+    (λ w. rw (w .1, w .2) (best-other index entries (at .best) (at .fewest) (at .j) (count .interval-count2 .result) (at .inv) h e (w .0 .taken)))
+    (λ w. rw (w .1, w .2) (best-same index entries (at .best) (at .fewest) (at .j) (count .interval-count2 .result) (at .inv) h e (w .0 .left)))
+    (c .if1 .came)
+
+returns : tie.Need-returns Inv-loop μ-loop
+returns c =
+    let b = c .before .loop .inv in
+    let h = c .loop-test .left in
+    record { inside = b .inside; least = λ j g. let l = b .least j (omega arith) in omega (arith, b .counts) }
+
+pub shortest-spec : {M : Type 1} → statement M
+shortest-spec =
+    tie.close
+    (tie.spec
+    Inv-loop
+    μ-loop
+    shared-slice-read-interval-count
+    cast-interval-count
+    interval-count-requires
+    loop-holds
+    mul-interval-count
+    shared-slice-read-interval-count-2
+    cast-interval-count-2
+    interval-count-requires-2
+    add-j
+    loop-less
+    loop-again
+    returns)

@@ -1,0 +1,35 @@
+-- A heap that is not full stays as it is; a full one is filled with one lower bound of each list, 16 at most.
+use mathlib.Core.Path.{sym, _∙_}
+use native.Mathlib.Omega.{arith}
+use Rattle.intersection.proofs.twin.with_room.Statement.{statement}
+use Rattle.intersection.proofs.twin.with_room.Tie as tie
+
+returns : tie.Need-returns
+returns c =
+    let pre = c .before .before .before .before .pre in
+    (pre .3, pre .2, c .if1 .taken)
+
+fill-lowers-requires : tie.Need-fill-lowers-requires
+fill-lowers-requires c κs =
+    let pre = c .before .before .before .before .before .pre in
+    (pre .0, pre .1, pre .2)
+
+same-length : tie.Need-same-length
+same-length c =
+    let filled = c .before .before in
+    filled .fill-lowers .ensures .1 ∙ sym (filled .before .before .before .before .before .before .pre .2)
+
+returns-2 : tie.Need-returns-2
+returns-2 c =
+    let filled = c .before .before in
+    let few = filled .before .before .before .before .before .before .pre .0 .few in
+    (filled .fill-lowers .ensures .0, filled .fill-lowers .ensures .1, omega arith)
+
+pub with-room-spec : {M : Type 1} → statement M
+with-room-spec =
+    tie.close
+    (tie.spec
+    returns
+    fill-lowers-requires
+    same-length
+    returns-2)

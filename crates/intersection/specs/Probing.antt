@@ -1,0 +1,56 @@
+-- "Probing from the shortest list": the numbers of one interval of that list, cut down to those that stand in every list.
+use Prim.Native.Nat.{ℕ, _+_, _-_, _*_, _≤_, _<_}
+use mathlib.Core.Path.{_≡_}
+use mathlib.Core.Bool.{Bool, true, false, cond}
+use mathlib.Core.List.{List, [], _∷_}
+use lib.ListN.{length, getD}
+use lib.Seq.{sets}
+use Rattle.list.specs.declared.answer.Tally.{Tally}
+use Rattle.list.specs.Interval.{top, names, intervals, records}
+use Rattle.list.specs.Stretches.{stretches}
+use Rattle.list.specs.Ginix.{inEvery}
+use Rattle.index.specs.Format.{listOf}
+use Rattle.merge.specs.Asked.{Asked, listsOf}
+
+-- list j of the request has no more intervals than any other
+pub record Shortest (index entries : List ℕ) (j : ℕ) : Type 0 where
+  pub inside : j < length entries
+  pub least : (i : ℕ) → i < length entries → intervals (listOf index (getD entries j 0)) ≤ intervals (listOf index (getD entries i 0))
+
+-- the proper list of the numbers from a to b at which the test holds
+unfoldable pub between : (ℕ → Bool) → ℕ → ℕ → List ℕ
+between test a b = stretches test false a (b + 1 - a)
+
+-- the cells c can be counted, and where the list is written they have room, behind what is counted
+pub record Fits (writing : Bool) (out : List ℕ) (t : Tally) (c : List ℕ) : Type 0 where
+  pub room : writing ≡ true → 2 * t .intervals + length c ≤ length out
+  pub intervals-small : t .intervals + intervals c ≤ top
+  pub records-small : t .records + records c ≤ top
+
+-- they are counted, and written where the list is
+pub record Puts (writing : Bool) (out out′ : List ℕ) (t : Tally) (c : List ℕ) (r : Tally) : Type 0 where
+  pub intervals-more : r .intervals ≡ t .intervals + intervals c
+  pub records-more : r .records ≡ t .records + records c
+  pub cells : out′ ≡ cond writing (sets out (2 * t .intervals) c) out
+
+-- the records in every list of a request
+abbrev pub inAll : List ℕ → List ℕ → ℕ → Bool
+inAll index entries = inEvery (listsOf index entries)
+
+-- [a, b] stands in list j of the request
+pub record Within (index entries : List ℕ) (j a b : ℕ) : Type 0 where
+  pub asked : Asked index entries
+  pub list : j < length entries
+  pub high : b ≤ top
+  pub covers : (y : ℕ) → a ≤ y → y ≤ b → names (listOf index (getD entries j 0)) y ≡ true
+
+-- a piece that is open where x comes: it ends before x, or goes on
+abbrev pub closing : Bool → ℕ → ℕ → Bool → List ℕ
+closing true lower x true = []
+closing true lower x false = lower ∷ (x - 1) ∷ []
+closing false lower x inside = []
+
+-- and it begins at x, where none is open
+abbrev pub lowerOn : Bool → ℕ → ℕ → ℕ
+lowerOn true lower x = lower
+lowerOn false lower x = x

@@ -1,0 +1,60 @@
+-- "the intersection by the twin heap": the next intervals of the lists, by their bounds.
+use mathlib.Core.Path.{_≡_}
+use Prim.Native.Nat.{ℕ, _+_, _-_, _*_, _≤_, _<_}
+use mathlib.Core.Bool.{Bool, cond}
+use mathlib.Core.List.{List}
+use lib.ListN.{length, getD, take, set}
+use Rattle.list.specs.declared.Place.{Place}
+use Rattle.list.specs.declared.answer.Tally.{Tally}
+use Rattle.list.specs.Interval.{top}
+use Rattle.list.specs.Kept.{nextPlace, lowerAt, upperAt}
+use Rattle.list.specs.Reading.{Goes}
+use Rattle.heap.specs.Heap.{countOf, IsHeap}
+use Rattle.merge.specs.Places.{singlesIn, lowerIn, upperIn}
+
+-- the place behind the interval that is next in list i of a request at a reading place, and the bounds of that interval
+abbrev pub nextOf : List ℕ → List ℕ → ℕ → Place → Place
+nextOf index entries i at = nextPlace (singlesIn index (getD entries i 0)) (lowerIn index (getD entries i 0)) at
+
+abbrev pub nextLower : List ℕ → List ℕ → ℕ → Place → ℕ
+nextLower index entries i at = lowerAt (singlesIn index (getD entries i 0)) (lowerIn index (getD entries i 0)) at
+
+abbrev pub nextUpper : List ℕ → List ℕ → ℕ → Place → ℕ
+nextUpper index entries i at = upperAt (singlesIn index (getD entries i 0)) (lowerIn index (getD entries i 0)) (upperIn index (getD entries i 0)) at
+
+-- an upper bound and whose it is, as one number: the least of them has the least upper bound
+abbrev pub keyOf : ℕ → ℕ → ℕ
+keyOf u i = u * 16 + i
+
+-- in every list of a request an interval is next, and its lower bound is a record's number
+pub record Standing (index entries : List ℕ) (at : ℕ → Place) : Type 0 where
+  pub goes : (i : ℕ) → i < length entries → Goes (singlesIn index (getD entries i 0)) (lowerIn index (getD entries i 0)) (at i)
+  pub small : (i : ℕ) → i < length entries → nextLower index entries i (at i) ≤ top
+
+-- the upper bounds of the intervals that are next in the first `size` lists, in a heap
+pub record Frontier (index entries : List ℕ) (at : ℕ → Place) (size : ℕ) (uppers : List ℕ) : Type 0 where
+  pub heap : IsHeap (take size uppers)
+  pub keys : List ℕ
+  pub long : length keys ≡ size
+  pub key : (i : ℕ) → i < size → getD keys i 0 ≡ keyOf (nextUpper index entries i (at i)) i
+  pub bag : (y : ℕ) → countOf y (take size uppers) ≡ countOf y keys
+
+-- a lower bound by what it lacks to a number above them all: the least of these is of the largest lower bound
+abbrev pub limit : ℕ
+limit = 16777216
+
+abbrev pub lackOf : ℕ → ℕ
+lackOf l = limit - l
+
+-- the lower bounds of the intervals that are next in the first `lists` lists, in a heap whose front is the largest:
+-- each is there, and whatever else is there is no larger than one of them
+pub record Lowers (index entries : List ℕ) (at : ℕ → Place) (lists size : ℕ) (lowers : List ℕ) : Type 0 where
+  pub heap : IsHeap (take size lowers)
+  pub all : (i : ℕ) → i < lists → 0 < countOf (lackOf (nextLower index entries i (at i))) (take size lowers)
+  pub others : (y : ℕ) → 0 < countOf y (take size lowers) → (i : ℕ) × (i < lists) × (lackOf (nextLower index entries i (at i)) ≤ y)
+
+-- [l, u] is counted, and written where the list is, if it is an interval
+pub record Overlaps (writing : Bool) (out out′ : List ℕ) (t : Tally) (l u : ℕ) (r : Tally) : Type 0 where
+  pub apart : u < l → (r ≡ t) × (out′ ≡ out)
+  pub together : l ≤ u →
+      (r .intervals ≡ t .intervals + 1) × (r .records ≡ t .records + (u + 1 - l)) × (out′ ≡ cond writing (set (set out (2 * t .intervals) l) (2 * t .intervals + 1) u) out)

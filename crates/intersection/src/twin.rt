@@ -1,0 +1,138 @@
+// The intersection by the twin heap: of the intervals that are next, one in each list, the least upper bound and the largest lower bound
+// say where all overlap. The upper bounds stand in a min-heap, the lower bounds in a max-heap. Where a list moves on, its new lower bound is
+// larger than the one it leaves behind, which is therefore never the largest again: it stays until the max-heap is full and is filled anew.
+ghost use mathlib.Core.Path.{_≡_};
+ghost use mathlib.Core.Bool.{true};
+ghost use Prim.Native.Nat.{_+_, _*_, _≤_, _<_};
+ghost use lib.ListN.{length, getD};
+ghost use Rattle.list.specs.Ginix.{intersectionOf};
+ghost use Rattle.list.specs.Interval.{top};
+ghost use Rattle.list.specs.Kept.{start};
+ghost use Rattle.merge.specs.Asked.{Asked, listsOf};
+ghost use Rattle.merge.specs.Sweep.{Sweeps};
+ghost use Rattle.intersection.specs.Twin.{keyOf, Standing, Frontier, Lowers, Overlaps};
+use heap::push;
+use heap::replace_least;
+use list::PairAt;
+use list::Place;
+use list::SingleAt;
+use list::answer::Tally;
+use list::put::put_interval;
+use merge::places::all_at_start;
+use merge::places::moved_on;
+use merge::places::next_interval;
+use merge::places::used_up;
+
+// Above every record's number.
+const LIMIT: u32 = 16_777_216;
+
+// The most lower bounds that stand in their heap: two of each list.
+const LOWERS: usize = 32;
+
+// An upper bound and the list that it is of.
+fn key_of(upper: u32, j: usize) -> u32
+    requires { ⌜ (upper ≤ top) × (j < 16) ⌝ }
+    ensures { λ r. ⌜ r ≡ keyOf upper j ⌝ }
+{
+    upper * 16 + j as u32
+}
+
+// Puts the upper bound of each list's first interval on its heap.
+fn first_uppers(index: &[u8], entries: &[u32], uppers: &mut [u32])
+    requires { ⌜ Asked (now index) (now entries) × (length (now uppers) ≡ 16) ⌝ }
+    ensures { λ _. ⌜ Frontier (now (index .entry)) (now (entries .entry)) (λ i. start) (length (now (entries .entry))) (now (uppers .exit)) × (length (now (uppers .exit)) ≡ 16) ⌝ }
+{
+    let mut j = 0;
+    while j < entries.len() {
+        let first = next_interval(
+            index,
+            entries[j] as usize,
+            Place {
+                p: SingleAt(0),
+                q: PairAt(0),
+            },
+        );
+        push(uppers, j, key_of(first.upper, j));
+        j += 1;
+    }
+}
+
+// Fills the heap of lower bounds: one of each list, at its place. A heap has its least in front, so each stands by what it lacks to LIMIT.
+fn fill_lowers(index: &[u8], entries: &[u32], places: [Place; 16], lowers: &mut [u32])
+    requires { ⌜ Asked (now index) (now entries) × Standing (now index) (now entries) (λ i. getD places i start) × (length (now lowers) ≡ 32) ⌝ }
+    ensures { λ _. ⌜ Lowers (now (index .entry)) (now (entries .entry)) (λ i. getD places i start) (length (now (entries .entry))) (length (now (entries .entry))) (now (lowers .exit)) × (length (now (lowers .exit)) ≡ 32) ⌝ }
+{
+    let mut j = 0;
+    while j < entries.len() {
+        let next = next_interval(index, entries[j] as usize, places[j]);
+        push(lowers, j, LIMIT - next.lower);
+        j += 1;
+    }
+}
+
+// Makes room for one more lower bound, and answers how many there are: a full heap is filled anew, which drops what the lists left behind.
+fn with_room(
+    index: &[u8],
+    entries: &[u32],
+    places: [Place; 16],
+    lowers: &mut [u32],
+    size: usize,
+) -> usize
+    requires { ⌜ Asked (now index) (now entries) × Standing (now index) (now entries) (λ i. getD places i start) × (length (now lowers) ≡ 32) × Lowers (now index) (now entries) (λ i. getD places i start) (length (now entries)) size (now lowers) ⌝ }
+    ensures { λ r. ⌜ Lowers (now (index .entry)) (now (entries .entry)) (λ i. getD places i start) (length (now (entries .entry))) r (now (lowers .exit)) × (length (now (lowers .exit)) ≡ 32) × (r < 32) ⌝ }
+{
+    if size < LOWERS {
+        return size;
+    }
+    fill_lowers(index, entries, places, lowers);
+    entries.len()
+}
+
+// Counts, and writes, [l, u] where it is an interval.
+fn put_overlap(out: &mut [u32], writing: bool, tally: Tally, l: u32, u: u32) -> Tally
+    requires { ⌜ (l ≤ u → writing ≡ true → 2 * tally .intervals + 2 ≤ length (now out)) × (2 * tally .intervals ≤ top + 1) × (tally .records ≤ top) ⌝ }
+    ensures { λ r. ⌜ Overlaps writing (now (out .entry)) (now (out .exit)) tally l u r ⌝ }
+{
+    if u < l {
+        return tally;
+    }
+    put_interval(out, writing, 2 * tally.intervals, l, u);
+    Tally {
+        intervals: tally.intervals + 1,
+        records: tally.records + (u - l) as usize + 1,
+    }
+}
+
+// Counts, and writes, the intersection of the lists of a request. It ends with the first list that is used up.
+pub fn sweep_twin(index: &[u8], entries: &[u32], writing: bool, out: &mut [u32]) -> Tally
+    requires { ⌜ Asked (now index) (now entries) × (writing ≡ true → length (intersectionOf (listsOf (now index) (now entries))) ≤ length (now out)) ⌝ }
+    ensures { λ r. ⌜ Sweeps (intersectionOf (listsOf (now (index .entry)) (now (entries .entry)))) writing (now (out .entry)) (now (out .exit)) r ⌝ }
+{
+    let mut uppers = [0; 16];
+    first_uppers(index, entries, &mut uppers);
+    let mut places = all_at_start();
+    let mut lowers = [0; 32];
+    fill_lowers(index, entries, places, &mut lowers);
+    let mut size = entries.len();
+    let mut tally = Tally {
+        intervals: 0,
+        records: 0,
+    };
+    loop {
+        size = with_room(index, entries, places, &mut lowers, size);
+        let largest = LIMIT - lowers[0];
+        let least = uppers[0];
+        let j = (least % 16) as usize;
+        let entry = entries[j] as usize;
+        tally = put_overlap(out, writing, tally, largest, least / 16);
+        places = moved_on(index, entry, places, j);
+        let at = places[j];
+        if used_up(index, entry, at) {
+            return tally;
+        }
+        let next = next_interval(index, entry, at);
+        replace_least(&mut uppers, entries.len(), key_of(next.upper, j));
+        push(&mut lowers, size, LIMIT - next.lower);
+        size += 1;
+    }
+}

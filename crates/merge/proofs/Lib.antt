@@ -1,0 +1,5 @@
+pub mod ListsLaws
+pub mod PlaceRow
+pub mod ArrayCells
+pub mod KeysLaws
+pub mod DueLaws

@@ -1,0 +1,6 @@
+pub mod TallyLaws
+pub mod AnyLaws
+pub mod ActiveLaws
+pub mod OpenLaws
+pub mod OverLaws
+pub mod ScanLaws
