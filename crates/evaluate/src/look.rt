@@ -1,7 +1,7 @@
 // Whether a record fits a question, by its codes and the senses of its slots there, and until which number that stays so.
 ghost use mathlib.Core.Path.{_≡_};
 ghost use Prim.Native.Nat.{_≤_};
-ghost use lib.ListN.{length};
+ghost use lib.ListN.{length, getD};
 ghost use Rattle.question.specs.Grammar.{fromLeft, question, operand};
 ghost use Rattle.evaluate.specs.Look.{Looks};
 use crate::code::code_at;
@@ -66,39 +66,46 @@ pub fn look_level(codes: &[u8], i: usize, k: usize, d: usize, senses: &[u32]) ->
     }
 }
 
-// A word, or a level in brackets, of which d may still open.
+// A word, or a level in brackets, of which d may still open. It is small, so that the words of a level are looked at without a call.
 fn look_operand(codes: &[u8], i: usize, k: usize, d: usize, senses: &[u32]) -> Look
     requires { ⌜ (i ≤ length (now codes)) × (length (now senses) ≡ 16) ⌝ }
     ensures { λ r. ⌜ Looks (λ f. operand fromLeft f d k) (now (codes .entry)) i k (now (senses .entry)) r ⌝ }
 {
-    let code = code_at(codes, i);
-    if code == 0 {
-        if k < 16 {
-            let sense = sense_of(senses, k);
-            return Look {
-                code: i + 1,
-                slot: k + 1,
-                inside: sense.inside,
-                until: sense.until,
-            };
-        }
+    if code_at(codes, i) != 0 {
+        return look_part(codes, i, k, d, senses);
+    }
+    if 16 <= k {
         return unread(i);
     }
-    if code == 4 {
-        if d == 0 {
-            return unread(i);
-        }
-        let part = look_level(codes, i + 1, k, d - 1, senses);
-        let close = part.code;
-        if code_at(codes, close) == 5 {
-            return Look {
-                code: close + 1,
-                slot: part.slot,
-                inside: part.inside,
-                until: part.until,
-            };
-        }
+    let sense = sense_of(senses, k);
+    Look {
+        code: i + 1,
+        slot: k + 1,
+        inside: sense.inside,
+        until: sense.until,
+    }
+}
+
+// A level in brackets.
+fn look_part(codes: &[u8], i: usize, k: usize, d: usize, senses: &[u32]) -> Look
+    requires { ⌜ (i ≤ length (now codes)) × (length (now senses) ≡ 16) × (getD (now codes) i 6 ≡ 0 → ⊥) ⌝ }
+    ensures { λ r. ⌜ Looks (λ f. operand fromLeft f d k) (now (codes .entry)) i k (now (senses .entry)) r ⌝ }
+{
+    if code_at(codes, i) != 4 {
+        return unread(i);
+    }
+    if d == 0 {
+        return unread(i);
+    }
+    let part = look_level(codes, i + 1, k, d - 1, senses);
+    let close = part.code;
+    if code_at(codes, close) != 5 {
         return unread(close);
     }
-    unread(i)
+    Look {
+        code: close + 1,
+        slot: part.slot,
+        inside: part.inside,
+        until: part.until,
+    }
 }

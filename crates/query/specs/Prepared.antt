@@ -14,7 +14,8 @@ use Rattle.query.specs.Bound.{slotsIntervals}
 use Rattle.evaluate.specs.Code.{wordCodes}
 use Rattle.query.specs.Drive.{TreeOf, testOf}
 
--- the codes read as t and have so many words, its test by the slots is that by the words, and its answer has no more intervals than the lists of its slots together
+-- the codes read as t and have so many words, its test by the slots is that by the words, and its answer has no more intervals than the lists of its
+-- slots together
 pub record Prepared (codes index entries : List ℕ) (words : ℕ) (t : Tree) : Type 0 where
   pub reads : TreeOf codes t
   pub count : words ≡ wordCodes codes

@@ -26,50 +26,57 @@ use borrow.Fn.Kinds.{In}
 use borrow.Fn.PlainCycle.{Measures, is, falls, and}
 use Rattle.evaluate.proofs.look.look_level.Reads as look-level
 use Rattle.evaluate.proofs.look.look_level.Kinds as look-level-kinds
-use Rattle.evaluate.proofs.look.+look_level+look_operand.Lts-look_level as look-level-lts
+use Rattle.evaluate.proofs.look.+look_level+look_operand+look_part.Lts-look_level as look-level-lts
 use Rattle.evaluate.proofs.look.look_operand.Reads as look-operand
 use Rattle.evaluate.proofs.look.look_operand.Kinds as look-operand-kinds
-use Rattle.evaluate.proofs.look.+look_level+look_operand.Lts-look_operand as look-operand-lts
+use Rattle.evaluate.proofs.look.+look_level+look_operand+look_part.Lts-look_operand as look-operand-lts
+use Rattle.evaluate.proofs.look.look_part.Reads as look-part
+use Rattle.evaluate.proofs.look.look_part.Kinds as look-part-kinds
+use Rattle.evaluate.proofs.look.+look_level+look_operand+look_part.Lts-look_part as look-part-lts
 use Rattle.evaluate.proofs.code.code_at.Reads as code-at-reads
 use Rattle.evaluate.proofs.code.is_operator.Reads as is-operator-reads
 use Rattle.evaluate.proofs.senses.sense_of.Reads as sense-of-reads
 use Rattle.evaluate.proofs.look.unread.Reads as unread-reads
 use Rattle.evaluate.proofs.sense_pair.pair_senses.Reads as pair-senses-reads
-use Rattle.evaluate.proofs.look.+look_level+look_operand.{statement}
-use Rattle.evaluate.proofs.look.+look_level+look_operand.Tie.{close}
+use Rattle.evaluate.proofs.look.+look_level+look_operand+look_part.{statement}
+use Rattle.evaluate.proofs.look.+look_level+look_operand+look_part.Tie.{close}
 
 abbrev μ-look-level : Measures 2 look-level-kinds.ps ℕ
-μ-look-level κs a = 2 * (a .1 .1 .1 .0) + 1
+μ-look-level κs a = 3 * (a .1 .1 .1 .0) + 2
 
 abbrev μ-look-operand : Measures 2 look-operand-kinds.ps ℕ
-μ-look-operand κs a = 2 * (a .1 .1 .1 .0)
+μ-look-operand κs a = 3 * (a .1 .1 .1 .0) + 1
+
+abbrev μ-look-part : Measures 2 look-part-kinds.ps ℕ
+μ-look-part κs a = 3 * (a .1 .1 .1 .0)
 
 abbrev look-level-at : ℕ → In 2 look-level-kinds.ps
-look-level-at t =
-    and 2 look-level-kinds.ps (is 2 look-level-kinds.ps μ-look-level t) look-level.Pre
+look-level-at t = and 2 look-level-kinds.ps (is 2 look-level-kinds.ps μ-look-level t) look-level.Pre
 
 abbrev look-level-below : ℕ → In 2 look-level-kinds.ps
-look-level-below t =
-    and 2 look-level-kinds.ps (falls 2 look-level-kinds.ps _<_ μ-look-level t) look-level.Pre
+look-level-below t = and 2 look-level-kinds.ps (falls 2 look-level-kinds.ps _<_ μ-look-level t) look-level.Pre
 
 abbrev look-operand-at : ℕ → In 2 look-operand-kinds.ps
-look-operand-at t =
-    and 2 look-operand-kinds.ps (is 2 look-operand-kinds.ps μ-look-operand t) look-operand.Pre
+look-operand-at t = and 2 look-operand-kinds.ps (is 2 look-operand-kinds.ps μ-look-operand t) look-operand.Pre
 
 abbrev look-operand-below : ℕ → In 2 look-operand-kinds.ps
-look-operand-below t =
-    and
-    2
-    look-operand-kinds.ps
-    (falls 2 look-operand-kinds.ps _<_ μ-look-operand t)
-    look-operand.Pre
+look-operand-below t = and 2 look-operand-kinds.ps (falls 2 look-operand-kinds.ps _<_ μ-look-operand t) look-operand.Pre
+
+abbrev look-part-at : ℕ → In 2 look-part-kinds.ps
+look-part-at t = and 2 look-part-kinds.ps (is 2 look-part-kinds.ps μ-look-part t) look-part.Pre
+
+abbrev look-part-below : ℕ → In 2 look-part-kinds.ps
+look-part-below t = and 2 look-part-kinds.ps (falls 2 look-part-kinds.ps _<_ μ-look-part t) look-part.Pre
 
 -- what the calls of each promise
 abbrev level-claims : ℕ → look-level-lts.Claims
 level-claims t = (look-operand-below t, look-operand.Post, code-at-reads.Asked, code-at-reads.Learnt, is-operator-reads.Asked, is-operator-reads.Learnt, pair-senses-reads.Asked, pair-senses-reads.Learnt)
 
 abbrev operand-claims : ℕ → look-operand-lts.Claims
-operand-claims t = (code-at-reads.Asked, code-at-reads.Learnt, sense-of-reads.Asked, sense-of-reads.Learnt, unread-reads.Asked, unread-reads.Learnt, look-level-below t, look-level.Post)
+operand-claims t = (code-at-reads.Asked, code-at-reads.Learnt, look-part-below t, look-part.Post, unread-reads.Asked, unread-reads.Learnt, sense-of-reads.Asked, sense-of-reads.Learnt)
+
+abbrev part-claims : ℕ → look-part-lts.Claims
+part-claims t = (code-at-reads.Asked, code-at-reads.Learnt, unread-reads.Asked, unread-reads.Learnt, look-level-below t, look-level.Post)
 
 abbrev look-level-Inv-loop : look-level-lts.InvT-loop
 look-level-Inv-loop codes i k d senses at₀ slot₀ inside₀ until₀ at slot inside until =
@@ -174,37 +181,13 @@ look-level-loop-again t c =
 look-operand-code-at-requires : (t : ℕ) → look-operand-lts.Need-code-at-requires (operand-claims t) (look-operand-at t) look-operand.Post
 look-operand-code-at-requires t c κs = search needs
 
-look-operand-sense-of-requires : (t : ℕ) → look-operand-lts.Need-sense-of-requires (operand-claims t) (look-operand-at t) look-operand.Post
-look-operand-sense-of-requires t c κs = search needs
-
-look-operand-add-t12 : (t : ℕ) → look-operand-lts.Need-add-t12 (operand-claims t) (look-operand-at t) look-operand.Post
-look-operand-add-t12 t c =
-    let start = c .before .before .before .before .before .before in
-    let codes = start .args .codes .now in
-    let i = start .args .i in
-    let here : getD codes i 6 ≡ 0 = sym (c .before .before .before .code-at .ensures) ∙ c .before .before .if1 .taken in
-    let within = code-within codes i (omega arith) in
-    omega arith
-
-look-operand-add-t13 : (t : ℕ) → look-operand-lts.Need-add-t13 (operand-claims t) (look-operand-at t) look-operand.Post
-look-operand-add-t13 t c = search needs
+look-operand-look-part-requires : (t : ℕ) → look-operand-lts.Need-look-part-requires (operand-claims t) (look-operand-at t) look-operand.Post
+look-operand-look-part-requires t c κs =
+    let start = c .before .before .before .before in
+    (omega arith, (start .pre .1 .0, start .pre .1 .1, λ e. c .if1 .taken (c .before .code-at .ensures ∙ e)))
 
 look-operand-returns : (t : ℕ) → look-operand-lts.Need-returns (operand-claims t) (look-operand-at t) look-operand.Post
-look-operand-returns t c =
-    let start = c .before .before .before .before .before .before in
-    let codes = start .args .codes .now in
-    let senses = start .args .senses .now in
-    let i = start .args .i in
-    let k = start .args .k in
-    let d = start .args .d in
-    let here : getD codes i 6 ≡ 0 = sym (c .before .before .before .code-at .ensures) ∙ c .before .before .if1 .taken in
-    let within = code-within codes i (omega arith) in
-    let r = c .sense-of .result in
-    record {
-      ahead = omega arith;
-      inside = omega arith;
-      reads = λ f. operand-word codes f d k i here (Tells senses k (r .inside) (r .until)) (tells-word senses k (r .inside) (r .until) (c .sense-of .ensures .0) (c .sense-of .ensures .1));
-    }
+look-operand-returns t c = c .look-part .ensures
 
 look-operand-unread-requires : (t : ℕ) → look-operand-lts.Need-unread-requires (operand-claims t) (look-operand-at t) look-operand.Post
 look-operand-unread-requires t c κs = search needs
@@ -217,78 +200,150 @@ look-operand-returns-2 t c =
     let i = start .args .i in
     let k = start .args .k in
     let d = start .args .d in
-    let here : getD codes i 6 ≡ 0 = sym (c .before .before .before .code-at .ensures) ∙ c .before .before .if1 .taken in
+    let here : getD codes i 6 ≡ 0 = sym (c .before .before .before .code-at .ensures) ∙ c .before .before .if1 .left in
     let r = c .unread .result in
     record {
       ahead = omega (arith, c .unread .ensures);
       inside = omega (arith, start .pre .1 .0, c .unread .ensures);
-      reads = λ f. operand-many codes f d k i here (r .code) (r .slot) (Tells senses k (r .inside) (r .until)) (c .before .if2 .left);
+      reads = λ f. operand-many codes f d k i here (r .code) (r .slot) (Tells senses k (r .inside) (r .until)) (c .before .if2 .taken);
     }
 
-look-operand-unread-requires-2 : (t : ℕ) → look-operand-lts.Need-unread-requires-2 (operand-claims t) (look-operand-at t) look-operand.Post
-look-operand-unread-requires-2 t c κs = search needs
+look-operand-sense-of-requires : (t : ℕ) → look-operand-lts.Need-sense-of-requires (operand-claims t) (look-operand-at t) look-operand.Post
+look-operand-sense-of-requires t c κs = search needs
+
+look-operand-add-t9 : (t : ℕ) → look-operand-lts.Need-add-t9 (operand-claims t) (look-operand-at t) look-operand.Post
+look-operand-add-t9 t c =
+    let start = c .before .before .before .before .before .before in
+    let codes = start .args .codes .now in
+    let i = start .args .i in
+    let here : getD codes i 6 ≡ 0 = sym (c .before .before .before .code-at .ensures) ∙ c .before .before .if1 .left in
+    let within = code-within codes i (omega arith) in
+    omega arith
+
+look-operand-add-t10 : (t : ℕ) → look-operand-lts.Need-add-t10 (operand-claims t) (look-operand-at t) look-operand.Post
+look-operand-add-t10 t c = search needs
 
 look-operand-returns-3 : (t : ℕ) → look-operand-lts.Need-returns-3 (operand-claims t) (look-operand-at t) look-operand.Post
 look-operand-returns-3 t c =
-    let start = c .before .before .before .before .before .before .before in
+    let start = c .before .before .before .before .before .before in
     let codes = start .args .codes .now in
     let senses = start .args .senses .now in
     let i = start .args .i in
     let k = start .args .k in
     let d = start .args .d in
-    let here : getD codes i 6 ≡ 4 = sym (c .before .before .before .before .code-at .ensures) ∙ c .before .before .if3 .taken in
+    let here : getD codes i 6 ≡ 0 = sym (c .before .before .before .code-at .ensures) ∙ c .before .before .if1 .left in
+    let within = code-within codes i (omega arith) in
+    let r = c .sense-of .result in
+    record {
+      ahead = omega arith;
+      inside = omega arith;
+      reads = λ f. operand-word codes f d k i here (Tells senses k (r .inside) (r .until)) (tells-word senses k (r .inside) (r .until) (c .sense-of .ensures .0) (c .sense-of .ensures .1));
+    }
+
+look-part-code-at-requires : (t : ℕ) → look-part-lts.Need-code-at-requires (part-claims t) (look-part-at t) look-part.Post
+look-part-code-at-requires t c κs = search needs
+
+look-part-unread-requires : (t : ℕ) → look-part-lts.Need-unread-requires (part-claims t) (look-part-at t) look-part.Post
+look-part-unread-requires t c κs = search needs
+
+look-part-returns : (t : ℕ) → look-part-lts.Need-returns (part-claims t) (look-part-at t) look-part.Post
+look-part-returns t c =
+    let start = c .before .before .before .before .before in
+    let codes = start .args .codes .now in
+    let senses = start .args .senses .now in
+    let i = start .args .i in
+    let k = start .args .k in
+    let d = start .args .d in
+    let r = c .unread .result in
+    record {
+      ahead = omega (arith, c .unread .ensures);
+      inside = omega (arith, start .pre .1 .0, c .unread .ensures);
+      reads = λ f. operand-none codes f d k i (r .code) (r .slot) (Tells senses k (r .inside) (r .until)) (start .pre .1 .2) (λ e. c .before .if1 .taken (c .before .before .code-at .ensures ∙ e));
+    }
+
+look-part-unread-requires-2 : (t : ℕ) → look-part-lts.Need-unread-requires-2 (part-claims t) (look-part-at t) look-part.Post
+look-part-unread-requires-2 t c κs = search needs
+
+look-part-returns-2 : (t : ℕ) → look-part-lts.Need-returns-2 (part-claims t) (look-part-at t) look-part.Post
+look-part-returns-2 t c =
+    let start = c .before .before .before .before .before .before in
+    let codes = start .args .codes .now in
+    let senses = start .args .senses .now in
+    let i = start .args .i in
+    let k = start .args .k in
+    let d = start .args .d in
+    let here : getD codes i 6 ≡ 4 = sym (c .before .before .before .code-at .ensures) ∙ c .before .before .if1 .left in
     let r = c .unread2 .result in
     record {
       ahead = omega (arith, c .unread2 .ensures);
       inside = omega (arith, start .pre .1 .0, c .unread2 .ensures);
-      reads = λ f. operand-deep codes f d k i here (r .code) (r .slot) (Tells senses k (r .inside) (r .until)) (c .before .if4 .taken);
+      reads = λ f. operand-deep codes f d k i here (r .code) (r .slot) (Tells senses k (r .inside) (r .until)) (c .before .if2 .taken);
     }
 
-look-operand-add-look-level : (t : ℕ) → look-operand-lts.Need-add-look-level (operand-claims t) (look-operand-at t) look-operand.Post
-look-operand-add-look-level t c =
-    let start = c .before .before .before .before .before .before in
+look-part-add-look-level : (t : ℕ) → look-part-lts.Need-add-look-level (part-claims t) (look-part-at t) look-part.Post
+look-part-add-look-level t c =
+    let start = c .before .before .before .before .before in
     let codes = start .args .codes .now in
     let i = start .args .i in
-    let here : getD codes i 6 ≡ 4 = sym (c .before .before .before .code-at .ensures) ∙ c .before .if3 .taken in
+    let here : getD codes i 6 ≡ 4 = sym (c .before .before .code-at .ensures) ∙ c .before .if1 .left in
     let within = code-within codes i (omega arith) in
     omega arith
 
-look-operand-sub-look-level : (t : ℕ) → look-operand-lts.Need-sub-look-level (operand-claims t) (look-operand-at t) look-operand.Post
-look-operand-sub-look-level t c = search needs
+look-part-sub-look-level : (t : ℕ) → look-part-lts.Need-sub-look-level (part-claims t) (look-part-at t) look-part.Post
+look-part-sub-look-level t c = search needs
 
-look-operand-look-level-requires : (t : ℕ) → look-operand-lts.Need-look-level-requires (operand-claims t) (look-operand-at t) look-operand.Post
-look-operand-look-level-requires t c κs =
-    let start = c .before .before .before .before .before .before in
+look-part-look-level-requires : (t : ℕ) → look-part-lts.Need-look-level-requires (part-claims t) (look-part-at t) look-part.Post
+look-part-look-level-requires t c κs =
+    let start = c .before .before .before .before .before in
     let codes = start .args .codes .now in
     let i = start .args .i in
-    let here : getD codes i 6 ≡ 4 = sym (c .before .before .before .code-at .ensures) ∙ c .before .if3 .taken in
+    let here : getD codes i 6 ≡ 4 = sym (c .before .before .code-at .ensures) ∙ c .before .if1 .left in
     let within = code-within codes i (omega arith) in
     (omega arith, (omega arith, start .pre .1 .1))
 
-look-operand-code-at-requires-2 : (t : ℕ) → look-operand-lts.Need-code-at-requires-2 (operand-claims t) (look-operand-at t) look-operand.Post
-look-operand-code-at-requires-2 t c κs = search needs
+look-part-code-at-requires-2 : (t : ℕ) → look-part-lts.Need-code-at-requires-2 (part-claims t) (look-part-at t) look-part.Post
+look-part-code-at-requires-2 t c κs = search needs
 
-look-operand-add-t18 : (t : ℕ) → look-operand-lts.Need-add-t18 (operand-claims t) (look-operand-at t) look-operand.Post
-look-operand-add-t18 t c =
-    let start = c .before .before .before .before .before .before .before .before .before in
-    let codes = start .args .codes .now in
-    let i = start .args .i in
-    let here : getD codes i 6 ≡ 4 = sym (c .before .before .before .before .before .before .code-at .ensures) ∙ c .before .before .before .before .if3 .taken in
-    let close = code-within codes (c .before .before .look-level .result .code) (omega (arith, c .before .code-at2 .ensures, c .if5 .taken)) in
-    omega arith
+look-part-unread-requires-3 : (t : ℕ) → look-part-lts.Need-unread-requires-3 (part-claims t) (look-part-at t) look-part.Post
+look-part-unread-requires-3 t c κs = search needs
 
-look-operand-returns-4 : (t : ℕ) → look-operand-lts.Need-returns-4 (operand-claims t) (look-operand-at t) look-operand.Post
-look-operand-returns-4 t c =
+look-part-returns-3 : (t : ℕ) → look-part-lts.Need-returns-3 (part-claims t) (look-part-at t) look-part.Post
+look-part-returns-3 t c =
     let start = c .before .before .before .before .before .before .before .before .before in
     let codes = start .args .codes .now in
     let senses = start .args .senses .now in
     let i = start .args .i in
     let k = start .args .k in
     let d = start .args .d in
-    let here : getD codes i 6 ≡ 4 = sym (c .before .before .before .before .before .before .code-at .ensures) ∙ c .before .before .before .before .if3 .taken in
+    let here : getD codes i 6 ≡ 4 = sym (c .before .before .before .before .before .before .code-at .ensures) ∙ c .before .before .before .before .before .if1 .left in
+    let inner = c .before .before .before .look-level in
+    let p = inner .result in
+    let r = c .unread3 .result in
+    record {
+      ahead = omega (arith, inner .ensures .ahead, c .unread3 .ensures);
+      inside = omega (arith, inner .ensures .inside, c .unread3 .ensures);
+      reads = λ f. operand-unclosed codes f d k i here (p .code) (p .slot) (Tells senses k (p .inside) (p .until)) (inner .ensures .reads) (r .code) (r .slot) (Tells senses k (r .inside) (r .until)) (λ e. c .before .if3 .taken (c .before .before .code-at2 .ensures ∙ e));
+    }
+
+look-part-add-t11 : (t : ℕ) → look-part-lts.Need-add-t11 (part-claims t) (look-part-at t) look-part.Post
+look-part-add-t11 t c =
+    let start = c .before .before .before .before .before .before .before .before in
+    let codes = start .args .codes .now in
+    let close = code-within codes (c .before .before .look-level .result .code) (omega (arith, c .before .code-at2 .ensures, c .if3 .left)) in
+    omega arith
+
+look-part-returns-4 : (t : ℕ) → look-part-lts.Need-returns-4 (part-claims t) (look-part-at t) look-part.Post
+look-part-returns-4 t c =
+    let start = c .before .before .before .before .before .before .before .before in
+    let codes = start .args .codes .now in
+    let senses = start .args .senses .now in
+    let i = start .args .i in
+    let k = start .args .k in
+    let d = start .args .d in
+    let here : getD codes i 6 ≡ 4 = sym (c .before .before .before .before .before .code-at .ensures) ∙ c .before .before .before .before .if1 .left in
     let inner = c .before .before .look-level in
     let p = inner .result in
-    let there : getD codes (p .code) 6 ≡ 5 = sym (c .before .code-at2 .ensures) ∙ c .if5 .taken in
+    let there : getD codes (p .code) 6 ≡ 5 = sym (c .before .code-at2 .ensures) ∙ c .if3 .left in
     let close = code-within codes (p .code) (omega arith) in
     record {
       ahead = omega (arith, inner .ensures .ahead);
@@ -296,47 +351,9 @@ look-operand-returns-4 t c =
       reads = λ f. operand-part codes f d k i here (p .code) (p .slot) (Tells senses k (p .inside) (p .until)) (inner .ensures .reads) (Tells senses k (p .inside) (p .until)) there (tells-part senses k (p .inside) (p .until));
     }
 
-look-operand-unread-requires-3 : (t : ℕ) → look-operand-lts.Need-unread-requires-3 (operand-claims t) (look-operand-at t) look-operand.Post
-look-operand-unread-requires-3 t c κs = search needs
-
-look-operand-returns-5 : (t : ℕ) → look-operand-lts.Need-returns-5 (operand-claims t) (look-operand-at t) look-operand.Post
-look-operand-returns-5 t c =
-    let start = c .before .before .before .before .before .before .before .before .before .before in
-    let codes = start .args .codes .now in
-    let senses = start .args .senses .now in
-    let i = start .args .i in
-    let k = start .args .k in
-    let d = start .args .d in
-    let here : getD codes i 6 ≡ 4 = sym (c .before .before .before .before .before .before .before .code-at .ensures) ∙ c .before .before .before .before .before .if3 .taken in
-    let inner = c .before .before .before .look-level in
-    let p = inner .result in
-    let r = c .unread3 .result in
-    record {
-      ahead = omega (arith, inner .ensures .ahead, c .unread3 .ensures);
-      inside = omega (arith, inner .ensures .inside, c .unread3 .ensures);
-      reads = λ f. operand-unclosed codes f d k i here (p .code) (p .slot) (Tells senses k (p .inside) (p .until)) (inner .ensures .reads) (r .code) (r .slot) (Tells senses k (r .inside) (r .until)) (λ e. c .before .if5 .left (c .before .before .code-at2 .ensures ∙ e));
-    }
-
-look-operand-unread-requires-4 : (t : ℕ) → look-operand-lts.Need-unread-requires-4 (operand-claims t) (look-operand-at t) look-operand.Post
-look-operand-unread-requires-4 t c κs = search needs
-
-look-operand-returns-6 : (t : ℕ) → look-operand-lts.Need-returns-6 (operand-claims t) (look-operand-at t) look-operand.Post
-look-operand-returns-6 t c =
-    let start = c .before .before .before .before .before .before in
-    let codes = start .args .codes .now in
-    let senses = start .args .senses .now in
-    let i = start .args .i in
-    let k = start .args .k in
-    let d = start .args .d in
-    let r = c .unread4 .result in
-    record {
-      ahead = omega (arith, c .unread4 .ensures);
-      inside = omega (arith, start .pre .1 .0, c .unread4 .ensures);
-      reads = λ f. operand-none codes f d k i (r .code) (r .slot) (Tells senses k (r .inside) (r .until)) (λ e. c .before .before .if1 .left (c .before .before .before .code-at .ensures ∙ e)) (λ e. c .before .if3 .left (c .before .before .before .code-at .ensures ∙ e));
-    }
-
-pub +look-level+look-operand-spec : {M : Type 1} → statement M
-+look-level+look-operand-spec = close μ-look-level μ-look-operand (λ t. look-level-lts.spec (level-claims t)
+pub +look-level+look-operand+look-part-spec : {M : Type 1} → statement M
++look-level+look-operand+look-part-spec =
+    close μ-look-level μ-look-operand μ-look-part (λ t. look-level-lts.spec (level-claims t)
     (look-level-at t)
     look-level.Post
     look-level-Inv-loop
@@ -351,25 +368,31 @@ pub +look-level+look-operand-spec : {M : Type 1} → statement M
     (look-level-pair-senses-requires t)
     (look-level-loop-less t)
     (look-level-loop-again t))
-    λ t. look-operand-lts.spec (operand-claims t)
+    (λ t. look-operand-lts.spec (operand-claims t)
     (look-operand-at t)
     look-operand.Post
     (look-operand-code-at-requires t)
-    (look-operand-sense-of-requires t)
-    (look-operand-add-t12 t)
-    (look-operand-add-t13 t)
+    (look-operand-look-part-requires t)
     (look-operand-returns t)
     (look-operand-unread-requires t)
     (look-operand-returns-2 t)
-    (look-operand-unread-requires-2 t)
-    (look-operand-returns-3 t)
-    (look-operand-add-look-level t)
-    (look-operand-sub-look-level t)
-    (look-operand-look-level-requires t)
-    (look-operand-code-at-requires-2 t)
-    (look-operand-add-t18 t)
-    (look-operand-returns-4 t)
-    (look-operand-unread-requires-3 t)
-    (look-operand-returns-5 t)
-    (look-operand-unread-requires-4 t)
-    (look-operand-returns-6 t)
+    (look-operand-sense-of-requires t)
+    (look-operand-add-t9 t)
+    (look-operand-add-t10 t)
+    (look-operand-returns-3 t))
+    λ t. look-part-lts.spec (part-claims t)
+    (look-part-at t)
+    look-part.Post
+    (look-part-code-at-requires t)
+    (look-part-unread-requires t)
+    (look-part-returns t)
+    (look-part-unread-requires-2 t)
+    (look-part-returns-2 t)
+    (look-part-add-look-level t)
+    (look-part-sub-look-level t)
+    (look-part-look-level-requires t)
+    (look-part-code-at-requires-2 t)
+    (look-part-unread-requires-3 t)
+    (look-part-returns-3 t)
+    (look-part-add-t11 t)
+    (look-part-returns-4 t)
