@@ -17,12 +17,11 @@ use Rattle.evaluate.specs.Code.{codesOf}
 unfoldable pub slotHas : List ℕ → List ℕ → ℕ → ℕ → Bool
 slotHas index entries k x = cond (ltb (getD entries k 0) (wordCount index)) (names (listOf index (getD entries k 0)) x) false
 
--- what slots are read by: a sound index, the entries of 16 slots, and a hint for each side of their lists
-pub record ReadBy (index entries ps qs : List ℕ) : Type 0 where
+-- what slots are read by: a sound index, the entries of 16 slots, and a hint of two numbers for each
+pub record ReadBy (index entries hints : List ℕ) : Type 0 where
   pub sound : Sound index
   pub entries-long : length entries ≡ 16
-  pub ps-long : length ps ≡ 16
-  pub qs-long : length qs ≡ 16
+  pub hints-long : length hints ≡ 32
 
 -- whether record x fits a tree whose first word has slot k, by what each slot has
 unfoldable pub slotFits : (ℕ → ℕ → Bool) → Tree → ℕ → ℕ → Bool

@@ -40,14 +40,13 @@ pub fn eval_level(
     index: &[u8],
     entries: &[usize],
     base: u32,
-    ps: &mut [usize],
-    qs: &mut [usize],
+    hints: &mut [usize],
     ws: &mut [u64],
 ) -> Step
-    requires { ⌜ Ready (now codes) i (now index) (now entries) base (now ps) (now qs) (now ws) ⌝ }
-    ensures { λ r. ⌜ Evaluated (λ f. question fromLeft f d k) (now (codes .entry)) i k (now (index .entry)) (now (entries .entry)) base (now (ps .entry)) (now (qs .entry)) (now (ws .entry)) (now (ps .exit)) (now (qs .exit)) (now (ws .exit)) r ⌝ }
+    requires { ⌜ Ready (now codes) i (now index) (now entries) base (now hints) (now ws) ⌝ }
+    ensures { λ r. ⌜ Evaluated (λ f. question fromLeft f d k) (now (codes .entry)) i k (now (index .entry)) (now (entries .entry)) base (now (hints .entry)) (now (ws .entry)) (now (hints .exit)) (now (ws .exit)) r ⌝ }
 {
-    let first = eval_operand(codes, i, k, d, index, entries, base, ps, qs, ws);
+    let first = eval_operand(codes, i, k, d, index, entries, base, hints, ws);
     let mut at = first.code;
     let mut slot = first.slot;
     let n = ws.len();
@@ -65,8 +64,7 @@ pub fn eval_level(
             index,
             entries,
             base,
-            ps,
-            qs,
+            hints,
             &mut other[0..n],
         );
         combine_into(code, ws, &other[0..n]);
@@ -84,17 +82,16 @@ fn eval_operand(
     index: &[u8],
     entries: &[usize],
     base: u32,
-    ps: &mut [usize],
-    qs: &mut [usize],
+    hints: &mut [usize],
     ws: &mut [u64],
 ) -> Step
-    requires { ⌜ Ready (now codes) i (now index) (now entries) base (now ps) (now qs) (now ws) ⌝ }
-    ensures { λ r. ⌜ Evaluated (λ f. operand fromLeft f d k) (now (codes .entry)) i k (now (index .entry)) (now (entries .entry)) base (now (ps .entry)) (now (qs .entry)) (now (ws .entry)) (now (ps .exit)) (now (qs .exit)) (now (ws .exit)) r ⌝ }
+    requires { ⌜ Ready (now codes) i (now index) (now entries) base (now hints) (now ws) ⌝ }
+    ensures { λ r. ⌜ Evaluated (λ f. operand fromLeft f d k) (now (codes .entry)) i k (now (index .entry)) (now (entries .entry)) base (now (hints .entry)) (now (ws .entry)) (now (hints .exit)) (now (ws .exit)) r ⌝ }
 {
     let code = code_at(codes, i);
     if code == 0 {
         if k < entries.len() {
-            crate::fill::fill_slot(index, entries, k, base, ps, qs, ws);
+            crate::fill::fill_slot(index, entries, k, base, hints, ws);
             return Step {
                 code: i + 1,
                 slot: k + 1,
@@ -108,7 +105,7 @@ fn eval_operand(
     if d == 0 {
         return Step { code: i, slot: k };
     }
-    let inside = eval_level(codes, i + 1, k, d - 1, index, entries, base, ps, qs, ws);
+    let inside = eval_level(codes, i + 1, k, d - 1, index, entries, base, hints, ws);
     let end = inside.code;
     if code_at(codes, end) != 5 {
         return Step { code: i, slot: k };

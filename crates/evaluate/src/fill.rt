@@ -9,9 +9,10 @@ ghost use Rattle.list.specs.Interval.{top, names};
 ghost use Rattle.list.specs.Kept.{walked};
 ghost use Rattle.list.specs.Reading.{KeptIn, listIn, placeOf};
 ghost use Rattle.list.specs.Seek.{Ascends, countBelow};
-ghost use Rattle.index.specs.Sound.{Sound};
 ghost use Rattle.evaluate.specs.Engine.{Added, Apart};
-ghost use Rattle.evaluate.specs.Slots.{slotHas};
+ghost use Rattle.evaluate.specs.Slots.{slotHas, ReadBy};
+use crate::hints::hint_of;
+use crate::hints::keep_hint;
 use list::PairAt;
 use list::Place;
 use list::SingleAt;
@@ -94,18 +95,17 @@ fn fill_list(
     }
 }
 
-// Sets the bits of the records that have the word of slot k. The hints of the slot say where its list was read last, and are moved on.
+// Sets the bits of the records that have the word of slot k, and moves its hint on.
 pub fn fill_slot(
     index: &[u8],
     entries: &[usize],
     k: usize,
     base: u32,
-    ps: &mut [usize],
-    qs: &mut [usize],
+    hints: &mut [usize],
     ws: &mut [u64],
 )
-    requires { ⌜ Sound (now index) × (k < length (now entries)) × (k < length (now ps)) × (k < length (now qs)) × (length (now ws) ≤ 128) × (base ≤ 16777216) ⌝ }
-    ensures hints { λ _. ⌜ (length (now (ps .exit)) ≡ length (now (ps .entry))) × (length (now (qs .exit)) ≡ length (now (qs .entry))) ⌝ }
+    requires { ⌜ ReadBy (now index) (now entries) (now hints) × (k < 16) × (length (now ws) ≤ 128) × (base ≤ 16777216) ⌝ }
+    ensures keeps { λ _. ⌜ length (now (hints .exit)) ≡ length (now (hints .entry)) ⌝ }
     ensures adds { λ _. ⌜ Added (slotHas (now (index .entry)) (now (entries .entry)) k) base (now (ws .entry)) (now (ws .exit)) ⌝ }
 {
     let entry = entries[k];
@@ -113,15 +113,8 @@ pub fn fill_slot(
         let singles = index::parts::singles_of(index, entry);
         let lower = index::parts::lower_of(index, entry);
         let upper = index::parts::upper_of(index, entry);
-        let hint = Place {
-            p: SingleAt(ps[k]),
-            q: PairAt(qs[k]),
-        };
-        let at = list::reading::place_of(singles, upper, hint, base);
+        let at = list::reading::place_of(singles, upper, hint_of(hints, k), base);
         let next = fill_list(singles, lower, upper, at, base, ws);
-        let p = next.p;
-        let q = next.q;
-        ps[k] = p.0;
-        qs[k] = q.0;
+        keep_hint(hints, k, next);
     }
 }

@@ -3,6 +3,7 @@
 pub mod code;
 pub mod eval;
 pub mod fill;
+pub mod hints;
 pub mod look;
 pub mod sense_pair;
 pub mod senses;

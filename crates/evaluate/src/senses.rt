@@ -4,32 +4,23 @@ ghost use Prim.Native.Nat.{_+_, _/_, _≤_, _<_};
 ghost use lib.ListN.{length};
 ghost use Rattle.list.specs.Interval.{top};
 ghost use Rattle.list.specs.Sense.{Steady};
-ghost use Rattle.index.specs.Sound.{Sound};
 ghost use Rattle.evaluate.specs.Slots.{slotHas, ReadBy};
 ghost use Rattle.evaluate.specs.Senses.{untilOf, insideOf, inIt, Sensed, Known, Renewed};
+use crate::hints::hint_of;
+use crate::hints::keep_hint;
 use index::find::word_count;
 use index::parts::lower_of;
 use index::parts::singles_of;
 use index::parts::upper_of;
 use list::END;
-use list::PairAt;
-use list::Place;
-use list::SingleAt;
 use list::reading::place_of;
 use list::sense::Sense;
 use list::sense::sense_at;
 
-// What the word of slot k says of record x; ps and qs keep where its list is read on.
-fn look_slot(
-    index: &[u8],
-    entries: &[usize],
-    k: usize,
-    x: u32,
-    ps: &mut [usize],
-    qs: &mut [usize],
-) -> Sense
-    requires { ⌜ Sound (now index) × (k < length (now entries)) × (k < length (now ps)) × (k < length (now qs)) × (x ≤ 16777215) ⌝ }
-    ensures hints { λ r. ⌜ (length (now (ps .exit)) ≡ length (now (ps .entry))) × (length (now (qs .exit)) ≡ length (now (qs .entry))) ⌝ }
+// What the word of slot k says of record x; its hint keeps where the list is read on.
+fn look_slot(index: &[u8], entries: &[usize], k: usize, x: u32, hints: &mut [usize]) -> Sense
+    requires { ⌜ ReadBy (now index) (now entries) (now hints) × (k < 16) × (x ≤ 16777215) ⌝ }
+    ensures keeps { λ r. ⌜ length (now (hints .exit)) ≡ length (now (hints .entry)) ⌝ }
     ensures steady { λ r. ⌜ Steady (slotHas (now (index .entry)) (now (entries .entry)) k) x (r .inside) (r .until) ⌝ }
 {
     let entry = entries[k];
@@ -42,15 +33,8 @@ fn look_slot(
     let singles = singles_of(index, entry);
     let lower = lower_of(index, entry);
     let upper = upper_of(index, entry);
-    let hint = Place {
-        p: SingleAt(ps[k]),
-        q: PairAt(qs[k]),
-    };
-    let at = place_of(singles, upper, hint, x);
-    let p = at.p;
-    let q = at.q;
-    ps[k] = p.0;
-    qs[k] = q.0;
+    let at = place_of(singles, upper, hint_of(hints, k), x);
+    keep_hint(hints, k, at);
     sense_at(singles, lower, upper, at, x)
 }
 
@@ -84,20 +68,19 @@ fn renew_sense(
     entries: &[usize],
     k: usize,
     x: u32,
-    ps: &mut [usize],
-    qs: &mut [usize],
+    hints: &mut [usize],
     senses: &mut [u32],
 )
-    requires lends { ⌜ ReadBy (now index) (now entries) (now ps) (now qs) × (length (now senses) ≡ 16) ⌝ }
+    requires lends { ⌜ ReadBy (now index) (now entries) (now hints) × (length (now senses) ≡ 16) ⌝ }
     requires within { ⌜ (k < 16) × (x ≤ 16777215) ⌝ }
     requires sensed { ⌜ Sensed (slotHas (now index) (now entries)) (now senses) x ⌝ }
-    ensures hints { λ _. ⌜ (length (now (ps .exit)) ≡ length (now (ps .entry))) × (length (now (qs .exit)) ≡ length (now (qs .entry))) ⌝ }
+    ensures keeps { λ _. ⌜ length (now (hints .exit)) ≡ length (now (hints .entry)) ⌝ }
     ensures renews { λ _. ⌜ Renewed (slotHas (now (index .entry)) (now (entries .entry))) x k (now (senses .entry)) (now (senses .exit)) ⌝ }
 {
     if x < senses[k] / 2 {
         return;
     }
-    senses[k] = pack(look_slot(index, entries, k, x, ps, qs));
+    senses[k] = pack(look_slot(index, entries, k, x, hints));
 }
 
 // Renews the senses of the first `slots` slots, so that each of them is known at x.
@@ -106,20 +89,19 @@ pub fn renew_senses(
     entries: &[usize],
     slots: usize,
     x: u32,
-    ps: &mut [usize],
-    qs: &mut [usize],
+    hints: &mut [usize],
     senses: &mut [u32],
 )
-    requires lends { ⌜ ReadBy (now index) (now entries) (now ps) (now qs) × (length (now senses) ≡ 16) ⌝ }
+    requires lends { ⌜ ReadBy (now index) (now entries) (now hints) × (length (now senses) ≡ 16) ⌝ }
     requires within { ⌜ (slots ≤ 16) × (x ≤ 16777215) ⌝ }
     requires sensed { ⌜ Sensed (slotHas (now index) (now entries)) (now senses) x ⌝ }
-    ensures hints { λ _. ⌜ (length (now (ps .exit)) ≡ length (now (ps .entry))) × (length (now (qs .exit)) ≡ length (now (qs .entry))) × (length (now (senses .exit)) ≡ length (now (senses .entry))) ⌝ }
+    ensures keeps { λ _. ⌜ (length (now (hints .exit)) ≡ length (now (hints .entry))) × (length (now (senses .exit)) ≡ length (now (senses .entry))) ⌝ }
     ensures sensed { λ _. ⌜ Sensed (slotHas (now (index .entry)) (now (entries .entry))) (now (senses .exit)) x ⌝ }
     ensures known { λ _. ⌜ Known (slotHas (now (index .entry)) (now (entries .entry))) (now (senses .exit)) slots x ⌝ }
 {
     let mut k = 0;
     while k < slots {
-        renew_sense(index, entries, k, x, ps, qs, senses);
+        renew_sense(index, entries, k, x, hints, senses);
         k += 1;
     }
 }

@@ -48,9 +48,9 @@ tree-words codes t o =
     sym (ap length (w .0 ∙ append-nil (wordsOf t))) ∙ sym (codes-words (o .toks)) ∙ ap wordCodes (o .are)
 
 module _ (codes index entries : List ℕ) (t : Tree) (o : TreeOf codes t) where
-  pub tree-holds : (x : ℕ) (ps qs ws ps′ qs′ ws′ : List ℕ) (r : Step) →
-      Evaluated (λ f. question fromLeft f 8 0) codes 0 0 index entries x ps qs ws ps′ qs′ ws′ r → Holds (testOf index entries t) x ws′
-  tree-holds x ps qs ws ps′ qs′ ws′ r e = e .reads (o .fuel) (o .toks) t [] (o .words) (o .are) (o .reads) .4
+  pub tree-holds : (x : ℕ) (hints ws hints′ ws′ : List ℕ) (r : Step) →
+      Evaluated (λ f. question fromLeft f 8 0) codes 0 0 index entries x hints ws hints′ ws′ r → Holds (testOf index entries t) x ws′
+  tree-holds x hints ws hints′ ws′ r e = e .reads (o .fuel) (o .toks) t [] (o .words) (o .are) (o .reads) .4
 
   pub tree-steady : (slots x : ℕ) (senses : List ℕ) (r : Look) → slots ≡ wordCodes codes → Known (slotHas index entries) senses slots x →
       Looks (λ f. question fromLeft f 8 0) codes 0 0 senses r → Steady (testOf index entries t) x (r .inside) (r .until)

@@ -48,9 +48,8 @@ abbrev pub testOf : List ℕ → List ℕ → Tree → ℕ → Bool
 testOf index entries t = slotFits (slotHas index entries) t 0
 
 -- the hints are moved, and nothing else is said of them
-pub record Kept (ps qs ws ps′ qs′ ws′ : List ℕ) : Type 0 where
-  pub ps-long : length ps′ ≡ length ps
-  pub qs-long : length qs′ ≡ length qs
+pub record Kept (hints ws hints′ ws′ : List ℕ) : Type 0 where
+  pub hints-long : length hints′ ≡ length hints
   pub ws-long : length ws′ ≡ length ws
 
 -- what is kept of the slots before record x: a sense of each, and the first `slots` are those of the question's words

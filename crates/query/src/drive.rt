@@ -56,22 +56,21 @@ fn take_window(
     index: &[u8],
     entries: &[usize],
     x: u32,
-    ps: &mut [usize],
-    qs: &mut [usize],
+    hints: &mut [usize],
     ws: &mut [u64],
     k: usize,
     records: usize,
     writing: bool,
     out: &mut [u32],
 ) -> Done
-    requires lends { ⌜ ReadBy (now index) (now entries) (now ps) (now qs) ⌝ }
+    requires lends { ⌜ ReadBy (now index) (now entries) (now hints) ⌝ }
     requires within { ⌜ (1 ≤ length (now ws)) × (length (now ws) ≤ 128) × (1 ≤ x) × (x ≤ 16777215) × (k < 4294967296) × (records < 4294967296) ⌝ }
     requires room { ⌜ Roomy (now codes) (now index) (now entries) x writing k (now out) ⌝ }
-    ensures keeps { λ _. ⌜ Kept (now (ps .entry)) (now (qs .entry)) (now (ws .entry)) (now (ps .exit)) (now (qs .exit)) (now (ws .exit)) ⌝ }
+    ensures keeps { λ _. ⌜ Kept (now (hints .entry)) (now (ws .entry)) (now (hints .exit)) (now (ws .exit)) ⌝ }
     ensures steps { λ r. ⌜ ((t : Tree) → TreeOf (now (codes .entry)) t → Stepped (testOf (now (index .entry)) (now (entries .entry)) t) x (64 * length (now (ws .entry))) writing k records (now (out .entry)) (now (out .exit)) (r .cells) (r .records)) ⌝ }
 {
     clear(ws);
-    eval_level(codes, 0, 0, 8, index, entries, x, ps, qs, ws);
+    eval_level(codes, 0, 0, 8, index, entries, x, hints, ws);
     let cells = put_flips(ws, x, k, writing, out);
     Done {
         cells,
@@ -86,17 +85,16 @@ fn look_at(
     entries: &[usize],
     slots: usize,
     x: u32,
-    ps: &mut [usize],
-    qs: &mut [usize],
+    hints: &mut [usize],
     senses: &mut [u32],
 ) -> Look
-    requires lends { ⌜ ReadBy (now index) (now entries) (now ps) (now qs) × (x ≤ 16777215) ⌝ }
+    requires lends { ⌜ ReadBy (now index) (now entries) (now hints) × (x ≤ 16777215) ⌝ }
     requires slotted { ⌜ Slotted (now codes) (now index) (now entries) (now senses) slots x ⌝ }
-    ensures hints { λ _. ⌜ (length (now (ps .exit)) ≡ length (now (ps .entry))) × (length (now (qs .exit)) ≡ length (now (qs .entry))) × (length (now (senses .exit)) ≡ length (now (senses .entry))) ⌝ }
+    ensures keeps { λ _. ⌜ (length (now (hints .exit)) ≡ length (now (hints .entry))) × (length (now (senses .exit)) ≡ length (now (senses .entry))) ⌝ }
     ensures sensed { λ _. ⌜ Sensed (slotHas (now (index .entry)) (now (entries .entry))) (now (senses .exit)) x ⌝ }
     ensures steady { λ r. ⌜ ((t : Tree) → TreeOf (now (codes .entry)) t → Steady (testOf (now (index .entry)) (now (entries .entry)) t) x (r .inside) (r .until)) ⌝ }
 {
-    renew_senses(index, entries, slots, x, ps, qs, senses);
+    renew_senses(index, entries, slots, x, hints, senses);
     look_level(codes, 0, 0, 8, senses)
 }
 
@@ -108,24 +106,23 @@ fn step(
     slots: usize,
     n: u32,
     at: At,
-    ps: &mut [usize],
-    qs: &mut [usize],
+    hints: &mut [usize],
     senses: &mut [u32],
     ws: &mut [u64],
     writing: bool,
     out: &mut [u32],
 ) -> At
-    requires lends { ⌜ ReadBy (now index) (now entries) (now ps) (now qs) × (length (now ws) ≡ 128) ⌝ }
+    requires lends { ⌜ ReadBy (now index) (now entries) (now hints) × (length (now ws) ≡ 128) ⌝ }
     requires slotted { ⌜ Slotted (now codes) (now index) (now entries) (now senses) slots (at .x) ⌝ }
     requires stands { ⌜ Stands n at ⌝ }
     requires room { ⌜ Roomy (now codes) (now index) (now entries) (at .x) writing (at .cells) (now out) ⌝ }
-    ensures keeps { λ _. ⌜ Kept (now (ps .entry)) (now (qs .entry)) (now (ws .entry)) (now (ps .exit)) (now (qs .exit)) (now (ws .exit)) ⌝ }
+    ensures keeps { λ _. ⌜ Kept (now (hints .entry)) (now (ws .entry)) (now (hints .exit)) (now (ws .exit)) ⌝ }
     ensures sensed { λ r. ⌜ (length (now (senses .exit)) ≡ length (now (senses .entry))) × Sensed (slotHas (now (index .entry)) (now (entries .entry))) (now (senses .exit)) (r .x) ⌝ }
     ensures words { λ r. ⌜ (1 ≤ r .words) × (r .words ≤ 128) ⌝ }
     ensures moves { λ r. ⌜ ((t : Tree) → TreeOf (now (codes .entry)) t → Moved (testOf (now (index .entry)) (now (entries .entry)) t) n writing at (now (out .entry)) (now (out .exit)) r) ⌝ }
 {
     let x = at.x;
-    let sight = look_at(codes, index, entries, slots, x, ps, qs, senses);
+    let sight = look_at(codes, index, entries, slots, x, hints, senses);
     let y = smaller(sight.until, n + 1);
     if x + FAR <= y {
         let done = take_jump(sight.inside, x, y, at.cells, at.records, writing, out);
@@ -142,8 +139,7 @@ fn step(
         index,
         entries,
         x,
-        ps,
-        qs,
+        hints,
         &mut ws[0..words],
         at.cells,
         at.records,
@@ -165,14 +161,13 @@ fn sweep(
     entries: &[usize],
     slots: usize,
     n: u32,
-    ps: &mut [usize],
-    qs: &mut [usize],
+    hints: &mut [usize],
     senses: &mut [u32],
     ws: &mut [u64],
     writing: bool,
     out: &mut [u32],
 ) -> Tally
-    requires lends { ⌜ ReadBy (now index) (now entries) (now ps) (now qs) × (length (now ws) ≡ 128) × (n ≡ highest (now index)) ⌝ }
+    requires lends { ⌜ ReadBy (now index) (now entries) (now hints) × (length (now ws) ≡ 128) × (n ≡ highest (now index)) ⌝ }
     requires slotted { ⌜ Slotted (now codes) (now index) (now entries) (now senses) slots 1 ⌝ }
     requires room { ⌜ Fits (now codes) (now index) (now entries) n writing (now out) ⌝ }
     ensures { λ r. ⌜ ((t : Tree) → TreeOf (now (codes .entry)) t → Tallied (testOf (now (index .entry)) (now (entries .entry)) t) n writing (now (out .entry)) (now (out .exit)) r) ⌝ }
@@ -191,8 +186,7 @@ fn sweep(
             slots,
             n,
             at,
-            ps,
-            qs,
+            hints,
             senses,
             ws,
             writing,
@@ -221,8 +215,7 @@ pub fn sweep_question(
     requires room { ⌜ Fits (now codes) (now index) (now entries) n writing (now out) ⌝ }
     ensures { λ r. ⌜ ((t : Tree) → TreeOf (now (codes .entry)) t → Tallied (testOf (now (index .entry)) (now (entries .entry)) t) n writing (now (out .entry)) (now (out .exit)) r) ⌝ }
 {
-    let mut ps: [usize; 16] = [0; 16];
-    let mut qs: [usize; 16] = [0; 16];
+    let mut hints: [usize; 32] = [0; 32];
     let mut senses: [u32; 16] = [0; 16];
     let mut ws: [u64; 128] = [0; 128];
     sweep(
@@ -231,8 +224,7 @@ pub fn sweep_question(
         entries,
         slots,
         n,
-        &mut ps,
-        &mut qs,
+        &mut hints,
         &mut senses,
         &mut ws,
         writing,

@@ -29,30 +29,30 @@ use Rattle.evaluate.proofs.fill.fill_slot.Reads as fill-slot-reads
 use Rattle.evaluate.proofs.eval.+eval_level+eval_operand.{statement}
 use Rattle.evaluate.proofs.eval.+eval_level+eval_operand.Tie.{close}
 
-abbrev μ-eval-level : Measures 6 eval-level-kinds.ps ℕ
+abbrev μ-eval-level : Measures 5 eval-level-kinds.ps ℕ
 μ-eval-level κs a = 2 * (a .1 .1 .1 .0) + 1
 
-abbrev μ-eval-operand : Measures 6 eval-operand-kinds.ps ℕ
+abbrev μ-eval-operand : Measures 5 eval-operand-kinds.ps ℕ
 μ-eval-operand κs a = 2 * (a .1 .1 .1 .0)
 
-abbrev eval-level-at : ℕ → In 6 eval-level-kinds.ps
+abbrev eval-level-at : ℕ → In 5 eval-level-kinds.ps
 eval-level-at t =
-    and 6 eval-level-kinds.ps (is 6 eval-level-kinds.ps μ-eval-level t) eval-level.Pre
+    and 5 eval-level-kinds.ps (is 5 eval-level-kinds.ps μ-eval-level t) eval-level.Pre
 
-abbrev eval-level-below : ℕ → In 6 eval-level-kinds.ps
+abbrev eval-level-below : ℕ → In 5 eval-level-kinds.ps
 eval-level-below t =
-    and 6 eval-level-kinds.ps (falls 6 eval-level-kinds.ps _<_ μ-eval-level t) eval-level.Pre
+    and 5 eval-level-kinds.ps (falls 5 eval-level-kinds.ps _<_ μ-eval-level t) eval-level.Pre
 
-abbrev eval-operand-at : ℕ → In 6 eval-operand-kinds.ps
+abbrev eval-operand-at : ℕ → In 5 eval-operand-kinds.ps
 eval-operand-at t =
-    and 6 eval-operand-kinds.ps (is 6 eval-operand-kinds.ps μ-eval-operand t) eval-operand.Pre
+    and 5 eval-operand-kinds.ps (is 5 eval-operand-kinds.ps μ-eval-operand t) eval-operand.Pre
 
-abbrev eval-operand-below : ℕ → In 6 eval-operand-kinds.ps
+abbrev eval-operand-below : ℕ → In 5 eval-operand-kinds.ps
 eval-operand-below t =
     and
-    6
+    5
     eval-operand-kinds.ps
-    (falls 6 eval-operand-kinds.ps _<_ μ-eval-operand t)
+    (falls 5 eval-operand-kinds.ps _<_ μ-eval-operand t)
     eval-operand.Pre
 
 -- what the calls of each promise
@@ -63,47 +63,46 @@ abbrev operand-claims : ℕ → eval-operand-lts.Claims
 operand-claims t = (code-at-reads.Asked, code-at-reads.Learnt, fill-slot-reads.Asked, fill-slot-reads.Learnt, eval-level-below t, eval-level.Post)
 
 abbrev eval-level-Inv-loop : eval-level-lts.InvT-loop
-eval-level-Inv-loop codes i k d index entries base ps₀ qs₀ ws₀ at₀ slot₀ n ps qs ws at slot =
+eval-level-Inv-loop codes i k d index entries base hints₀ ws₀ at₀ slot₀ n hints ws at slot =
     (i ≤ at)
     × (at ≤ length codes)
-    × (length ps ≡ 16)
-    × (length qs ≡ 16)
+    × (length hints ≡ 32)
     × (length ws ≡ length ws₀)
     × Level codes d k i at slot (λ t. Holds (slotFits (slotHas index entries) t k) base ws)
 
 abbrev eval-level-μ-loop : eval-level-lts.MeasureT-loop
-eval-level-μ-loop codes i k d index entries base ps₀ qs₀ ws₀ at₀ slot₀ n ps qs ws at slot = length codes - at
+eval-level-μ-loop codes i k d index entries base hints₀ ws₀ at₀ slot₀ n hints ws at slot = length codes - at
 
 -- where the loop goes on an operator stands
 abbrev GoesOn : ℕ → Type 0
 GoesOn t = eval-level-lts.Else1 (level-claims t) (eval-level-at t) eval-level.Post eval-level-Inv-loop eval-level-μ-loop
 
 operator-here : (t : ℕ) (c : GoesOn t) → let code = c .before .before .code-at .result in
-    (code ≡ opCode (opOf code)) × (c .before .before .before .loop .at < length (c .before .before .before .before .before .before .before .before .before .before .before .before .before .before .before .before .before .before .before .before .args .codes .now))
+    (code ≡ opCode (opOf code)) × (c .before .before .before .loop .at < length (c .before .before .before .before .before .before .before .before .before .before .before .before .before .before .before .before .args .codes .now))
 operator-here t c =
     let code = c .before .before .code-at in
     let is = operator-code (code .result) (sym (c .before .is-operator .ensures) ∙ not-false (c .before .is-operator .result) (c .if1 .left)) in
-    (is, code-within (c .before .before .before .before .before .before .before .before .before .before .before .before .before .before .before .before .before .before .before .before .args .codes .now) (c .before .before .before .loop .at) (let r = op-range (opOf (code .result)) in let w = code .ensures in omega arith))
+    (is, code-within (c .before .before .before .before .before .before .before .before .before .before .before .before .before .before .before .before .args .codes .now) (c .before .before .before .loop .at) (let r = op-range (opOf (code .result)) in let w = code .ensures in omega arith))
 
 -- the window of the right side is as long as the left one
 abbrev RightRead : ℕ → Type 0
 RightRead t = eval-level-lts.After-eval-operand2 (level-claims t) (eval-level-at t) eval-level.Post eval-level-Inv-loop eval-level-μ-loop
 
 abbrev right : (t : ℕ) → RightRead t → List ℕ
-right t c = c .eval-operand2 .last .1 .1 .1 .1 .1 .1 .1 .1 .1 .0
+right t c = c .eval-operand2 .last .1 .1 .1 .1 .1 .1 .1 .1 .0
 
 abbrev size : (t : ℕ) → RightRead t → ℕ
-size t c = length (c .before .before .before .before .before .before .before .before .before .before .before .before .before .before .eval-operand .last .1 .1 .1 .1 .1 .1 .1 .1 .1 .0)
+size t c = length (c .before .before .before .before .before .before .before .before .before .before .before .eval-operand .last .1 .1 .1 .1 .1 .1 .1 .1 .0)
 
 right-long : (t : ℕ) (c : RightRead t) → length (right t c) ≡ size t c - 0
 right-long t c =
-    let e = c .before .before .before .before .before .before .before .before .before .before .before .before .before .before .eval-operand .ensures .ws-long in
-    let z = c .before .before .before .before .before .before .before .before .before .before .before .before .before .before .before .before .before .before .before .before .before .before .before .before .pre .1 .size in
+    let e = c .before .before .before .before .before .before .before .before .before .before .before .eval-operand .ensures .ws-long in
+    let z = c .before .before .before .before .before .before .before .before .before .before .before .before .before .before .before .before .before .before .before .pre .1 .size in
     c .eval-operand2 .ensures .ws-long ∙ length-take-le (size t c - 0) (replicate 128 0) (omega arith)
 
 eval-level-eval-operand-requires : (t : ℕ) → eval-level-lts.Need-eval-operand-requires (level-claims t) (eval-level-at t) eval-level.Post eval-level-Inv-loop eval-level-μ-loop
 eval-level-eval-operand-requires t c κs =
-    let st = c .before .before .before .before .before .before .before .before .before in
+    let st = c .before .before .before .before .before .before .before in
     let a = st .args in
     let p = st .pre .1 in
     let m = st .pre .0 in
@@ -111,15 +110,14 @@ eval-level-eval-operand-requires t c κs =
 
 eval-level-loop-holds : (t : ℕ) → eval-level-lts.Need-loop-holds (level-claims t) (eval-level-at t) eval-level.Post eval-level-Inv-loop eval-level-μ-loop
 eval-level-loop-holds t c =
-    let st = c .before .before .before .before .before .before .before .before .before .before .before .before .before .before .before .before in
+    let st = c .before .before .before .before .before .before .before .before .before .before .before .before in
     let a = st .args in
     let p = st .pre .1 in
-    let first = c .before .before .before .before .before .before .eval-operand in
+    let first = c .before .before .before .before .eval-operand in
     let e = first .ensures in (
       e .ahead,
       e .inside,
-      e .ps-long ∙ p .ps-long,
-      e .qs-long ∙ p .qs-long,
+      e .hints-long ∙ p .lent .hints-long,
       refl,
       level-start (a .codes .now) (a .d) (a .k) (a .i) (first .result .code) (first .result .slot) _ (e .reads),
     )
@@ -132,24 +130,17 @@ eval-level-is-operator-requires t c κs = search needs
 
 eval-level-same-length : (t : ℕ) → eval-level-lts.Need-same-length (level-claims t) (eval-level-at t) eval-level.Post eval-level-Inv-loop eval-level-μ-loop
 eval-level-same-length t c =
-    let st = c .before .before .before .before .before .before .before .before .before .before .before .before .before .before .before .before .before .before .before .before in
+    let st = c .before .before .before .before .before .before .before .before .before .before .before .before .before .before .before .before in
     let a = st .args in
     let p = st .pre .1 in
-    c .before .before .before .loop .inv .2 ∙ sym (p .ps-long)
+    c .before .before .before .loop .inv .2 ∙ sym (p .lent .hints-long)
 
 eval-level-same-length-2 : (t : ℕ) → eval-level-lts.Need-same-length-2 (level-claims t) (eval-level-at t) eval-level.Post eval-level-Inv-loop eval-level-μ-loop
-eval-level-same-length-2 t c =
-    let st = c .before .before .before .before .before .before .before .before .before .before .before .before .before .before .before .before .before .before .before .before in
-    let a = st .args in
-    let p = st .pre .1 in
-    c .before .before .before .loop .inv .3 ∙ sym (p .qs-long)
-
-eval-level-same-length-3 : (t : ℕ) → eval-level-lts.Need-same-length-3 (level-claims t) (eval-level-at t) eval-level.Post eval-level-Inv-loop eval-level-μ-loop
-eval-level-same-length-3 t c = c .before .before .before .loop .inv .4 ∙ c .before .before .before .before .before .before .before .before .before .before .eval-operand .ensures .ws-long
+eval-level-same-length-2 t c = c .before .before .before .loop .inv .3 ∙ c .before .before .before .before .before .before .before .before .eval-operand .ensures .ws-long
 
 eval-level-returns : (t : ℕ) → eval-level-lts.Need-returns (level-claims t) (eval-level-at t) eval-level.Post eval-level-Inv-loop eval-level-μ-loop
 eval-level-returns t c =
-    let st = c .before .before .before .before .before .before .before .before .before .before .before .before .before .before .before .before .before .before .before .before in
+    let st = c .before .before .before .before .before .before .before .before .before .before .before .before .before .before .before .before in
     let a = st .args in
     let p = st .pre .1 in
     let l = c .before .before .before .loop in
@@ -157,17 +148,16 @@ eval-level-returns t c =
     record {
       ahead = l .inv .0;
       inside = l .inv .1;
-      ps-long = l .inv .2 ∙ sym (p .ps-long);
-      qs-long = l .inv .3 ∙ sym (p .qs-long);
-      ws-long = l .inv .4 ∙ c .before .before .before .before .before .before .before .before .before .before .eval-operand .ensures .ws-long;
-      reads = level-end (a .codes .now) (a .d) (a .k) (a .i) (l .at) (l .slot) _ (l .inv .5)
+      hints-long = l .inv .2 ∙ sym (p .lent .hints-long);
+      ws-long = l .inv .3 ∙ c .before .before .before .before .before .before .before .before .eval-operand .ensures .ws-long;
+      reads = level-end (a .codes .now) (a .d) (a .k) (a .i) (l .at) (l .slot) _ (l .inv .4)
           (λ o h. operator-none (code .result) (sym (c .before .is-operator .ensures) ∙ not-true (c .before .is-operator .result) (c .if1 .taken)) o (code .ensures ∙ h));
     }
 
 eval-level-add-eval-operand : (t : ℕ) → eval-level-lts.Need-add-eval-operand (level-claims t) (eval-level-at t) eval-level.Post eval-level-Inv-loop eval-level-μ-loop
 eval-level-add-eval-operand t c =
     let here = operator-here t c .1 in
-    let b = c .before .before .before .before .before .before .before .before .before .before .before .before .before .before .before .before .before .before .before .before .good in
+    let b = c .before .before .before .before .before .before .before .before .before .before .before .before .before .before .before .before .good in
     omega arith
 
 eval-level-sub-eval-operand : (t : ℕ) → eval-level-lts.Need-sub-eval-operand (level-claims t) (eval-level-at t) eval-level.Post eval-level-Inv-loop eval-level-μ-loop
@@ -178,31 +168,28 @@ eval-level-part-other-start t c = omega arith
 
 eval-level-part-other-end : (t : ℕ) → eval-level-lts.Need-part-other-end (level-claims t) (eval-level-at t) eval-level.Post eval-level-Inv-loop eval-level-μ-loop
 eval-level-part-other-end t c =
-    let st = c .before .before .before .before .before .before .before .before .before .before .before .before .before .before .before .before .before .before .before .before .before .before in
+    let st = c .before .before .before .before .before .before .before .before .before .before .before .before .before .before .before .before .before in
     let a = st .args in
     let p = st .pre .1 in
-    let e = c .before .before .before .before .before .before .before .before .before .before .before .before .eval-operand .ensures .ws-long in
+    let e = c .before .before .before .before .before .before .before .before .before .eval-operand .ensures .ws-long in
     let z = p .size in
     omega arith
 
 eval-level-eval-operand-requires-2 : (t : ℕ) → eval-level-lts.Need-eval-operand-requires-2 (level-claims t) (eval-level-at t) eval-level.Post eval-level-Inv-loop eval-level-μ-loop
 eval-level-eval-operand-requires-2 t c κs =
-    let st = c .before .before .before .before .before .before .before .before .before .before .before .before .before .before .before .before .before .before .before .before .before .before .before in
+    let st = c .before .before .before .before .before .before .before .before .before .before .before .before .before .before .before .before .before .before in
     let a = st .args in
     let p = st .pre .1 in
-    let l = c .before .before .before .before .before .before .loop in
-    let here = operator-here t (c .before .before .before) .1 in
-    let n = length (c .before .before .before .before .before .before .before .before .before .before .before .before .before .eval-operand .last .1 .1 .1 .1 .1 .1 .1 .1 .1 .0) in
-    let e = c .before .before .before .before .before .before .before .before .before .before .before .before .before .eval-operand .ensures .ws-long in
+    let l = c .before .before .before .before .before .loop in
+    let here = operator-here t (c .before .before) .1 in
+    let n = length (c .before .before .before .before .before .before .before .before .before .before .eval-operand .last .1 .1 .1 .1 .1 .1 .1 .1 .0) in
+    let e = c .before .before .before .before .before .before .before .before .before .before .eval-operand .ensures .ws-long in
     let z = p .size in
     let m = st .pre .0 in (
       omega arith,
       record {
-        sound = p .sound;
+        lent = record { sound = p .lent .sound; entries-long = p .lent .entries-long; hints-long = l .inv .2 };
         inside = omega arith;
-        entries-long = p .entries-long;
-        ps-long = l .inv .2;
-        qs-long = l .inv .3;
         blank = front-blank (n - 0) 128;
         size = rw (length-take-le {A = ℕ} (n - 0) (replicate 128 0) (omega arith)) (omega arith);
         near = p .near;
@@ -217,53 +204,52 @@ eval-level-part-combine-into-start t c = omega arith
 
 eval-level-part-combine-into-end : (t : ℕ) → eval-level-lts.Need-part-combine-into-end (level-claims t) (eval-level-at t) eval-level.Post eval-level-Inv-loop eval-level-μ-loop
 eval-level-part-combine-into-end t c =
-    let st = c .before .before .before .before .before .before .before .before .before .before .before .before .before .before .before .before .before .before .before .before .before .before .before .before .before .before .before .before .before .before .before in
+    let st = c .before .before .before .before .before .before .before .before .before .before .before .before .before .before .before .before .before .before .before .before .before .before .before .before in
     let a = st .args in
     let p = st .pre .1 in
-    let read = c .before .before .before .before .before .before .before in
-    let e = c .before .before .before .before .before .before .before .before .before .before .before .before .before .before .before .before .before .before .before .before .before .eval-operand .ensures .ws-long in
+    let read = c .before .before .before .before .before in
+    let e = c .before .before .before .before .before .before .before .before .before .before .before .before .before .before .before .before .eval-operand .ensures .ws-long in
     let z = p .size in
     let whole : length (right t read ++ drop (size t read - 0) (replicate 128 0)) ≡ 128 = same-len-mid 0 (size t read - 0) (replicate 128 0) (right t read) (read .eval-operand2 .ensures .ws-long) in
     omega arith
 
 eval-level-combine-into-requires : (t : ℕ) → eval-level-lts.Need-combine-into-requires (level-claims t) (eval-level-at t) eval-level.Post eval-level-Inv-loop eval-level-μ-loop
 eval-level-combine-into-requires t c κs =
-    let l = c .before .before .before .before .before .before .before .before .before .before .before .before .before .before .before .loop in
-    let read = c .before .before .before .before .before .before .before .before in
+    let l = c .before .before .before .before .before .before .before .before .before .before .before .before .loop in
+    let read = c .before .before .before .before .before .before in
     let long = right-long t read in
-    let w = l .inv .4 in
+    let w = l .inv .3 in
     ap length (front-back (size t read - 0) (right t read) _ long) ∙ (let q : length (right t read) ≡ length (l .ws) = omega arith in q)
 
 eval-level-loop-less : (t : ℕ) → eval-level-lts.Need-loop-less (level-claims t) (eval-level-at t) eval-level.Post eval-level-Inv-loop eval-level-μ-loop
 eval-level-loop-less t c =
-    let here = operator-here t (c .before .before .before .before .before .before .before .before .before .before .before .before .before .before .before) .1 in
-    let e = c .before .before .before .before .before .before .before .before .before .before .before .eval-operand2 .ensures in
+    let here = operator-here t (c .before .before .before .before .before .before .before .before .before .before .before .before) .1 in
+    let e = c .before .before .before .before .before .before .before .before .before .eval-operand2 .ensures in
     let x = e .ahead in
     let y = e .inside in
     omega arith
 
 eval-level-loop-again : (t : ℕ) → eval-level-lts.Need-loop-again (level-claims t) (eval-level-at t) eval-level.Post eval-level-Inv-loop eval-level-μ-loop
 eval-level-loop-again t c =
-    let st = c .before .before .before .before .before .before .before .before .before .before .before .before .before .before .before .before .before .before .before .before .before .before .before .before .before .before .before .before .before .before .before .before .before .before .before in
+    let st = c .before .before .before .before .before .before .before .before .before .before .before .before .before .before .before .before .before .before .before .before .before .before .before .before .before .before .before .before in
     let a = st .args in
     let p = st .pre .1 in
-    let l = c .before .before .before .before .before .before .before .before .before .before .before .before .before .before .before .before .before .before .loop in
-    let code = c .before .before .before .before .before .before .before .before .before .before .before .before .before .before .before .before .before .code-at in
-    let read = c .before .before .before .before .before .before .before .before .before .before .before in
+    let l = c .before .before .before .before .before .before .before .before .before .before .before .before .before .before .before .loop in
+    let code = c .before .before .before .before .before .before .before .before .before .before .before .before .before .before .code-at in
+    let read = c .before .before .before .before .before .before .before .before .before in
     let r = read .eval-operand2 in
     let f = r .ensures in
     let long = right-long t read in
     let both = rw (front-back (size t read - 0) (right t read) _ long) at (c .before .before .combine-into .ensures) in
-    let w = l .inv .4 in
+    let w = l .inv .3 in
     let x = f .ahead in
     let y = l .inv .0 in (
       omega arith,
       f .inside,
-      f .ps-long ∙ l .inv .2,
-      f .qs-long ∙ l .inv .3,
+      f .hints-long ∙ l .inv .2,
       both .long ∙ w,
       level-step (a .codes .now) (a .d) (a .k) (a .i) (l .at) (l .slot) (r .result .code) (r .result .slot) _ _ _ (opOf (code .result))
-          (sym (code .ensures) ∙ operator-here t (c .before .before .before .before .before .before .before .before .before .before .before .before .before .before .before) .0) (l .inv .5) (f .reads)
+          (sym (code .ensures) ∙ operator-here t (c .before .before .before .before .before .before .before .before .before .before .before .before) .0) (l .inv .4) (f .reads)
           (λ u v g h m. holds-pair (slotHas (a .index .now) (a .entries .now)) (a .k) (a .base) (opOf (code .result)) u v (l .slot) (l .ws) (right t read) _ g (omega arith) both h m),
     )
 
@@ -272,95 +258,89 @@ eval-operand-code-at-requires t c κs = search needs
 
 eval-operand-fill-slot-requires : (t : ℕ) → eval-operand-lts.Need-fill-slot-requires (operand-claims t) (eval-operand-at t) eval-operand.Post
 eval-operand-fill-slot-requires t c κs =
-    let st = c .before .before .before .before .before .before .before .before .before .before .before .before in
+    let st = c .before .before .before .before .before .before .before .before .before .before in
     let a = st .args in
     let p = st .pre .1 in
-    let h = c .before .before .before .if2 .taken in
-    (p .sound, h, omega arith, omega arith, p .size, p .near)
+    let h = c .before .before .if2 .taken in
+    (p .lent, omega (arith, p .lent .entries-long), p .size, p .near)
 
-eval-operand-add-t24 : (t : ℕ) → eval-operand-lts.Need-add-t24 (operand-claims t) (eval-operand-at t) eval-operand.Post
-eval-operand-add-t24 t c =
-    let st = c .before .before .before .before .before .before .before .before .before .before .before .before .before .before .before .before .before .before .before in
+eval-operand-add-t21 : (t : ℕ) → eval-operand-lts.Need-add-t21 (operand-claims t) (eval-operand-at t) eval-operand.Post
+eval-operand-add-t21 t c =
+    let st = c .before .before .before .before .before .before .before .before .before .before .before .before .before .before .before in
     let a = st .args in
     let p = st .pre .1 in
-    let code = c .before .before .before .before .before .before .before .before .before .before .before .before .code-at in
-    let z : getD (a .codes .now) (a .i) 6 ≡ 0 = sym (code .ensures) ∙ c .before .before .before .before .before .before .before .before .before .before .before .if1 .taken in
+    let code = c .before .before .before .before .before .before .before .before .before .code-at in
+    let z : getD (a .codes .now) (a .i) 6 ≡ 0 = sym (code .ensures) ∙ c .before .before .before .before .before .before .before .before .if1 .taken in
     let w = code-within (a .codes .now) (a .i) (omega arith) in
     let b = st .good in
     omega arith
 
-eval-operand-add-t25 : (t : ℕ) → eval-operand-lts.Need-add-t25 (operand-claims t) (eval-operand-at t) eval-operand.Post
-eval-operand-add-t25 t c =
-    let st = c .before .before .before .before .before .before .before .before .before .before .before .before .before .before .before .before .before .before .before in
+eval-operand-add-t22 : (t : ℕ) → eval-operand-lts.Need-add-t22 (operand-claims t) (eval-operand-at t) eval-operand.Post
+eval-operand-add-t22 t c =
+    let st = c .before .before .before .before .before .before .before .before .before .before .before .before .before .before .before in
     let a = st .args in
     let p = st .pre .1 in
-    let h = c .before .before .before .before .before .before .before .before .before .before .if2 .taken in
+    let h = c .before .before .before .before .before .before .before .if2 .taken in
     let b = st .good in
     omega arith
 
 eval-operand-same-length : (t : ℕ) → eval-operand-lts.Need-same-length (operand-claims t) (eval-operand-at t) eval-operand.Post
-eval-operand-same-length t c = c .before .before .before .before .before .before .fill-slot .ensures .0 .0
+eval-operand-same-length t c = c .before .before .before .before .fill-slot .ensures .0
 
 eval-operand-same-length-2 : (t : ℕ) → eval-operand-lts.Need-same-length-2 (operand-claims t) (eval-operand-at t) eval-operand.Post
-eval-operand-same-length-2 t c = c .before .before .before .before .before .before .fill-slot .ensures .0 .1
-
-eval-operand-same-length-3 : (t : ℕ) → eval-operand-lts.Need-same-length-3 (operand-claims t) (eval-operand-at t) eval-operand.Post
-eval-operand-same-length-3 t c = c .before .before .before .before .before .before .fill-slot .ensures .1 .long
+eval-operand-same-length-2 t c = c .before .before .before .before .fill-slot .ensures .1 .long
 
 eval-operand-returns : (t : ℕ) → eval-operand-lts.Need-returns (operand-claims t) (eval-operand-at t) eval-operand.Post
 eval-operand-returns t c =
-    let st = c .before .before .before .before .before .before .before .before .before .before .before .before .before .before .before .before .before .before .before in
+    let st = c .before .before .before .before .before .before .before .before .before .before .before .before .before .before .before in
     let a = st .args in
     let p = st .pre .1 in
-    let code = c .before .before .before .before .before .before .before .before .before .before .before .before .code-at in
-    let z : getD (a .codes .now) (a .i) 6 ≡ 0 = sym (code .ensures) ∙ c .before .before .before .before .before .before .before .before .before .before .before .if1 .taken in
+    let code = c .before .before .before .before .before .before .before .before .before .code-at in
+    let z : getD (a .codes .now) (a .i) 6 ≡ 0 = sym (code .ensures) ∙ c .before .before .before .before .before .before .before .before .if1 .taken in
     let w = code-within (a .codes .now) (a .i) (omega arith) in
-    let f = c .before .before .before .before .before .before .fill-slot .ensures in
+    let f = c .before .before .before .before .fill-slot .ensures in
     record {
       ahead = omega arith;
       inside = omega arith;
-      ps-long = f .0 .0;
-      qs-long = f .0 .1;
+      hints-long = f .0;
       ws-long = f .1 .long;
       reads = λ n. operand-word (a .codes .now) n (a .d) (a .k) (a .i) z _ (λ u. holds-word (slotHas (a .index .now) (a .entries .now)) (a .k) (a .base) u (a .ws .now) _ (p .blank) (f .1));
     }
 
 eval-operand-returns-2 : (t : ℕ) → eval-operand-lts.Need-returns-2 (operand-claims t) (eval-operand-at t) eval-operand.Post
 eval-operand-returns-2 t c =
-    let st = c .before .before .before .before .before .before .before .before .before in
+    let st = c .before .before .before .before .before .before .before .before in
     let a = st .args in
     let p = st .pre .1 in
     let code = c .before .before .code-at in
     let z : getD (a .codes .now) (a .i) 6 ≡ 0 = sym (code .ensures) ∙ c .before .if1 .taken in
     let h = c .if2 .left in
-    let w = p .entries-long in
+    let w = p .lent .entries-long in
     record {
       ahead = omega arith;
       inside = p .inside;
-      ps-long = refl;
-      qs-long = refl;
+      hints-long = refl;
       ws-long = refl;
       reads = λ n. operand-many (a .codes .now) n (a .d) (a .k) (a .i) z (a .i) (a .k) _ (omega arith);
     }
 
 eval-operand-returns-3 : (t : ℕ) → eval-operand-lts.Need-returns-3 (operand-claims t) (eval-operand-at t) eval-operand.Post
 eval-operand-returns-3 t c =
-    let st = c .before .before .before .before .before .before .before .before .before in
+    let st = c .before .before .before .before .before .before .before .before in
     let a = st .args in
     let p = st .pre .1 in
     let code = c .before .before .code-at in
     record {
       ahead = omega arith;
       inside = p .inside;
-      ps-long = refl;
-      qs-long = refl;
+      hints-long = refl;
       ws-long = refl;
       reads = λ n. operand-none (a .codes .now) n (a .d) (a .k) (a .i) (a .i) (a .k) _ (λ e. c .before .if1 .left (code .ensures ∙ e)) (λ e. c .if3 .taken (code .ensures ∙ e));
     }
 
 eval-operand-returns-4 : (t : ℕ) → eval-operand-lts.Need-returns-4 (operand-claims t) (eval-operand-at t) eval-operand.Post
 eval-operand-returns-4 t c =
-    let st = c .before .before .before .before .before .before .before .before .before .before in
+    let st = c .before .before .before .before .before .before .before .before .before in
     let a = st .args in
     let p = st .pre .1 in
     let code = c .before .before .before .code-at in
@@ -368,15 +348,14 @@ eval-operand-returns-4 t c =
     record {
       ahead = omega arith;
       inside = p .inside;
-      ps-long = refl;
-      qs-long = refl;
+      hints-long = refl;
       ws-long = refl;
       reads = λ n. operand-deep (a .codes .now) n (a .d) (a .k) (a .i) z (a .i) (a .k) _ (c .if4 .taken);
     }
 
 eval-operand-add-eval-level : (t : ℕ) → eval-operand-lts.Need-add-eval-level (operand-claims t) (eval-operand-at t) eval-operand.Post
 eval-operand-add-eval-level t c =
-    let st = c .before .before .before .before .before .before .before .before .before .before in
+    let st = c .before .before .before .before .before .before .before .before .before in
     let a = st .args in
     let p = st .pre .1 in
     let code = c .before .before .before .code-at in
@@ -390,21 +369,18 @@ eval-operand-sub-eval-level t c = search needs
 
 eval-operand-eval-level-requires : (t : ℕ) → eval-operand-lts.Need-eval-level-requires (operand-claims t) (eval-operand-at t) eval-operand.Post
 eval-operand-eval-level-requires t c κs =
-    let st = c .before .before .before .before .before .before .before .before .before .before .before .before .before in
+    let st = c .before .before .before .before .before .before .before .before .before .before .before in
     let a = st .args in
     let p = st .pre .1 in
-    let code = c .before .before .before .before .before .before .code-at in
-    let z : getD (a .codes .now) (a .i) 6 ≡ 4 = sym (code .ensures) ∙ c .before .before .before .before .if3 .left in
+    let code = c .before .before .before .before .before .code-at in
+    let z : getD (a .codes .now) (a .i) 6 ≡ 4 = sym (code .ensures) ∙ c .before .before .before .if3 .left in
     let w = code-within (a .codes .now) (a .i) (omega arith) in
     let m = st .pre .0 in
-    let h = positive (a .d) (c .before .before .before .if4 .left) in (
+    let h = positive (a .d) (c .before .before .if4 .left) in (
       omega arith,
       record {
-        sound = p .sound;
+        lent = p .lent;
         inside = omega arith;
-        entries-long = p .entries-long;
-        ps-long = p .ps-long;
-        qs-long = p .qs-long;
         blank = p .blank;
         size = p .size;
         near = omega arith;
@@ -414,40 +390,36 @@ eval-operand-eval-level-requires t c κs =
 eval-operand-code-at-requires-2 : (t : ℕ) → eval-operand-lts.Need-code-at-requires-2 (operand-claims t) (eval-operand-at t) eval-operand.Post
 eval-operand-code-at-requires-2 t c κs = search needs
 
+eval-operand-same-length-3 : (t : ℕ) → eval-operand-lts.Need-same-length-3 (operand-claims t) (eval-operand-at t) eval-operand.Post
+eval-operand-same-length-3 t c = c .before .before .before .before .before .before .eval-level .ensures .hints-long
+
 eval-operand-same-length-4 : (t : ℕ) → eval-operand-lts.Need-same-length-4 (operand-claims t) (eval-operand-at t) eval-operand.Post
-eval-operand-same-length-4 t c = c .before .before .before .before .before .before .before .before .eval-level .ensures .ps-long
-
-eval-operand-same-length-5 : (t : ℕ) → eval-operand-lts.Need-same-length-5 (operand-claims t) (eval-operand-at t) eval-operand.Post
-eval-operand-same-length-5 t c = c .before .before .before .before .before .before .before .before .eval-level .ensures .qs-long
-
-eval-operand-same-length-6 : (t : ℕ) → eval-operand-lts.Need-same-length-6 (operand-claims t) (eval-operand-at t) eval-operand.Post
-eval-operand-same-length-6 t c = c .before .before .before .before .before .before .before .before .eval-level .ensures .ws-long
+eval-operand-same-length-4 t c = c .before .before .before .before .before .before .eval-level .ensures .ws-long
 
 eval-operand-returns-5 : (t : ℕ) → eval-operand-lts.Need-returns-5 (operand-claims t) (eval-operand-at t) eval-operand.Post
 eval-operand-returns-5 t c =
-    let st = c .before .before .before .before .before .before .before .before .before .before .before .before .before .before .before .before .before .before .before .before .before .before in
+    let st = c .before .before .before .before .before .before .before .before .before .before .before .before .before .before .before .before .before .before in
     let a = st .args in
     let p = st .pre .1 in
-    let code = c .before .before .before .before .before .before .before .before .before .before .before .before .before .before .before .code-at in
-    let z : getD (a .codes .now) (a .i) 6 ≡ 4 = sym (code .ensures) ∙ c .before .before .before .before .before .before .before .before .before .before .before .before .before .if3 .left in
-    let r = c .before .before .before .before .before .before .before .before .eval-level in
+    let code = c .before .before .before .before .before .before .before .before .before .before .before .before .code-at in
+    let z : getD (a .codes .now) (a .i) 6 ≡ 4 = sym (code .ensures) ∙ c .before .before .before .before .before .before .before .before .before .before .if3 .left in
+    let r = c .before .before .before .before .before .before .eval-level in
     let e = r .ensures in
     let end = c .before .code-at2 in
     record {
       ahead = omega arith;
       inside = p .inside;
-      ps-long = e .ps-long;
-      qs-long = e .qs-long;
+      hints-long = e .hints-long;
       ws-long = e .ws-long;
       reads = λ n. operand-unclosed (a .codes .now) n (a .d) (a .k) (a .i) z (r .result .code) (r .result .slot) _ (e .reads) (a .i) (a .k) _ (λ h. c .if5 .taken (end .ensures ∙ h));
     }
 
-eval-operand-add-t27 : (t : ℕ) → eval-operand-lts.Need-add-t27 (operand-claims t) (eval-operand-at t) eval-operand.Post
-eval-operand-add-t27 t c =
-    let st = c .before .before .before .before .before .before .before .before .before .before .before .before .before .before .before .before .before .before .before .before .before .before in
+eval-operand-add-t24 : (t : ℕ) → eval-operand-lts.Need-add-t24 (operand-claims t) (eval-operand-at t) eval-operand.Post
+eval-operand-add-t24 t c =
+    let st = c .before .before .before .before .before .before .before .before .before .before .before .before .before .before .before .before .before .before in
     let a = st .args in
     let p = st .pre .1 in
-    let r = c .before .before .before .before .before .before .before .before .eval-level in
+    let r = c .before .before .before .before .before .before .eval-level in
     let e = r .ensures in
     let end = c .before .code-at2 in
     let y : getD (a .codes .now) (r .result .code) 6 ≡ 5 = sym (end .ensures) ∙ c .if5 .left in
@@ -455,23 +427,20 @@ eval-operand-add-t27 t c =
     let b = st .good in
     omega arith
 
-eval-operand-same-length-7 : (t : ℕ) → eval-operand-lts.Need-same-length-7 (operand-claims t) (eval-operand-at t) eval-operand.Post
-eval-operand-same-length-7 t c = c .before .before .before .before .before .before .before .before .eval-level .ensures .ps-long
+eval-operand-same-length-5 : (t : ℕ) → eval-operand-lts.Need-same-length-5 (operand-claims t) (eval-operand-at t) eval-operand.Post
+eval-operand-same-length-5 t c = c .before .before .before .before .before .before .eval-level .ensures .hints-long
 
-eval-operand-same-length-8 : (t : ℕ) → eval-operand-lts.Need-same-length-8 (operand-claims t) (eval-operand-at t) eval-operand.Post
-eval-operand-same-length-8 t c = c .before .before .before .before .before .before .before .before .eval-level .ensures .qs-long
-
-eval-operand-same-length-9 : (t : ℕ) → eval-operand-lts.Need-same-length-9 (operand-claims t) (eval-operand-at t) eval-operand.Post
-eval-operand-same-length-9 t c = c .before .before .before .before .before .before .before .before .eval-level .ensures .ws-long
+eval-operand-same-length-6 : (t : ℕ) → eval-operand-lts.Need-same-length-6 (operand-claims t) (eval-operand-at t) eval-operand.Post
+eval-operand-same-length-6 t c = c .before .before .before .before .before .before .eval-level .ensures .ws-long
 
 eval-operand-returns-6 : (t : ℕ) → eval-operand-lts.Need-returns-6 (operand-claims t) (eval-operand-at t) eval-operand.Post
 eval-operand-returns-6 t c =
-    let st = c .before .before .before .before .before .before .before .before .before .before .before .before .before .before .before .before .before .before .before .before .before .before in
+    let st = c .before .before .before .before .before .before .before .before .before .before .before .before .before .before .before .before .before .before in
     let a = st .args in
     let p = st .pre .1 in
-    let code = c .before .before .before .before .before .before .before .before .before .before .before .before .before .before .before .code-at in
-    let z : getD (a .codes .now) (a .i) 6 ≡ 4 = sym (code .ensures) ∙ c .before .before .before .before .before .before .before .before .before .before .before .before .before .if3 .left in
-    let r = c .before .before .before .before .before .before .before .before .eval-level in
+    let code = c .before .before .before .before .before .before .before .before .before .before .before .before .code-at in
+    let z : getD (a .codes .now) (a .i) 6 ≡ 4 = sym (code .ensures) ∙ c .before .before .before .before .before .before .before .before .before .before .if3 .left in
+    let r = c .before .before .before .before .before .before .eval-level in
     let e = r .ensures in
     let end = c .before .code-at2 in
     let y : getD (a .codes .now) (r .result .code) 6 ≡ 5 = sym (end .ensures) ∙ c .if5 .left in
@@ -480,8 +449,7 @@ eval-operand-returns-6 t c =
     record {
       ahead = omega arith;
       inside = omega arith;
-      ps-long = e .ps-long;
-      qs-long = e .qs-long;
+      hints-long = e .hints-long;
       ws-long = e .ws-long;
       reads = λ n. operand-part (a .codes .now) n (a .d) (a .k) (a .i) z (r .result .code) (r .result .slot) _ (e .reads) _ y (λ u h. holds-part (slotHas (a .index .now) (a .entries .now)) (a .k) (a .base) u _ h);
     }
@@ -498,7 +466,6 @@ pub +eval-level+eval-operand-spec : {M : Type 1} → statement M
     (eval-level-is-operator-requires t)
     (eval-level-same-length t)
     (eval-level-same-length-2 t)
-    (eval-level-same-length-3 t)
     (eval-level-returns t)
     (eval-level-add-eval-operand t)
     (eval-level-sub-eval-operand t)
@@ -523,11 +490,10 @@ pub +eval-level+eval-operand-spec : {M : Type 1} → statement M
     eval-operand.Post
     (eval-operand-code-at-requires t)
     (eval-operand-fill-slot-requires t)
-    (eval-operand-add-t24 t)
-    (eval-operand-add-t25 t)
+    (eval-operand-add-t21 t)
+    (eval-operand-add-t22 t)
     (eval-operand-same-length t)
     (eval-operand-same-length-2 t)
-    (eval-operand-same-length-3 t)
     (eval-operand-returns t)
     (eval-operand-returns-2 t)
     (eval-operand-returns-3 t)
@@ -536,12 +502,10 @@ pub +eval-level+eval-operand-spec : {M : Type 1} → statement M
     (eval-operand-sub-eval-level t)
     (eval-operand-eval-level-requires t)
     (eval-operand-code-at-requires-2 t)
+    (eval-operand-same-length-3 t)
     (eval-operand-same-length-4 t)
+    (eval-operand-returns-5 t)
+    (eval-operand-add-t24 t)
     (eval-operand-same-length-5 t)
     (eval-operand-same-length-6 t)
-    (eval-operand-returns-5 t)
-    (eval-operand-add-t27 t)
-    (eval-operand-same-length-7 t)
-    (eval-operand-same-length-8 t)
-    (eval-operand-same-length-9 t)
     (eval-operand-returns-6 t)

@@ -2,7 +2,7 @@
 use Prim.Native.Nat.{_≤_, _<_}
 use native.Mathlib.Omega.{arith}
 use mathlib.Core.Path.{refl, sym}
-use lib.ListN.{getD, length-set}
+use lib.ListN.{getD}
 use Rattle.list.specs.Cell.{numbersIn}
 use Rattle.list.specs.Interval.{top, names}
 use Rattle.list.specs.Reading.{listIn}
@@ -34,59 +34,31 @@ lower-of-requires c κs = search needs
 upper-of-requires : tie.Need-upper-of-requires
 upper-of-requires c κs = search needs
 
-mul-qs : tie.Need-mul-qs
-mul-qs c = search needs
-
-slice-read-qs : tie.Need-slice-read-qs
-slice-read-qs c = search needs
-
-mul-t25 : tie.Need-mul-t25
-mul-t25 c = search needs
-
-slice-read-t27 : tie.Need-slice-read-t27
-slice-read-t27 c = search needs
+hint-of-requires : tie.Need-hint-of-requires
+hint-of-requires c κs = search needs
 
 place-of-requires : tie.Need-place-of-requires
 place-of-requires c κs =
-    let st = c .before .before .before .before .before .before .before .before .before .before .before .before .before in
+    let st = c .before .before .before .before .before .before .before .before .before .before .before .before in
     let a = st .args in
     let index = a .index .now in
     let i = getD (a .entries .now) (a .k) 0 in
     let h : i < wordCount index = omega (arith, c .before .before .before .before .before .if1 .taken, c .before .before .before .before .before .before .word-count .ensures .0) in
-    let k = kept-facts top (numbersIn (singlesOf index i)) (numbersIn (lowerOf index i)) (numbersIn (upperOf index i)) (list-kept index (st .pre .0) i h) in
+    let k = kept-facts top (numbersIn (singlesOf index i)) (numbersIn (lowerOf index i)) (numbersIn (upperOf index i)) (list-kept index (st .pre .0 .sound) i h) in
     (rw (c .before .before .before .before .singles-of .ensures) (k .singles-ascend), rw (c .before .before .upper-of .ensures) (k .upper-ascend))
 
 fill-list-requires : tie.Need-fill-list-requires
 fill-list-requires c κs =
-    let st = c .before .before .before .before .before .before .before .before .before .before .before .before .before .before .before in
+    let st = c .before .before .before .before .before .before .before .before .before .before .before .before .before .before in
     let a = st .args in
     let index = a .index .now in
     let i = getD (a .entries .now) (a .k) 0 in
     let h : i < wordCount index = omega (arith, c .before .before .before .before .before .before .before .if1 .taken, c .before .before .before .before .before .before .before .before .word-count .ensures .0) in
-    let k = list-kept index (st .pre .0) i h in
-    (rw (c .before .before .before .before .before .before .singles-of .ensures, c .before .before .before .before .before .lower-of .ensures, c .before .before .before .before .upper-of .ensures) k, c .before .place-of .ensures, st .pre .4, st .pre .5)
+    let k = list-kept index (st .pre .0 .sound) i h in
+    (rw (c .before .before .before .before .before .before .singles-of .ensures, c .before .before .before .before .before .lower-of .ensures, c .before .before .before .before .upper-of .ensures) k, c .before .place-of .ensures, st .pre .2, st .pre .3)
 
-mul-ps : tie.Need-mul-ps
-mul-ps c =
-    let h = c .before .before .before .before .before .before .before .before .before .before .before .before .before .before .before .before .before .before .before .before .pre .2 in
-    let w = c .before .before .before .before .before .before .before .before .before .before .before .before .before .before .before .before .before .before .before .before .good in
-    omega arith
-
-slice-write-ps : tie.Need-slice-write-ps
-slice-write-ps c =
-    let h = c .before .before .before .before .before .before .before .before .before .before .before .before .before .before .before .before .before .before .before .before .pre .2 in
-    omega arith
-
-mul-qs-2 : tie.Need-mul-qs-2
-mul-qs-2 c =
-    let h = c .before .before .before .before .before .before .before .before .before .before .before .before .before .before .before .before .before .before .before .before .pre .3 in
-    let w = c .before .before .before .before .before .before .before .before .before .before .before .before .before .before .before .before .before .before .before .before .good in
-    omega arith
-
-slice-write-qs : tie.Need-slice-write-qs
-slice-write-qs c =
-    let h = c .before .before .before .before .before .before .before .before .before .before .before .before .before .before .before .before .before .before .before .before .pre .3 in
-    omega arith
+keep-hint-requires : tie.Need-keep-hint-requires
+keep-hint-requires c κs = let st = c .before .before .before .before .before .before .before .before .before .before .before .before .before .before .before .before .before .before in (st .pre .1, st .pre .0 .hints-long)
 
 same-length : tie.Need-same-length
 same-length c = search needs
@@ -94,28 +66,25 @@ same-length c = search needs
 same-length-2 : tie.Need-same-length-2
 same-length-2 c = search needs
 
-same-length-3 : tie.Need-same-length-3
-same-length-3 c = search needs
-
 returns : tie.Need-returns
 returns c =
-    let st = c .before .before .before .before .before .before .before .before .before .before .before .before .before .before .before .before .before .before .before .before in
+    let st = c .before .before .before .before .before .before .before .before .before .before .before .before .before .before .before .before .before .before .before .before .before in
     let a = st .args in
     let index = a .index .now in
     let i = getD (a .entries .now) (a .k) 0 in
-    let h : i < wordCount index = omega (arith, c .before .before .before .before .before .before .before .before .before .before .before .before .if1 .taken, c .before .before .before .before .before .before .before .before .before .before .before .before .before .word-count .ensures .0) in
-    let f = c .before .before .before .before .fill-list .ensures in
-    let g = rw (c .before .before .before .before .before .before .before .before .before .before .before .singles-of .ensures, c .before .before .before .before .before .before .before .before .before .before .lower-of .ensures, c .before .before .before .before .before .before .before .before .before .upper-of .ensures) at f in
-    ((simp length-set, simp length-set), added-agree (names (listIn (singlesOf index i) (lowerOf index i) (upperOf index i))) (slotHas index (a .entries .now) (a .k)) (a .base) (a .ws .now) _ (λ x. sym (slot-lists index (a .entries .now) (a .k) h x)) g)
+    let h : i < wordCount index = omega (arith, c .before .before .before .before .before .before .before .before .before .before .before .before .before .before .if1 .taken, c .before .before .before .before .before .before .before .before .before .before .before .before .before .before .before .word-count .ensures .0) in
+    let f = c .before .before .before .before .before .before .fill-list .ensures in
+    let g = rw (c .before .before .before .before .before .before .before .before .before .before .before .before .before .singles-of .ensures, c .before .before .before .before .before .before .before .before .before .before .before .before .lower-of .ensures, c .before .before .before .before .before .before .before .before .before .before .before .upper-of .ensures) at f in
+    (same-length c, added-agree (names (listIn (singlesOf index i) (lowerOf index i) (upperOf index i))) (slotHas index (a .entries .now) (a .k)) (a .base) (a .ws .now) _ (λ x. sym (slot-lists index (a .entries .now) (a .k) h x)) g)
 
 returns-2 : tie.Need-returns-2
 returns-2 c =
-    let st = c .before .before .before .before .before .before .before .before in
+    let st = c .before .before .before .before .before .before .before in
     let a = st .args in
     let index = a .index .now in
     let i = getD (a .entries .now) (a .k) 0 in
     let h : wordCount index ≤ i = omega (arith, c .if1 .left, c .before .word-count .ensures .0) in
-    ((refl, refl), added-none (slotHas index (a .entries .now) (a .k)) (a .base) (a .ws .now) (slot-lacks index (a .entries .now) (a .k) h))
+    (refl, added-none (slotHas index (a .entries .now) (a .k)) (a .base) (a .ws .now) (slot-lacks index (a .entries .now) (a .k) h))
 
 pub fill-slot-spec : {M : Type 1} → statement M
 fill-slot-spec =
@@ -127,18 +96,11 @@ fill-slot-spec =
     singles-of-requires
     lower-of-requires
     upper-of-requires
-    mul-qs
-    slice-read-qs
-    mul-t25
-    slice-read-t27
+    hint-of-requires
     place-of-requires
     fill-list-requires
-    mul-ps
-    slice-write-ps
-    mul-qs-2
-    slice-write-qs
+    keep-hint-requires
     same-length
     same-length-2
-    same-length-3
     returns
     returns-2)

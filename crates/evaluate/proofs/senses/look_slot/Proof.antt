@@ -1,7 +1,7 @@
 -- The slot's list says it, from the place of x; a slot without an entry is out up to the end.
 use native.Mathlib.Omega.{arith}
 use mathlib.Core.Path.{refl}
-use lib.ListN.{getD, length-set}
+use lib.ListN.{getD}
 use Rattle.list.specs.Cell.{numbersIn}
 use Rattle.list.specs.Interval.{top}
 use Rattle.list.proofs.KeptLaws.{kept-facts}
@@ -23,8 +23,8 @@ word-count-requires c κs = search needs
 
 returns : tie.Need-returns
 returns c =
-    let start = c .before .before .before .before .before .before .before in
-    ((refl, refl), slot-out (start .args .index .now) (start .args .entries .now) (start .args .k) (start .args .x) (omega (arith, c .before .word-count .ensures .0)) (start .pre .4))
+    let start = c .before .before .before .before .before .before in
+    (refl, slot-out (start .args .index .now) (start .args .entries .now) (start .args .k) (start .args .x) (omega (arith, c .before .word-count .ensures .0)) (start .pre .2))
 
 singles-of-requires : tie.Need-singles-of-requires
 singles-of-requires c κs = search needs
@@ -35,69 +35,48 @@ lower-of-requires c κs = search needs
 upper-of-requires : tie.Need-upper-of-requires
 upper-of-requires c κs = search needs
 
-mul-qs : tie.Need-mul-qs
-mul-qs c = search needs
-
-slice-read-qs : tie.Need-slice-read-qs
-slice-read-qs c = search needs
-
-mul-t21 : tie.Need-mul-t21
-mul-t21 c = search needs
-
-slice-read-t23 : tie.Need-slice-read-t23
-slice-read-t23 c = search needs
+hint-of-requires : tie.Need-hint-of-requires
+hint-of-requires c κs = search needs
 
 place-of-requires : tie.Need-place-of-requires
 place-of-requires c κs =
     let found = c .before .before .before .before .before in
-    let start = found .before .before .before .before .before .before .before in
+    let start = found .before .before .before .before .before .before in
     let index = start .args .index .now in
     let i = getD (start .args .entries .now) (start .args .k) 0 in
-    let kept = kept-facts top (numbersIn (singlesOf index i)) (numbersIn (lowerOf index i)) (numbersIn (upperOf index i)) (list-kept index (start .pre .0) i (omega (arith, found .before .word-count .ensures .0))) in
+    let kept = kept-facts top (numbersIn (singlesOf index i)) (numbersIn (lowerOf index i)) (numbersIn (upperOf index i)) (list-kept index (start .pre .0 .sound) i (omega (arith, found .before .word-count .ensures .0))) in
     rw (c .before .before .before .before .singles-of .ensures, c .before .before .upper-of .ensures) (kept .singles-ascend, kept .upper-ascend)
 
-mul-ps : tie.Need-mul-ps
-mul-ps c = search needs
-
-slice-write-ps : tie.Need-slice-write-ps
-slice-write-ps c = search needs
-
-mul-qs-2 : tie.Need-mul-qs-2
-mul-qs-2 c = search needs
-
-slice-write-qs : tie.Need-slice-write-qs
-slice-write-qs c = search needs
+keep-hint-requires : tie.Need-keep-hint-requires
+keep-hint-requires c κs = search needs
 
 sense-at-requires : tie.Need-sense-at-requires
 sense-at-requires c κs =
-    let found = c .before .before .before .before .before .before .before .before in
-    let start = found .before .before .before .before .before .before .before in
+    let found = c .before .before .before .before .before .before .before .before .before .before in
+    let start = found .before .before .before .before .before .before in
     let index = start .args .index .now in
     let i = getD (start .args .entries .now) (start .args .k) 0 in (
-      rw (c .before .before .before .before .before .before .before .singles-of .ensures, c .before .before .before .before .before .before .lower-of .ensures, c .before .before .before .before .before .upper-of .ensures)
-          (list-kept index (start .pre .0) i (omega (arith, found .before .word-count .ensures .0))),
-      c .before .before .place-of .ensures,
-      start .pre .4,
+      rw (c .before .before .before .before .before .before .before .before .before .singles-of .ensures, c .before .before .before .before .before .before .before .before .lower-of .ensures, c .before .before .before .before .before .before .before .upper-of .ensures)
+          (list-kept index (start .pre .0 .sound) i (omega (arith, found .before .word-count .ensures .0))),
+      c .before .before .before .before .place-of .ensures,
+      start .pre .2,
     )
 
 same-length : tie.Need-same-length
 same-length c = search needs
 
-same-length-2 : tie.Need-same-length-2
-same-length-2 c = search needs
-
 returns-2 : tie.Need-returns-2
 returns-2 c =
-    let found = c .before .before .before .before .before .before .before .before .before in
-    let start = found .before .before .before .before .before .before .before in
+    let found = c .before .before .before .before .before .before .before .before .before .before .before in
+    let start = found .before .before .before .before .before .before in
     let index = start .args .index .now in
     let entries = start .args .entries .now in
     let k = start .args .k in
-    let s = c .before .before .before .before .before .before .before .before .singles-of in
-    let l = c .before .before .before .before .before .before .before .lower-of in
-    let u = c .before .before .before .before .before .before .upper-of in
+    let s = c .before .before .before .before .before .before .before .before .before .before .singles-of in
+    let l = c .before .before .before .before .before .before .before .before .before .lower-of in
+    let u = c .before .before .before .before .before .before .before .before .upper-of in
     let r = c .sense-at .result in (
-      (simp length-set, simp length-set),
+      same-length c,
       slot-in index entries k (start .args .x) (r .inside) (r .until) (omega (arith, found .before .word-count .ensures .0)) (rw (s .ensures, l .ensures, u .ensures) at (c .sense-at .ensures)),
     )
 
@@ -112,16 +91,9 @@ look-slot-spec =
     singles-of-requires
     lower-of-requires
     upper-of-requires
-    mul-qs
-    slice-read-qs
-    mul-t21
-    slice-read-t23
+    hint-of-requires
     place-of-requires
-    mul-ps
-    slice-write-ps
-    mul-qs-2
-    slice-write-qs
+    keep-hint-requires
     sense-at-requires
     same-length
-    same-length-2
     returns-2)

@@ -33,14 +33,11 @@ same-length c = search needs
 same-length-2 : tie.Need-same-length-2
 same-length-2 c = search needs
 
-same-length-3 : tie.Need-same-length-3
-same-length-3 c = search needs
-
 returns-2 : tie.Need-returns-2
 returns-2 c =
-    let start = c .before .before .before .before .before .before .before .before .before .before .before .before .before .before .before in
+    let start = c .before .before .before .before .before .before .before .before .before .before .before in
     let a = start .args in
-    let look = c .before .before .before .before .before .look-slot in
+    let look = c .before .before .before .look-slot in
     let r = look .result in (
       look .ensures .0,
       renewed-set (slotHas (a .index .now) (a .entries .now)) (a .senses .now) (a .x) (a .k) (start .pre .1 .1) (r .inside) (r .until) (c .pack .result) (look .ensures .1)
@@ -60,5 +57,4 @@ renew-sense-spec =
     slice-write-senses
     same-length
     same-length-2
-    same-length-3
     returns-2)

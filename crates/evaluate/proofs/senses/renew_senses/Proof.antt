@@ -11,69 +11,65 @@ use Rattle.evaluate.proofs.senses.renew_senses.Statement.{statement}
 use Rattle.evaluate.proofs.senses.renew_senses.Tie as tie
 
 abbrev Inv-loop : tie.InvT-loop
-Inv-loop index entries slots x ps₀ qs₀ senses₀ k₀ ps qs senses k =
-    (length ps ≡ 16) × (length qs ≡ 16) × (length senses ≡ 16) × Sensed (slotHas index entries) senses x × ((j : ℕ) → j < k → x < untilOf senses j)
+Inv-loop index entries slots x hints₀ senses₀ k₀ hints senses k =
+    (length hints ≡ 32) × (length senses ≡ 16) × Sensed (slotHas index entries) senses x × ((j : ℕ) → j < k → x < untilOf senses j)
 
 abbrev μ-loop : tie.MeasureT-loop
-μ-loop index entries slots x ps₀ qs₀ senses₀ k₀ ps qs senses k = slots - k
+μ-loop index entries slots x hints₀ senses₀ k₀ hints senses k = slots - k
 
 loop-holds : tie.Need-loop-holds Inv-loop μ-loop
 loop-holds c =
-    let start = c .before .before .before .before .before in
-    (start .pre .0 .0 .ps-long, start .pre .0 .0 .qs-long, start .pre .0 .1, start .pre .1 .1, λ j h. absurd (omega arith))
+    let start = c .before .before .before .before in
+    (start .pre .0 .0 .hints-long, start .pre .0 .1, start .pre .1 .1, λ j h. absurd (omega arith))
 
 renew-sense-requires : tie.Need-renew-sense-requires Inv-loop μ-loop
 renew-sense-requires c κs =
-    let start = c .before .before .before .before .before .before .before .before .before .before in
+    let start = c .before .before .before .before .before .before .before .before in
     let lent = start .pre .0 .0 in
     let within = start .pre .1 .0 in
-    let inv = c .before .before .before .before .loop .inv in
-    let more = c .before .before .before .loop-test .taken in (
-      (record { sound = lent .sound; entries-long = lent .entries-long; ps-long = inv .0; qs-long = inv .1 }, inv .2),
-      ((omega arith, within .1), inv .3),
+    let inv = c .before .before .before .loop .inv in
+    let more = c .before .before .loop-test .taken in (
+      (record { sound = lent .sound; entries-long = lent .entries-long; hints-long = inv .0 }, inv .1),
+      ((omega arith, within .1), inv .2),
     )
 
 add-k : tie.Need-add-k Inv-loop μ-loop
 add-k c =
-    let start = c .before .before .before .before .before .before .before .before .before .before .before .before .before .before .before .before .before in
-    let more = c .before .before .before .before .before .before .before .before .before .before .loop-test .taken in
+    let start = c .before .before .before .before .before .before .before .before .before .before .before .before .before in
+    let more = c .before .before .before .before .before .before .before .loop-test .taken in
     let within = start .pre .1 .0 in
     omega arith
 
 loop-less : tie.Need-loop-less Inv-loop μ-loop
-loop-less c = let more = c .before .before .before .before .before .before .before .before .before .before .loop-test .taken in omega arith
+loop-less c = let more = c .before .before .before .before .before .before .before .loop-test .taken in omega arith
 
 loop-again : tie.Need-loop-again Inv-loop μ-loop
 loop-again c =
-    let start = c .before .before .before .before .before .before .before .before .before .before .before .before .before .before .before .before .before in
+    let start = c .before .before .before .before .before .before .before .before .before .before .before .before .before in
     let a = start .args in
-    let loop = c .before .before .before .before .before .before .before .before .before .before .before .loop in
-    let hints = c .before .before .before .before .before .before .renew-sense .ensures .0 in
-    let renewed = c .before .before .before .before .before .before .renew-sense .ensures .1 in (
-      hints .0 ∙ loop .inv .0,
-      hints .1 ∙ loop .inv .1,
-      renewed .long ∙ loop .inv .2,
+    let loop = c .before .before .before .before .before .before .before .before .loop in
+    let keeps = c .before .before .before .before .renew-sense .ensures .0 in
+    let renewed = c .before .before .before .before .renew-sense .ensures .1 in (
+      keeps ∙ loop .inv .0,
+      renewed .long ∙ loop .inv .1,
       renewed .sensed,
-      renewed-next (slotHas (a .index .now) (a .entries .now)) (a .x) (loop .k) _ _ renewed (loop .inv .4),
+      renewed-next (slotHas (a .index .now) (a .entries .now)) (a .x) (loop .k) _ _ renewed (loop .inv .3),
     )
 
 same-length : tie.Need-same-length Inv-loop μ-loop
-same-length c = c .before .loop .inv .0 ∙ sym (c .before .before .before .before .before .before .before .pre .0 .0 .ps-long)
+same-length c = c .before .loop .inv .0 ∙ sym (c .before .before .before .before .before .before .pre .0 .0 .hints-long)
 
 same-length-2 : tie.Need-same-length-2 Inv-loop μ-loop
-same-length-2 c = c .before .loop .inv .1 ∙ sym (c .before .before .before .before .before .before .before .pre .0 .0 .qs-long)
-
-same-length-3 : tie.Need-same-length-3 Inv-loop μ-loop
-same-length-3 c = c .before .loop .inv .2 ∙ sym (c .before .before .before .before .before .before .before .pre .0 .1)
+same-length-2 c = c .before .loop .inv .1 ∙ sym (c .before .before .before .before .before .before .pre .0 .1)
 
 returns : tie.Need-returns Inv-loop μ-loop
 returns c =
-    let start = c .before .before .before .before .before .before .before in
+    let start = c .before .before .before .before .before .before in
     let a = start .args in
     let loop = c .before .loop in
     let over = c .loop-test .left in (
-      (same-length c, same-length-2 c, same-length-3 c),
-      (loop .inv .3, sensed-known (slotHas (a .index .now) (a .entries .now)) _ (a .x) (loop .inv .3) (a .slots) (λ j h. loop .inv .4 j (omega arith))),
+      (same-length c, same-length-2 c),
+      (loop .inv .2, sensed-known (slotHas (a .index .now) (a .entries .now)) _ (a .x) (loop .inv .2) (a .slots) (λ j h. loop .inv .3 j (omega arith))),
     )
 
 pub renew-senses-spec : {M : Type 1} → statement M
@@ -89,5 +85,4 @@ renew-senses-spec =
     loop-again
     same-length
     same-length-2
-    same-length-3
     returns)

@@ -7,7 +7,7 @@ use Rattle.query.proofs.drive.look_at.Tie as tie
 
 renew-senses-requires : tie.Need-renew-senses-requires
 renew-senses-requires c κs =
-    let start = c .before .before .before .before .before .before .before .before .before in
+    let start = c .before .before .before .before .before .before .before in
     let slotted = start .pre .1 in
     ((start .pre .0 .0, slotted .long), ((slotted .few, start .pre .0 .1), slotted .sensed))
 
@@ -20,14 +20,11 @@ same-length c = search needs
 same-length-2 : tie.Need-same-length-2
 same-length-2 c = search needs
 
-same-length-3 : tie.Need-same-length-3
-same-length-3 c = search needs
-
 returns : tie.Need-returns
 returns c =
-    let start = c .before .before .before .before .before .before .before .before .before .before .before .before .before .before .before .before .before .before in
+    let start = c .before .before .before .before .before .before .before .before .before .before .before .before .before .before in
     let a = start .args in
-    let renewed = c .before .before .before .before .before .before .before .before .renew-senses .ensures in (
+    let renewed = c .before .before .before .before .before .before .renew-senses .ensures in (
       renewed .0,
       (
         renewed .1 .0,
@@ -43,5 +40,4 @@ look-at-spec =
     look-level-requires
     same-length
     same-length-2
-    same-length-3
     returns)

@@ -12,29 +12,29 @@ use Rattle.query.proofs.drive.step.Tie as tie
 
 look-at-requires : tie.Need-look-at-requires
 look-at-requires c κs =
-    let start = c .before .before .before .before .before .before .before .before .before .before .before in
+    let start = c .before .before .before .before .before .before .before .before .before in
     let stands = start .pre .1 .1 .0 in
     ((start .pre .0 .0, omega arith), start .pre .1 .0)
 
 add-smaller : tie.Need-add-smaller
-add-smaller c = let stands = c .before .before .before .before .before .before .before .before .before .before .before .before .before .before .before .before .before .before .pre .1 .1 .0 in omega arith
+add-smaller c = let stands = c .before .before .before .before .before .before .before .before .before .before .before .before .before .before .pre .1 .1 .0 in omega arith
 
 smaller-requires : tie.Need-smaller-requires
 smaller-requires c κs = search needs
 
 add-if1 : tie.Need-add-if1
-add-if1 c = let stands = c .before .before .before .before .before .before .before .before .before .before .before .before .before .before .before .before .before .before .before .pre .1 .1 .0 in omega arith
+add-if1 c = let stands = c .before .before .before .before .before .before .before .before .before .before .before .before .before .before .before .pre .1 .1 .0 in omega arith
 
 take-jump-requires : tie.Need-take-jump-requires
 take-jump-requires c κs =
-    let start = c .before .before .before .before .before .before .before .before .before .before .before .before .before .before .before .before .before .before .before .before .before in
+    let start = c .before .before .before .before .before .before .before .before .before .before .before .before .before .before .before .before .before in
     let a = start .args in
     let stands = start .pre .1 .1 .0 in
     let roomy = start .pre .1 .1 .1 in
     let y = c .before .before .smaller .result in
     let until = c .before .before .smaller .ensures in
     let p = testOf (a .index .now) (a .entries .now) (roomy .tree) in
-    let steady = c .before .before .before .before .before .before .before .before .before .look-at .ensures .1 .1 (roomy .tree) (roomy .reads) in (
+    let steady = c .before .before .before .before .before .before .before .look-at .ensures .1 .1 (roomy .tree) (roomy .reads) in (
       omega arith,
       omega arith,
       omega arith,
@@ -53,21 +53,18 @@ same-length-2 c = search needs
 same-length-3 : tie.Need-same-length-3
 same-length-3 c = search needs
 
-same-length-4 : tie.Need-same-length-4
-same-length-4 c = search needs
-
 returns : tie.Need-returns
 returns c =
-    let start = c .before .before .before .before .before .before .before .before .before .before .before .before .before .before .before .before .before .before .before .before .before .before .before .before in
+    let start = c .before .before .before .before .before .before .before .before .before .before .before .before .before .before .before .before .before .before .before .before in
     let a = start .args in
     let stands = start .pre .1 .1 .0 in
-    let look = c .before .before .before .before .before .before .before .before .before .before .before .before .look-at .ensures in
+    let look = c .before .before .before .before .before .before .before .before .before .before .look-at .ensures in
     let y = c .before .before .before .before .before .smaller .result in
     let until = c .before .before .before .before .before .smaller .ensures in
     let taken = c .before .before .before .before .if1 .taken in (
-      record { ps-long = look .0 .0; qs-long = look .0 .1; ws-long = refl },
+      record { hints-long = look .0 .0; ws-long = refl },
       (
-        (look .0 .2, sensed-later (slotHas (a .index .now) (a .entries .now)) _ (a .at .x) (look .1 .0) y (omega arith)),
+        (look .0 .1, sensed-later (slotHas (a .index .now) (a .entries .now)) _ (a .at .x) (look .1 .0) y (omega arith)),
         (
           (omega arith, omega arith),
           λ t o. let p = testOf (a .index .now) (a .entries .now) t in
@@ -89,34 +86,34 @@ part-take-window-start c = search needs
 
 part-take-window-end : tie.Need-part-take-window-end
 part-take-window-end c =
-    let start = c .before .before .before .before .before .before .before .before .before .before .before .before .before .before .before .before .before .before .before .before .before .before in
+    let start = c .before .before .before .before .before .before .before .before .before .before .before .before .before .before .before .before .before in
     let stands = start .pre .1 .1 .0 in
     let long = start .pre .0 .1 in
     omega arith
 
 take-window-requires : tie.Need-take-window-requires
 take-window-requires c κs =
-    let start = c .before .before .before .before .before .before .before .before .before .before .before .before .before .before .before .before .before .before .before .before .before .before .before .before in
+    let start = c .before .before .before .before .before .before .before .before .before .before .before .before .before .before .before .before .before .before .before in
     let a = start .args in
     let lent = start .pre .0 .0 in
     let stands = start .pre .1 .1 .0 in
-    let look = c .before .before .before .before .before .before .before .before .before .before .before .before .look-at .ensures .0 in
+    let look = c .before .before .before .before .before .before .before .before .before .look-at .ensures .0 in
     let words = part-words (a .at .words) (a .ws .now) (omega (arith, start .pre .0 .1)) in (
-      record { sound = lent .sound; entries-long = lent .entries-long; ps-long = look .0 ∙ lent .ps-long; qs-long = look .1 ∙ lent .qs-long },
+      record { sound = lent .sound; entries-long = lent .entries-long; hints-long = look .0 ∙ lent .hints-long },
       ((omega arith, omega arith, omega arith, omega arith, omega arith, omega arith), start .pre .1 .1 .1),
     )
 
 cast-smaller : tie.Need-cast-smaller
-cast-smaller c = let stands = c .before .before .before .before .before .before .before .before .before .before .before .before .before .before .before .before .before .before .before .before .before .before .before .before .before .before .before .before .before .before .before .before .before .pre .1 .1 .0 in omega arith
+cast-smaller c = let stands = c .before .before .before .before .before .before .before .before .before .before .before .before .before .before .before .before .before .before .before .before .before .before .before .before .before .before .pre .1 .1 .0 in omega arith
 
 mul-smaller : tie.Need-mul-smaller
-mul-smaller c = let stands = c .before .before .before .before .before .before .before .before .before .before .before .before .before .before .before .before .before .before .before .before .before .before .before .before .before .before .before .before .before .before .before .before .before .pre .1 .1 .0 in omega arith
+mul-smaller c = let stands = c .before .before .before .before .before .before .before .before .before .before .before .before .before .before .before .before .before .before .before .before .before .before .before .before .before .before .pre .1 .1 .0 in omega arith
 
 add-smaller-2 : tie.Need-add-smaller-2
-add-smaller-2 c = let stands = c .before .before .before .before .before .before .before .before .before .before .before .before .before .before .before .before .before .before .before .before .before .before .before .before .before .before .before .before .before .before .before .before .before .pre .1 .1 .0 in omega arith
+add-smaller-2 c = let stands = c .before .before .before .before .before .before .before .before .before .before .before .before .before .before .before .before .before .before .before .before .before .before .before .before .before .before .pre .1 .1 .0 in omega arith
 
 add-smaller-3 : tie.Need-add-smaller-3
-add-smaller-3 c = let stands = c .before .before .before .before .before .before .before .before .before .before .before .before .before .before .before .before .before .before .before .before .before .before .before .before .before .before .before .before .before .before .before .before .before .pre .1 .1 .0 in omega arith
+add-smaller-3 c = let stands = c .before .before .before .before .before .before .before .before .before .before .before .before .before .before .before .before .before .before .before .before .before .before .before .before .before .before .pre .1 .1 .0 in omega arith
 
 smaller-requires-2 : tie.Need-smaller-requires-2
 smaller-requires-2 c κs = search needs
@@ -124,33 +121,30 @@ smaller-requires-2 c κs = search needs
 doubled-requires : tie.Need-doubled-requires
 doubled-requires c κs = search needs
 
+same-length-4 : tie.Need-same-length-4
+same-length-4 c = c .before .before .before .before .before .before .before .before .take-window .ensures .0 .hints-long ∙ c .before .before .before .before .before .before .before .before .before .before .before .before .before .before .before .before .before .before .look-at .ensures .0 .0
+
 same-length-5 : tie.Need-same-length-5
-same-length-5 c = c .before .before .before .before .before .before .before .before .before .before .take-window .ensures .0 .ps-long ∙ c .before .before .before .before .before .before .before .before .before .before .before .before .before .before .before .before .before .before .before .before .before .before .before .look-at .ensures .0 .0
+same-length-5 c = search needs
 
 same-length-6 : tie.Need-same-length-6
-same-length-6 c = c .before .before .before .before .before .before .before .before .before .before .take-window .ensures .0 .qs-long ∙ c .before .before .before .before .before .before .before .before .before .before .before .before .before .before .before .before .before .before .before .before .before .before .before .look-at .ensures .0 .1
+same-length-6 c = search needs
 
 same-length-7 : tie.Need-same-length-7
 same-length-7 c = search needs
 
-same-length-8 : tie.Need-same-length-8
-same-length-8 c = search needs
-
-same-length-9 : tie.Need-same-length-9
-same-length-9 c = search needs
-
 returns-2 : tie.Need-returns-2
 returns-2 c =
-    let start = c .before .before .before .before .before .before .before .before .before .before .before .before .before .before .before .before .before .before .before .before .before .before .before .before .before .before .before .before .before .before .before .before .before .before .before in
+    let start = c .before .before .before .before .before .before .before .before .before .before .before .before .before .before .before .before .before .before .before .before .before .before .before .before .before .before .before .before in
     let a = start .args in
     let stands = start .pre .1 .1 .0 in
-    let look = c .before .before .before .before .before .before .before .before .before .before .before .before .before .before .before .before .before .before .before .before .before .before .before .look-at .ensures in
-    let took = c .before .before .before .before .before .before .before .before .before .before .take-window .ensures in
+    let look = c .before .before .before .before .before .before .before .before .before .before .before .before .before .before .before .before .before .before .look-at .ensures in
+    let took = c .before .before .before .before .before .before .before .before .take-window .ensures in
     let next = c .before .smaller2 .ensures in
     let words = part-words (a .at .words) (a .ws .now) (omega (arith, start .pre .0 .1)) in (
-      record { ps-long = same-length-5 c; qs-long = same-length-6 c; ws-long = same-length-8 c },
+      record { hints-long = same-length-4 c; ws-long = same-length-6 c },
       (
-        (look .0 .2, sensed-later (slotHas (a .index .now) (a .entries .now)) _ (a .at .x) (look .1 .0) (c .before .smaller2 .result) (omega arith)),
+        (look .0 .1, sensed-later (slotHas (a .index .now) (a .entries .now)) _ (a .at .x) (look .1 .0) (c .before .smaller2 .result) (omega arith)),
         (
           (c .doubled .ensures .0 (stands .some), c .doubled .ensures .1),
           λ t o. record {
@@ -175,7 +169,6 @@ step-spec =
     same-length
     same-length-2
     same-length-3
-    same-length-4
     returns
     sub-take-window
     part-take-window-start
@@ -187,9 +180,8 @@ step-spec =
     add-smaller-3
     smaller-requires-2
     doubled-requires
+    same-length-4
     same-length-5
     same-length-6
     same-length-7
-    same-length-8
-    same-length-9
     returns-2)

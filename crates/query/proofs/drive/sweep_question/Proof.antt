@@ -15,16 +15,13 @@ slice-aggregate-sweep-2 c = search needs
 slice-aggregate-sweep-3 : tie.Need-slice-aggregate-sweep-3
 slice-aggregate-sweep-3 c = search needs
 
-slice-aggregate-sweep-4 : tie.Need-slice-aggregate-sweep-4
-slice-aggregate-sweep-4 c = search needs
-
 sweep-requires : tie.Need-sweep-requires
 sweep-requires c κs =
-    let start = c .before .before .before .before .before .before .before .before .before in
+    let start = c .before .before .before .before .before .before .before .before in
     let a = start .args in
     let reads = start .pre .0 in
     let slots = start .pre .1 .0 in (
-      (record { sound = reads .0; entries-long = reads .1; ps-long = refl; qs-long = refl }, refl, reads .2),
+      (record { sound = reads .0; entries-long = reads .1; hints-long = refl }, refl, reads .2),
       (record { long = refl; few = slots .0; all = slots .1; sensed = sensed-none (slotHas (a .index .now) (a .entries .now)) 16 1 }, start .pre .1 .1),
     )
 
@@ -41,7 +38,6 @@ sweep-question-spec =
     slice-aggregate-sweep
     slice-aggregate-sweep-2
     slice-aggregate-sweep-3
-    slice-aggregate-sweep-4
     sweep-requires
     same-length
     returns)
