@@ -2,7 +2,7 @@
 use Prim.Native.Nat.{ℕ, _+_, _≤_, _<_}
 use native.Mathlib.Omega.{arith}
 use mathlib.Core.Path.{_≡_, refl, sym, ap, _∙_}
-use mathlib.Core.Bool.{Bool, true, false, not, _&&_, _||_}
+use mathlib.Core.Bool.{Bool, true, false, not, _&&_, _||_, and-false}
 use mathlib.Core.List.{List}
 use lib.ListN.{length, getD, length-append}
 use Rattle.list.specs.Interval.{top, names}
@@ -28,10 +28,6 @@ pub steady-not : (p : ℕ → Bool) (x : ℕ) (a : Bool) (u : ℕ) → Steady p 
 steady-not p x a u s = record { later = s .later; near = s .near; same = λ y h l. ap not (s .same y h l) }
 
 -- ---- of two tests that both hold
-
-and-false : (b : Bool) → b && false ≡ false
-and-false true = refl
-and-false false = refl
 
 module _ (p q : ℕ → Bool) (x : ℕ) (a b : Bool) (u v : ℕ) (s : Steady p x a u) (t : Steady q x b v) where
   pub both-first-in : a ≡ true → b ≡ true → u ≤ v → Steady (λ y. p y && q y) x a u

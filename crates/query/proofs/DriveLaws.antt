@@ -99,13 +99,6 @@ part-words words ws h = omega (arith, mid-len 0 words ws h)
 
 -- ---- the whole sweep
 
-pub swept-length : (p : ℕ → Bool) (n : ℕ) (writing : Bool) (out₀ out : List ℕ) (b : Bool) (x k recs : ℕ) → Swept p n writing out₀ out b x k recs → length out ≡ length out₀
-swept-length p n writing out₀ out b x k recs s = ap length (s .written) ∙ go writing
-  where
-    go : (w : Bool) → length (cond w (sets out₀ 0 (s .done)) out₀) ≡ length out₀
-    go true = length-sets out₀ 0 (s .done)
-    go false = refl
-
 same-tally : (i j r q : ℕ) → i ≡ j → r ≡ q → _≡_ {A = Tally} (record { intervals = i; records = r }) (record { intervals = j; records = q })
 same-tally i j r q e f = rw (e, f)
 

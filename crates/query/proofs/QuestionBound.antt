@@ -13,10 +13,9 @@ use Rattle.list.specs.Stretches.{cellsOf}
 use Rattle.list.proofs.NamesLaws.{proper-names-zero}
 use Rattle.list.proofs.StretchLaws.{cells-same, proper-cells, is-cells}
 use Rattle.list.proofs.BoundLaws.{Still, AllOut, together, cells-bound}
-use Rattle.index.specs.Format.{wordCount, highest, singlesOf, lowerOf, listOf}
+use Rattle.index.specs.Format.{wordCount, highest, listOf}
 use Rattle.index.specs.Sound.{Sound}
 use Rattle.index.specs.Has.{has}
-use Rattle.index.proofs.EntryIntervals.{entry-intervals, entry-few}
 use Rattle.index.proofs.HasLaws.{list-proper}
 use Rattle.question.specs.Grammar.{Tree, word, pair, part, fromLeft, wordsOf}
 use Rattle.question.specs.Meaning.{combine, fits}
@@ -31,21 +30,13 @@ use Rattle.query.proofs.WholeLaws.{slot-fits}
 -- ---- one slot
 
 module _ (index entries : List ℕ) (s : Sound index) (k : ℕ) where
-  pub slot-intervals-in : getD entries k 0 < wordCount index →
-      slotIntervals index entries k ≡ length (singlesOf index (getD entries k 0)) / 4 + length (lowerOf index (getD entries k 0)) / 4
+  pub slot-intervals-in : getD entries k 0 < wordCount index → slotIntervals index entries k ≡ intervals (listOf index (getD entries k 0))
   unfolding slotIntervals
-  slot-intervals-in h = rw (lt-ltb (getD entries k 0) (wordCount index) h) (entry-intervals index s (getD entries k 0) h)
+  slot-intervals-in h = rw (lt-ltb (getD entries k 0) (wordCount index) h)
 
   pub slot-intervals-out : wordCount index ≤ getD entries k 0 → slotIntervals index entries k ≡ 0
   unfolding slotIntervals
   slot-intervals-out h = rw (le-ltb (getD entries k 0) (wordCount index) h)
-
-  pub slot-few : slotIntervals index entries k ≤ 4194304
-  unfolding slotIntervals
-  slot-few =
-      by-test (ltb (getD entries k 0) (wordCount index))
-      (λ e. rw e (entry-few index s (getD entries k 0) (ltb-true (getD entries k 0) (wordCount index) e)))
-      (λ e. rw e (omega arith))
 
   slot-zero : slotHas index entries k 0 ≡ false
   unfolding slotHas

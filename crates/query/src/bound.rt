@@ -5,8 +5,7 @@ ghost use lib.ListN.{length};
 ghost use Rattle.index.specs.Sound.{Sound};
 ghost use Rattle.query.specs.Bound.{slotIntervals, slotsIntervals};
 use index::find::word_count;
-use index::parts::lower_of;
-use index::parts::singles_of;
+use index::parts::interval_count;
 
 fn slot_intervals(index: &[u8], entries: &[usize], k: usize) -> usize
     requires { ⌜ Sound (now index) × (k < length (now entries)) ⌝ }
@@ -16,7 +15,7 @@ fn slot_intervals(index: &[u8], entries: &[usize], k: usize) -> usize
     if word_count(index) <= entry {
         return 0;
     }
-    singles_of(index, entry).len() / 4 + lower_of(index, entry).len() / 4
+    interval_count(index, entry)
 }
 
 // Of the first `count` slots.

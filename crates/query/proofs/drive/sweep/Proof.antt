@@ -3,7 +3,7 @@ use mathlib.Core.Path.{_≡_, sym, _∙_}
 use Prim.Native.Nat.{_+_, _-_, _≤_}
 use native.Mathlib.Omega.{arith}
 use lib.ListN.{length}
-use Rattle.list.proofs.SweepLaws.{Swept, swept-start, swept-count}
+use Rattle.list.proofs.SweepLaws.{Swept, swept-start, swept-count, swept-length}
 use Rattle.index.proofs.SoundLaws.{sound-trailer}
 use Rattle.question.specs.Grammar.{Tree}
 use Rattle.window.specs.Flips.{odd}
@@ -12,7 +12,7 @@ use Rattle.evaluate.specs.Slots.{slotHas}
 use Rattle.evaluate.specs.Senses.{Sensed}
 use Rattle.query.specs.Drive.{TreeOf, testOf}
 use Rattle.query.proofs.DriverLaws.{swept-few, swept-counted, step-room, swept-step, close-room, swept-close}
-use Rattle.query.proofs.DriveLaws.{test-above, swept-length, swept-tallied}
+use Rattle.query.proofs.DriveLaws.{test-above, swept-tallied}
 use Rattle.query.proofs.drive.sweep.Statement.{statement}
 use Rattle.query.proofs.drive.sweep.Tie as tie
 
@@ -140,7 +140,7 @@ same-length-4 c =
     let l = c .before .before .before .before .before .before .loop in
     let inv = l .inv in
     let swept = inv .6 (fit .tree) (fit .reads) in
-    let same = swept-length (testOf (a .index .now) (a .entries .now) (fit .tree)) (a .n) (a .writing) (a .out .now) _ _ (l .at .x) (l .at .cells) (l .at .records) swept in
+    let same = swept-length swept in
     search needs
 
 returns : tie.Need-returns Inv-loop μ-loop
