@@ -30,6 +30,6 @@ pub record AnswersLine (index question out out′ : List ℕ) (r : Answer) : Typ
   pub answer : r ≡ answerTo index question (length out / 2)
   pub cells : out′ ≡ cellsFor index question (length out / 2) out
 
--- "It lends 16,384 cells for each answer": the bytes of a question's line
+-- "It lends 16,384 cells for each answer": the bytes of a question's line. It shows no cell behind the list, so what stood there before does not matter
 abbrev pub questionLine : List ℕ → ℕ → List ℕ → List ℕ
 questionLine index number question = lineOf number (answerTo index question 8192) (cellsFor index question 8192 [])

@@ -104,7 +104,7 @@ fn promised(index: &[u8]) {
     case(index, &[5, 6], 8);
 }
 
-// The lists of the paper's Definitions 1 and 2, in each order, and those of its section 3.2.3.
+// The lists of the Ginix paper's Definitions 1 and 2, in each order, and those of its section 3.2.3.
 fn of_the_paper(index: &[u8]) {
     case(index, &[7, 8, 9], 8);
     case(index, &[9, 7, 8], 8);

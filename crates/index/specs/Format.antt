@@ -21,7 +21,7 @@ highest index = cellAt index (length index - 8)
 abbrev pub edition : List ℕ → ℕ
 edition index = cellAt index (length index - 4)
 
--- "Directory entry, 20 bytes: word start, word length, list start, count of singles s, count of pairs m.": its size, by edition
+-- "Directory entry, 20 bytes: word start, word length, list start, count of singles s, count of pairs m.": its size, the same in every edition so far
 abbrev pub entrySize : ℕ → ℕ
 entrySize e = 20
 

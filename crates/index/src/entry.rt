@@ -12,7 +12,7 @@ pub struct Entry {
     pub pairs: usize,
 }
 
-// How many bytes an entry takes.
+// How many bytes an entry takes: the walk asks by edition, so that one with longer entries changes nothing else.
 pub fn entry_size(edition: u32) -> usize
     ensures { λ r. ⌜ r ≡ entrySize edition ⌝ }
 {

@@ -1,4 +1,4 @@
-// Union and intersection of up to 16 lists of an index, by the paper's four methods.
+// Union and intersection of up to 16 lists of an index, by the Ginix paper's four methods.
 
 pub mod join;
 pub mod request;

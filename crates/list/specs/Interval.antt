@@ -31,7 +31,7 @@ names (l ∷ u ∷ r) x = (leb l x && leb x u) || names r x
 abbrev pub intervals : List ℕ → ℕ
 intervals c = length c / 2
 
--- "its records .. being how many record numbers its list names"
+-- "its records .. being how many record numbers its list names", of a proper list
 unfoldable pub records : List ℕ → ℕ
 records [] = 0
 records (l ∷ []) = 0
