@@ -57,7 +57,7 @@ lines-some : (zs : List ℕ) → 0 < length zs → linesOf zs ≡ take (lineLeng
 lines-some [] h = absurd (omega (arith, h))
 lines-some (x ∷ xs) h = lines-next x xs
 
--- the lines from a place on: the one up to where it ends, and those behind its byte 10
+-- the lines from a place on: the one up to where it ends, by `line_end`, and those behind its byte 10, where the asking program goes on
 pub lines-from : (xs : List ℕ) (from : ℕ) → from < length xs →
     linesOf (drop from xs) ≡ take (lineLength (drop from xs)) (drop from xs) ∷ linesOf (drop (from + lineLength (drop from xs) + 1) xs)
 lines-from xs from h =

@@ -3,7 +3,7 @@ use Prim.Native.Nat.{ℕ, zero, suc, _+_}
 use mathlib.Core.Bool.{Bool, cond}
 use mathlib.Core.List.{List, [], _∷_}
 use lib.Dec.{eqb, ltb}
-use lib.ListN.{length, getD, take}
+use lib.ListN.{length, getD}
 
 -- a byte before the lines behind it belongs to the first of them
 abbrev pub onto : ℕ → List (List ℕ) → List (List ℕ)
@@ -36,7 +36,3 @@ isPast input = ltb inputMost (length input)
 -- "it answers the whole lines within them": where the answered bytes end
 abbrev pub answeredEnd : List ℕ → ℕ
 answeredEnd input = cond (isPast input) (wholeEnd inputMost input) (length input)
-
--- the lines that are answered, in order
-abbrev pub answeredLines : List ℕ → List (List ℕ)
-answeredLines input = linesOf (take (answeredEnd input) input)
