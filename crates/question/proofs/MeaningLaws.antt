@@ -3,12 +3,29 @@ use Prim.Native.Nat.{ℕ, _+_, _<_}
 use native.Mathlib.Omega.{arith}
 use mathlib.Core.Path.{_≡_, refl, sym, ap, ap₂, _∙_}
 use mathlib.Core.List.{List, [], _++_}
-use mathlib.Core.Bool.{Bool}
+use mathlib.Core.Bool.{Bool, true, false}
 use lib.ListN.{length, getD, length-append, List·getD-append}
 use lib.Seq.{getD-append-add}
 use Rattle.question.specs.declared.token.Op.{Op}
+use Rattle.question.specs.declared.token.Op.the-variants.{And, Or, Not}
 use Rattle.question.specs.Grammar.{Tree, word, pair, part, wordsOf}
 use Rattle.question.specs.Meaning.{combine, fits}
+
+-- ---- what an operator says of its two sides
+
+-- in both
+pub and-says : (combine And true true ≡ true) × (combine And true false ≡ false) × (combine And false true ≡ false) × (combine And false false ≡ false)
+and-says = (refl, refl, refl, refl)
+
+-- in one or both
+pub or-says : (combine Or true true ≡ true) × (combine Or true false ≡ true) × (combine Or false true ≡ true) × (combine Or false false ≡ false)
+or-says = (refl, refl, refl, refl)
+
+-- in the left side, and not in the right one
+pub not-says : (combine Not true true ≡ false) × (combine Not true false ≡ true) × (combine Not false true ≡ false) × (combine Not false false ≡ false)
+not-says = (refl, refl, refl, refl)
+
+-- ---- by the words' numbers
 
 -- what is said of the tree's words, each by its number: `said k` of the k-th word of the question, where the tree's first is number `from`
 unfoldable pub fitsBy : (ℕ → Bool) → ℕ → Tree → Bool
