@@ -16,6 +16,7 @@ use Rattle.question.specs.declared.reader.Reading.the-variants.{Accepted
 use Rattle.question.specs.Token.{choose, tokensAt, tokens}
 use Rattle.question.specs.Grammar.{Tree, Rule, fromLeft, Out, good, bad, bind, question, ended, whole}
 use Rattle.question.specs.Reading.{Asked, asks, refuses, foreignAt, longAt, outcome, unless, asked, answer, readingOf}
+use Rattle.question.proofs.Apart.{zero-one}
 use Rattle.question.proofs.RuleLaws.{answer-any-rule}
 
 -- the question is accepted, with tree t and n words
@@ -24,9 +25,6 @@ pub record Accepts (rule : Rule) (s : List ℕ) (t : Tree) (n : ℕ) : Type 0 wh
   pub proper : first (foreignAt s) (length s) ≡ Nowhere
   pub words : first (longAt s) (length s) ≡ Nowhere
   pub reads : question rule (2 * length s + 2) 8 0 (tokens s) ≡ good t [] n
-
-zero-one : {A : Type 0} → _≡_ {A = ℕ} 0 1 → A
-zero-one z = absurd (omega arith)
 
 outcome-good : (o : Out Tree) (len : ℕ) (t : Tree) (n : ℕ) → outcome len (bind o ended) ≡ asks t n → o ≡ good t [] n
 outcome-good (good a [] j) len t n h = let p : a ≡ t = cc in let q : j ≡ n = cc in rw (p, q)

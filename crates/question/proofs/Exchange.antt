@@ -18,6 +18,7 @@ use Rattle.question.specs.Meaning.{Same, Respects}
 use Rattle.question.specs.Reading.{asks, asked}
 use Rattle.question.specs.Limits.{WithinLimits}
 use Rattle.question.specs.Exchange.{around, AcceptedToo, Exchangeable, Exchanged}
+use Rattle.question.proofs.Apart.{cons-nil}
 use Rattle.question.proofs.Lockstep as lock
 use Rattle.question.proofs.LimitLaws.{B, Why, grammar, words, brackets, bounds-question, tokens-length}
 use Rattle.question.proofs.AskedLaws.{asked-accepts, accepts-asked}
@@ -74,12 +75,6 @@ module _ (rule : Rule) (respects : Respects rule) (has : List ℕ → ℕ → Bo
   not-refused c r e limits (grammar h) = no-grammar c (bares r) (ap bareOut e) h
   not-refused c r e limits (words h) = let w = limits .words in omega arith
   not-refused c r e limits (brackets h) = let w = limits .brackets in omega arith
-
-  cons-nil : (x : Tok) (r : List Tok) → x ∷ r ≡ [] → ⊥
-  cons-nil x r e = let z : _≡_ {A = ℕ} 0 1 = cc in no z
-    where
-      no : _≡_ {A = ℕ} 0 1 → ⊥
-      no z = omega arith
 
   by-reading : WithinLimits second → (o : Out Tree) → reading ≡ o → B 0 0 (tokens second) o → AcceptedToo rule has second t
   by-reading limits (good u [] m) e w =

@@ -15,10 +15,8 @@ use Rattle.question.specs.declared.token.Token.the-variants.{Word, Op, O
 use Rattle.question.specs.Token.{choose, cut, Tok, wordT, openT, tokensAt}
 use Rattle.question.specs.Grammar.{Tree, word, part, Link, link, Rule, Out, good, bad, bind, closed, question, operand, links}
 use Rattle.question.specs.Next.{headed, NextToken}
+use Rattle.question.proofs.Apart.{zero-one}
 use Rattle.question.proofs.ReaderLaws.{none-operand, none-links, none-closed}
-
-zero-one : {A : Type 0} → _≡_ {A = ℕ} 0 1 → A
-zero-one z = absurd (omega arith)
 
 pub bad-good : {A B : Type 0} (c : ℕ) (v : List Tok) (b : B) (z : List Tok) (j : ℕ) → bad c v ≡ good b z j → A
 bad-good c v b z j e = zero-one (cc)

@@ -1,3 +1,4 @@
+pub mod Apart
 pub mod RunLaws
 pub mod TokenLaws
 pub mod ReaderLaws

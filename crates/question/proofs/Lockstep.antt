@@ -10,6 +10,7 @@ use Rattle.question.specs.declared.token.Op.{Op}
 use Rattle.question.specs.Token.{choose, Tok, wordT, opT, openT, closeT, otherT}
 use Rattle.question.specs.Grammar.{Tree, word, part, Link, link, Rule, Out, good, bad, bind, closed, question, operand, links}
 use Rattle.question.specs.Meaning.{fits, Same, SameLinks, none, more, Respects}
+use Rattle.question.proofs.Apart.{cons-nil}
 
 no-0 : _≡_ {A = ℕ} 0 9 → ⊥
 no-0 e = omega arith
@@ -279,12 +280,6 @@ module _ (rule : Rule) (respects : Respects rule) (has : List ℕ → ℕ → Bo
     module _ (f g i : ℕ) (pre : List Tok) (t : Tree) (h : question rule f 8 0 (pre ++ X) ≡ good t [] i) where
       in-step : (o : Out Tree) → question rule g 8 0 (pre ++ X′) ≡ o → T (good t [] i) o
       in-step o h′ = subst (λ (o : Out Tree). T (good t [] i) o) h′ (subst (λ (o : Out Tree). T o (question rule g 8 0 (pre ++ X′))) h (q-later f g 8 8 0 0 pre))
-
-      cons-nil : (t : Tok) (r : List Tok) → t ∷ r ≡ [] → ⊥
-      cons-nil t r e = let z : _≡_ {A = ℕ} 0 1 = cc in no01 z
-        where
-          no01 : _≡_ {A = ℕ} 0 1 → ⊥
-          no01 e = omega arith
 
       rests-nil : (r : List Tok) → Rests [] r → r ≡ []
       rests-nil r (same e) = sym e
