@@ -1,4 +1,4 @@
-// A line of the cases: where it ends, its fields, and what they say.
+// A line of the cases: its fields, and what they say.
 ghost use Prim.Native.Nat.{_≤_};
 ghost use lib.ListN.{length};
 ghost use Rattle.io.specs.Counts.{Counts};
@@ -16,13 +16,6 @@ fn find_byte(s: &[u8], from: usize, b: u8) -> usize
         i += 1;
     }
     i
-}
-
-pub fn line_end(s: &[u8], from: usize) -> usize
-    requires { ⌜ from ≤ length (now s) ⌝ }
-    ensures { λ r. ⌜ (from ≤ r) × (r ≤ length (now (s .entry))) ⌝ }
-{
-    find_byte(s, from, 10)
 }
 
 // Where the field behind the one at `from` starts.

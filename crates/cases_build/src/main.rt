@@ -7,7 +7,7 @@ mod line;
 mod many;
 mod print;
 
-use line::line_end;
+use lines::split::line_end;
 
 fn answer(text: &[u8]) {
     io::write_all(1, text);

@@ -4,7 +4,7 @@ use list::Written;
 // What stands in every byte before a build.
 pub const BEFORE: u8 = 165;
 
-pub fn print_refusal(refused: refusal::Refusal) {
+fn print_refusal(refused: refusal::Refusal) {
     io::write_all(1, b"refused ");
     io::print_decimal(1, refusal::number_of(refused));
     io::write_all(1, b" ");

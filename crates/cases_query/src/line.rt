@@ -1,4 +1,4 @@
-// The lines of the cases: where one ends, its number, and what stands behind a byte.
+// The lines of the cases: a line's number, and what stands behind a byte.
 ghost use Prim.Native.Nat.{_≤_};
 ghost use lib.ListN.{length};
 
@@ -15,13 +15,6 @@ fn find_byte(s: &[u8], from: usize, b: u8) -> usize
         i += 1;
     }
     i
-}
-
-pub fn line_end(s: &[u8], from: usize) -> usize
-    requires { ⌜ from ≤ length (now s) ⌝ }
-    ensures { λ r. ⌜ (from ≤ r) × (r ≤ length (now (s .entry))) ⌝ }
-{
-    find_byte(s, from, 10)
 }
 
 // What stands behind the first b; nothing where there is none.

@@ -9,8 +9,8 @@ use list::answer::Answer;
 mod line;
 
 use line::behind;
-use line::line_end;
 use line::number;
+use lines::split::line_end;
 
 fn print_two(a: u64, b: u64) {
     io::print_decimal(1, a);
