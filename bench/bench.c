@@ -45,7 +45,7 @@ struct job {
     uint32_t *cells;
     size_t room;
     struct naburain_answered (*join)(const uint8_t *, size_t, const uint32_t *, size_t, uint32_t *, size_t);
-    struct engine_result (*engine_join)(const uint8_t *, size_t, const uint32_t *, size_t, uint32_t *, size_t);
+    join_call *engine_join;
     struct roaring *roaring;
     struct sqlite *sqlite;
     struct tree *tree;
@@ -247,8 +247,8 @@ static void bench_questions(const struct corpus *corpus, uint32_t *ours, uint32_
 struct method {
     const char *what;
     struct naburain_answered (*ours)(const uint8_t *, size_t, const uint32_t *, size_t, uint32_t *, size_t);
-    struct engine_result (*engine)(const uint8_t *, size_t, const uint32_t *, size_t, uint32_t *, size_t);
-    struct engine_result (*reference)(const uint8_t *, size_t, const uint32_t *, size_t, uint32_t *, size_t);
+    join_call *engine;
+    join_call *reference;
 };
 
 static const struct method METHODS[] = {
@@ -421,13 +421,13 @@ static double steps_of(const struct corpus *corpus, const uint32_t *entries, siz
 /* Joins of ten times as many intervals, and of more lists: the time for one step should stay. */
 static void bench_growth(uint32_t *cells, size_t room)
 {
-    static const uint32_t FEW[] = {0, 1, 2, 3}, MANY[] = {0, 1, 2, 3, 4, 5, 6, 7, 8, 9, 10, 11, 12, 13, 14, 15}, RARE[] = {20, 0, 1, 2};
+    static const uint32_t FEW[] = {0, 1, 2, 3}, MANY[] = {0, 1, 2, 3, 4, 5, 6, 7, 8, 9, 10, 11, 12, 13, 14, 15}, SHORT[] = {10, 0, 1, 2};
     printf("\nJoins that grow (without the check; best of 12)\n%-22s %6s %12s %12s %14s\n", "method", "lists", "steps", "microseconds", "ns a step");
     for (uint32_t stretches = 1000; stretches <= 100000; stretches *= 10) {
         struct corpus corpus = make_corpus(&(struct kind){"growing", 16777215, stretches, 8, 5});
         for (size_t i = 0; i < sizeof METHODS / sizeof METHODS[0]; i++) {
             int probing = METHODS[i].ours == naburain_intersection_probing;
-            const uint32_t *lists[] = {FEW, probing ? RARE : MANY};
+            const uint32_t *lists[] = {FEW, probing ? SHORT : MANY};
             const size_t counts[] = {4, probing ? 4 : 16};
             for (int j = 0; j < 2; j++) {
                 struct job job = {.corpus = &corpus, .entries = lists[j], .entry_count = counts[j], .cells = cells, .room = room, .join = METHODS[i].ours};

@@ -127,11 +127,6 @@ static void put(struct request *request, uint32_t lower, uint32_t upper)
     request->records += upper - lower + 1;
 }
 
-static struct engine_result answered(const struct request *request)
-{
-    return (struct engine_result){0, 0, request->intervals, request->records};
-}
-
 /* The lower bound of each list's first interval, with its list. */
 static void first_lowers(const struct request *request, uint32_t *keys)
 {
@@ -241,19 +236,47 @@ static void twin_heap(struct request *request)
 
 /* ---- the calls ---- */
 
-#define CALL(name, method)                                                                                                                             \
-    struct engine_result name(const uint8_t *index, size_t length, const uint32_t *entries, size_t count, uint32_t *cells, size_t room)                 \
-    {                                                                                                                                                  \
-        struct request request;                                                                                                                        \
-        struct engine_result result = open_request(&request, index, length, entries, count, cells, room);                                              \
-        if (result.refusal != 0) {                                                                                                                     \
-            return result;                                                                                                                             \
-        }                                                                                                                                              \
-        method;                                                                                                                                        \
-        return answered(&request);                                                                                                                     \
-    }
+typedef void sweep(struct request *);
 
-CALL(method_scan_line, scan_line(&request, 0))
-CALL(method_scan_line_by_value, scan_line(&request, 1))
-CALL(method_active_interval, active_interval(&request))
-CALL(method_twin_heap, twin_heap(&request))
+static struct engine_result answer(sweep *method, const uint8_t *index, size_t length, const uint32_t *entries, size_t count, uint32_t *cells,
+                                   size_t room)
+{
+    struct request request;
+    struct engine_result result = open_request(&request, index, length, entries, count, cells, room);
+    if (result.refusal != 0) {
+        return result;
+    }
+    method(&request);
+    return (struct engine_result){0, 0, request.intervals, request.records};
+}
+
+static void scan_in_place(struct request *request)
+{
+    scan_line(request, 0);
+}
+
+static void scan_by_value(struct request *request)
+{
+    scan_line(request, 1);
+}
+
+struct engine_result method_scan_line(const uint8_t *index, size_t length, const uint32_t *entries, size_t count, uint32_t *cells, size_t room)
+{
+    return answer(scan_in_place, index, length, entries, count, cells, room);
+}
+
+struct engine_result method_scan_line_by_value(const uint8_t *index, size_t length, const uint32_t *entries, size_t count, uint32_t *cells,
+                                               size_t room)
+{
+    return answer(scan_by_value, index, length, entries, count, cells, room);
+}
+
+struct engine_result method_active_interval(const uint8_t *index, size_t length, const uint32_t *entries, size_t count, uint32_t *cells, size_t room)
+{
+    return answer(active_interval, index, length, entries, count, cells, room);
+}
+
+struct engine_result method_twin_heap(const uint8_t *index, size_t length, const uint32_t *entries, size_t count, uint32_t *cells, size_t room)
+{
+    return answer(twin_heap, index, length, entries, count, cells, room);
+}

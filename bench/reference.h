@@ -11,10 +11,6 @@ struct engine_result reference_check(const uint8_t *index, size_t length);
 struct engine_result reference_ask(const uint8_t *index, size_t length, const uint8_t *question, size_t question_length, uint32_t *cells,
                                    size_t room);
 
-/* Refusals 1 to 5, 13, 14, 12. */
-struct engine_result reference_union(const uint8_t *index, size_t length, const uint32_t *entries, size_t count, uint32_t *cells,
-                                     size_t room);
-struct engine_result reference_intersection(const uint8_t *index, size_t length, const uint32_t *entries, size_t count, uint32_t *cells,
-                                            size_t room);
+join_call reference_union, reference_intersection;
 
 #endif

@@ -55,32 +55,25 @@ pub unsafe extern "C" fn reference_ask(
     written(answer, from_raw_parts_mut(cells, room))
 }
 
-/// # Safety
-/// As `reference_check`.
-#[no_mangle]
-pub unsafe extern "C" fn reference_union(
-    index: *const u8,
-    length: usize,
-    entries: *const u32,
-    count: usize,
-    cells: *mut u32,
-    room: usize,
-) -> EngineResult {
-    let answer = join(from_raw_parts(index, length), Join::Union, from_raw_parts(entries, count));
-    written(answer, from_raw_parts_mut(cells, room))
+/// The two joins differ in what they ask of the lists alone.
+macro_rules! join_call {
+    ($name:ident, $how:expr) => {
+        /// # Safety
+        /// As `reference_check`.
+        #[no_mangle]
+        pub unsafe extern "C" fn $name(
+            index: *const u8,
+            length: usize,
+            entries: *const u32,
+            count: usize,
+            cells: *mut u32,
+            room: usize,
+        ) -> EngineResult {
+            let answer = join(from_raw_parts(index, length), $how, from_raw_parts(entries, count));
+            written(answer, from_raw_parts_mut(cells, room))
+        }
+    };
 }
 
-/// # Safety
-/// As `reference_check`.
-#[no_mangle]
-pub unsafe extern "C" fn reference_intersection(
-    index: *const u8,
-    length: usize,
-    entries: *const u32,
-    count: usize,
-    cells: *mut u32,
-    room: usize,
-) -> EngineResult {
-    let answer = join(from_raw_parts(index, length), Join::Intersection, from_raw_parts(entries, count));
-    written(answer, from_raw_parts_mut(cells, room))
-}
+join_call!(reference_union, Join::Union);
+join_call!(reference_intersection, Join::Intersection);
