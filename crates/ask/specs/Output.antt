@@ -1,4 +1,4 @@
--- "It reads `index.bin` (up to 65,536 bytes; missing or longer is treated as refusal 1, with length 0 or 65,537) and questions, one a line".
+-- Reference 10: what the asking program writes for a question, by what it read of the file.
 use Prim.Native.Nat.{ℕ, _/_}
 use mathlib.Core.Path.{_≡_}
 use mathlib.Core.Bool.{cond}
@@ -15,7 +15,7 @@ use Rattle.question.specs.Reading.{asked}
 use Rattle.query.specs.Ask.{askAnswer, askCells}
 use Rattle.lines.specs.Line.{lineOf}
 
--- the check of what was read of the file: of a missing file nothing, of a longer one 65,537 bytes
+-- Reference 10: the check of what was read; of a missing file that is nothing, of one that is too long 65,537 bytes
 abbrev pub fileCheck : List ℕ → Checked
 fileCheck index = cond (ltb 65536 (length index)) (Refused (IndexLength 65537)) (checkOf index)
 
@@ -30,6 +30,6 @@ pub record AnswersLine (index question out out′ : List ℕ) (r : Answer) : Typ
   pub answer : r ≡ answerTo index question (length out / 2)
   pub cells : out′ ≡ cellsFor index question (length out / 2) out
 
--- "It lends 16,384 cells for each answer": the bytes of a question's line. It shows no cell behind the list, so what stood there before does not matter
+-- Reference 10: a question's line, with room for 8,192 intervals; it shows no cell behind the list, so that those are left out here
 abbrev pub questionLine : List ℕ → ℕ → List ℕ → List ℕ
 questionLine index number question = lineOf number (answerTo index question 8192) (cellsFor index question 8192 [])

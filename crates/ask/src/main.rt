@@ -1,4 +1,4 @@
-// Answers the questions of standard input, one a line, over the index in `index.bin`.
+// Reference 10: answers the lines of standard input over the index in `index.bin`.
 mod answer;
 mod transfer;
 

@@ -20,7 +20,7 @@ use Rattle.list.proofs.ProperLaws.{ProperFrom, proper-facts, facts-proper, prop
 
 -- ---- the interval at place i
 
--- a lone last cell
+-- a last cell without a second
 pub bad-interval-cut : (c : List ℕ) (i : ℕ) → length c ≤ 2 * i + 1 → badInterval c i ≡ true
 unfolding badInterval
 bad-interval-cut c i h = rw (le-leb (length c) (2 * i + 1) h)

@@ -1,4 +1,4 @@
--- Numbers to intervals, and intervals to numbers: when each is refused, and what each writes.
+-- Numbers to intervals, and intervals to numbers: when each is refused, and what each writes. Reference 8.7 and 8.8.
 use Prim.Native.Nat.{ℕ, zero, suc, _+_, _*_, _/_}
 use mathlib.Core.Path.{_≡_}
 use mathlib.Core.Bool.{Bool, cond, _||_}
@@ -21,16 +21,16 @@ abbrev pub numberBefore : List ℕ → ℕ → ℕ
 numberBefore xs zero = 0
 numberBefore xs (suc i) = getD xs i 0
 
--- 15: "record number 0, above its limit, or not above the one before in its list"; the one before the first is 0, which says the first of the three
+-- Reference 9.1, row 15: before the first number stands 0, so that one comparison refuses a 0 too
 unfoldable pub badNumber : ℕ → List ℕ → ℕ → Bool
 badNumber limit xs i = leb (getD xs i 0) (numberBefore xs i) || ltb limit (getD xs i 0)
 
--- the least l that interval i may have
+-- Reference 3.1: the least l that interval i may have
 abbrev pub leastLower : List ℕ → ℕ → ℕ
 leastLower c zero = 1
 leastLower c (suc i) = getD c (2 * i + 1) 0 + 2
 
--- 16: "interval cells not a proper list: first bad interval; a lone last cell counts as one"
+-- Reference 9.1, row 16: the first test is that of a last cell without a second
 unfoldable pub badInterval : List ℕ → ℕ → Bool
 badInterval c i =
     leb (length c) (2 * i + 1)
@@ -38,36 +38,36 @@ badInterval c i =
     || ltb (getD c (2 * i + 1) 0) (getD c (2 * i) 0)
     || ltb top (getD c (2 * i + 1) 0)
 
--- a fault that was found is refused; "12: no room", with what is needed; otherwise what is needed is written
+-- Reference 9.2: a fault first, then 12 with what is needed; else that much is written
 abbrev pub answerOf : (ℕ → Refusal) → Found → ℕ → ℕ → Written
 answerOf refusal (At i) needed room = Refused (refusal i)
 answerOf refusal Nowhere needed room = cond (leb needed room) (Wrote needed) (Refused (Room needed))
 
--- "The cells after the last interval of an answer stay unchanged"; a refusal leaves all as it was
+-- Reference 7: what is written stands in front, and the rest stays; a refusal leaves all as it was
 abbrev pub leftOf : Found → ℕ → ℕ → List ℕ → List ℕ → List ℕ
 leftOf (At i) needed room written out = out
 leftOf Nowhere needed room written out = cond (leb needed room) (written ++ drop (length written) out) out
 
--- "Numbers to intervals: 15 (limit 16,777,215), 12."
+-- Reference 8.7: the first bad number, and the list to write
 abbrev pub badNumberOf : List ℕ → Found
 badNumberOf xs = first (badNumber top xs) (length xs)
 
 abbrev pub intervalsOf : List ℕ → List ℕ
 intervalsOf xs = cellsOf (among xs) top
 
--- "Room for intervals counts whole pairs of cells"
+-- Reference 8.7: the room is half of the cells
 pub record ToIntervals (xs out out′ : List ℕ) (r : Written) : Type 0 where
   pub answer : r ≡ answerOf Number (badNumberOf xs) (intervals (intervalsOf xs)) (length out / 2)
   pub cells : out′ ≡ leftOf (badNumberOf xs) (intervals (intervalsOf xs)) (length out / 2) (intervalsOf xs) out
 
--- "Intervals to numbers: 16, 12."
+-- Reference 8.8: the first bad interval, where a last cell without a second counts as one, and the numbers to write
 abbrev pub badIntervalOf : List ℕ → Found
 badIntervalOf c = first (badInterval c) ((length c + 1) / 2)
 
 abbrev pub numbersOf : List ℕ → List ℕ
 numbersOf c = recordsOf (names c) top
 
--- room for numbers counts cells
+-- Reference 8.8: the room is all of the cells
 pub record ToNumbers (c out out′ : List ℕ) (r : Written) : Type 0 where
   pub answer : r ≡ answerOf Interval (badIntervalOf c) (records c) (length out)
   pub cells : out′ ≡ leftOf (badIntervalOf c) (records c) (length out) (numbersOf c) out

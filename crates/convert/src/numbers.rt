@@ -1,4 +1,4 @@
-// Record numbers in order: refusal 15.
+// Reference 9.1, row 15: record numbers in order.
 use refusal::Found;
 ghost use mathlib.Core.Path.{_≡_};
 ghost use Prim.Native.Nat.{_<_};
@@ -6,7 +6,7 @@ ghost use lib.ListN.{length};
 ghost use Rattle.refusal.specs.First.{first};
 ghost use Rattle.convert.specs.Convert.{badNumber};
 
-// The first number that is 0, above the limit, or not above the one before it.
+// The first number that the row refuses, by a limit of the caller.
 pub fn first_bad_number(numbers: &[u32], limit: u32) -> Found
     ensures { λ r. ⌜ r ≡ first (badNumber limit (now (numbers .entry))) (length (now (numbers .entry))) ⌝ }
 {

@@ -71,7 +71,7 @@ fn write_intervals(numbers: &[u32], out: &mut [u32])
     out[k + 1] = u;
 }
 
-// Numbers to intervals: refusals 15 (limit 16,777,215) and 12, or how many intervals were written.
+// Reference 8.7: refusals 15 and 12, or how many intervals were written.
 pub fn to_intervals(numbers: &[u32], out: &mut [u32]) -> Written
     ensures { λ r. ⌜ ToIntervals (now (numbers .entry)) (now (out .entry)) (now (out .exit)) r ⌝ }
 {

@@ -13,7 +13,7 @@ ghost use Rattle.list.specs.Interval.{records};
 ghost use Rattle.list.specs.Stretches.{recordsFrom};
 ghost use Rattle.convert.specs.Convert.{badIntervalOf, numbersOf, ToNumbers};
 
-// The first interval that does not stand in a proper list; a lone last cell counts as one.
+// Reference 9.1, row 16: the first bad interval.
 fn first_bad_interval(cells: &[u32]) -> Found
     ensures { λ r. ⌜ r ≡ badIntervalOf (now (cells .entry)) ⌝ }
 {
@@ -85,7 +85,7 @@ fn write_numbers(cells: &[u32], out: &mut [u32])
     }
 }
 
-// Intervals to numbers: refusals 16 and 12, or how many numbers were written.
+// Reference 8.8: refusals 16 and 12, or how many numbers were written.
 pub fn to_numbers(cells: &[u32], out: &mut [u32]) -> Written
     ensures { λ r. ⌜ ToNumbers (now (cells .entry)) (now (out .entry)) (now (out .exit)) r ⌝ }
 {

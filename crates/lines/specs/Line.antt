@@ -1,4 +1,4 @@
--- "Fields of each line: line number from 1; refusal or 0; its value or 0. An answered line goes on with intervals, records and each interval as l-u."
+-- Reference 10: the bytes of a line that the asking program writes.
 use Prim.Native.Nat.{ℕ, zero, suc, _+_, _*_, _/_, _%_}
 use mathlib.Core.Path.{_≡_}
 use mathlib.Core.Bool.{cond}
@@ -11,7 +11,7 @@ use Rattle.list.specs.declared.answer.Tally.{Tally}
 use Rattle.list.specs.declared.answer.Answer.{Answer}
 use Rattle.list.specs.declared.answer.Answer.the-variants.{Listed, Refused}
 
--- a number in the fewest decimal digits, of which there are at most k
+-- Reference 10: a number in the fewest decimal digits, of which there are at most k
 unfoldable pub numeralIn : ℕ → ℕ → List ℕ
 numeralIn zero n = []
 numeralIn (suc k) n = cond (ltb n 10) ((48 + n) ∷ []) (numeralIn k (n / 10) ++ ((48 + n % 10) ∷ []))
@@ -20,11 +20,11 @@ numeralIn (suc k) n = cond (ltb n 10) ((48 + n) ∷ []) (numeralIn k (n / 10) ++
 unfoldable pub numeral : ℕ → List ℕ
 numeral n = numeralIn 20 n
 
--- each field but the first stands behind a space
+-- Reference 10: each field but the first stands behind a space
 abbrev pub field : ℕ → List ℕ
 field n = 32 ∷ numeral n
 
--- "each interval as l-u"
+-- Reference 10: an interval is one field, with a dash between its bounds
 abbrev pub intervalText : ℕ → ℕ → List ℕ
 intervalText l u = field l ++ (45 ∷ []) ++ numeral u
 
@@ -33,7 +33,7 @@ intervalsText [] = []
 intervalsText (l ∷ []) = []
 intervalsText (l ∷ u ∷ r) = intervalText l u ++ intervalsText r
 
--- "line number from 1; refusal or 0; its value or 0"
+-- Reference 10: the three fields that every line has
 abbrev pub headText : ℕ → ℕ → ℕ → List ℕ
 headText number refusal value = numeral number ++ field refusal ++ field value
 
@@ -42,11 +42,11 @@ abbrev pub shown : Answer → ℕ
 shown (Listed tally) = 2 * tally .intervals
 shown (Refused refusal) = 0
 
--- "An answered line goes on with intervals, records and each interval"
+-- Reference 10: the fields that follow where the question was answered
 abbrev pub tallyText : Tally → List ℕ → List ℕ
 tallyText tally cells = field (tally .intervals) ++ field (tally .records) ++ intervalsText (take (2 * tally .intervals) cells)
 
--- the bytes of a line, ended by byte 10
+-- Reference 10: the whole line, with the byte 10 that ends it
 abbrev pub lineOf : ℕ → Answer → List ℕ → List ℕ
 lineOf number (Listed tally) cells = headText number 0 0 ++ tallyText tally cells ++ (10 ∷ [])
 lineOf number (Refused refusal) cells = headText number (numberOf refusal) (valueOf refusal) ++ (10 ∷ [])

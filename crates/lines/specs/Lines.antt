@@ -1,4 +1,4 @@
--- "questions, one a line ended by byte 10, from standard input"
+-- Reference 10: the lines of an input, and how much of it is answered.
 use Prim.Native.Nat.{ℕ, zero, suc, _+_}
 use mathlib.Core.Bool.{Bool, cond}
 use mathlib.Core.List.{List, [], _∷_}
@@ -10,7 +10,7 @@ abbrev pub onto : ℕ → List (List ℕ) → List (List ℕ)
 onto x [] = (x ∷ []) ∷ []
 onto x (line ∷ lines) = (x ∷ line) ∷ lines
 
--- "An unended last line counts, but not an empty remainder."
+-- Reference 10: the lines; bytes behind the last byte 10 are one more, and nothing there is none
 unfoldable pub linesOf : List ℕ → List (List ℕ)
 linesOf [] = []
 linesOf (x ∷ xs) = cond (eqb x 10) ([] ∷ linesOf xs) (onto x (linesOf xs))
@@ -25,14 +25,14 @@ unfoldable pub wholeEnd : ℕ → List ℕ → ℕ
 wholeEnd zero xs = 0
 wholeEnd (suc k) xs = cond (eqb (getD xs k 0) 10) (k + 1) (wholeEnd k xs)
 
--- the most bytes of input that are answered
+-- Reference 10: the most bytes of input that are answered
 abbrev pub inputMost : ℕ
 inputMost = 65536
 
--- "Past 65,536 input bytes .. then writes `more` alone on a line."
+-- Reference 10: whether there is too much input, which `more` tells
 abbrev pub isPast : List ℕ → Bool
 isPast input = ltb inputMost (length input)
 
--- "it answers the whole lines within them": where the answered bytes end
+-- Reference 10: where the answered bytes end; of too much input, behind the last line that ends within them
 abbrev pub answeredEnd : List ℕ → ℕ
 answeredEnd input = cond (isPast input) (wholeEnd inputMost input) (length input)

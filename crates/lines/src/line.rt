@@ -1,4 +1,4 @@
-// The line of an answer.
+// The line of an answer. Reference 10.
 ghost use Prim.Native.Nat.{_+_, _≤_};
 ghost use lib.ListN.{length};
 ghost use Rattle.lines.specs.Line.{headText, tallyText, shown, lineOf, Puts, Written};
@@ -11,7 +11,7 @@ use list::answer::Tally;
 // Room for every line of at most 16,384 cells: five numbers with a byte behind each, 21 bytes each, and 42 bytes for each interval, at most 20 digits to a number.
 pub const LINE_ROOM: usize = 344_169;
 
-// The line number, the refusal or 0, and its value or 0.
+// The three fields that every line has.
 fn put_head(out: &mut [u8], number: u64, refusal: u64, value: u64) -> usize
     requires { ⌜ 0 + length (headText number refusal value) ≤ length (now out) ⌝ }
     ensures { λ r. ⌜ Puts (now (out .entry)) 0 (headText number refusal value) (now (out .exit)) r ⌝ }
@@ -21,7 +21,7 @@ fn put_head(out: &mut [u8], number: u64, refusal: u64, value: u64) -> usize
     put_field(out, behind_refusal, value)
 }
 
-// The intervals, the records and each interval.
+// The fields of an answer.
 fn put_tally(out: &mut [u8], at: usize, tally: Tally, cells: &[u32]) -> usize
     requires { ⌜ (shown (Answer.Listed tally) ≤ length (now cells)) × (at + length (tallyText tally (now cells)) ≤ length (now out)) ⌝ }
     ensures { λ r. ⌜ Puts (now (out .entry)) at (tallyText tally (now (cells .entry))) (now (out .exit)) r ⌝ }

@@ -1,4 +1,4 @@
-// The lines of an input.
+// The lines of an input. Reference 10.
 ghost use mathlib.Core.Path.{_≡_};
 ghost use Prim.Native.Nat.{_+_, _≤_};
 ghost use lib.ListN.{length, drop};

@@ -1,4 +1,4 @@
--- "Where one refusal holds at several places, the first gives the value."
+-- Reference 9.1: of several places at which a rule is broken, the first is told.
 use Prim.Native.Nat.{ℕ, zero, suc, _+_}
 use mathlib.Core.Bool.{Bool, cond}
 use Rattle.refusal.specs.declared.Found.{Found}

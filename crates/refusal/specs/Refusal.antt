@@ -1,4 +1,4 @@
--- "Every refusal leaves all lent memory unchanged and returns its number with the value shown."
+-- Reference 9.1: each refusal with its number and its value.
 use Prim.Native.Nat.{ℕ}
 use Rattle.refusal.specs.declared.Refusal.{Refusal}
 use Rattle.refusal.specs.declared.Refusal.the-variants.{
@@ -25,7 +25,7 @@ use Rattle.refusal.specs.declared.Refusal.the-variants.{
   Missing,
 }
 
--- the column "No." of the table
+-- Reference 9.1: the number
 abbrev pub numberOf : Refusal → ℕ
 numberOf (IndexLength n) = 1
 numberOf (Edition e) = 2
@@ -49,7 +49,7 @@ numberOf (BuildLimit i) = 19
 numberOf ProbeRange = 20
 numberOf Missing = 21
 
--- the column "Value": a length, an edition, an entry, a place, what was needed, how many, or 0
+-- Reference 9.1: the value, which the refusal carries, or 0 where there is nothing to tell
 abbrev pub valueOf : Refusal → ℕ
 valueOf (IndexLength n) = n
 valueOf (Edition e) = e

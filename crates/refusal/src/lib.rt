@@ -32,7 +32,7 @@ pub enum Found {
     Nowhere,
 }
 
-// The refusal's number in the table of document 01.
+// Reference 9.1: the refusal's number.
 pub fn number_of(refusal: Refusal) -> u64
     ensures { λ r. ⌜ r ≡ numberOf refusal ⌝ }
 {
@@ -61,7 +61,7 @@ pub fn number_of(refusal: Refusal) -> u64
     }
 }
 
-// The value that the table gives with it.
+// Reference 9.1: its value.
 pub fn value_of(refusal: Refusal) -> u64
     ensures { λ r. ⌜ r ≡ valueOf refusal ⌝ }
 {

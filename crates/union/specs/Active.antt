@@ -1,4 +1,4 @@
--- The improved scan line: an active interval, which the next one joins, or which is put where the next one lies apart.
+-- Reference 3.3: an active interval, which the next one joins, or which is put where the next one lies apart.
 use Prim.Native.Nat.{ℕ, max, _+_}
 use mathlib.Core.Path.{_≡_}
 use mathlib.Core.Bool.{Bool, true, false, cond}

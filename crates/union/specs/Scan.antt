@@ -1,4 +1,4 @@
--- The scan line: a counter over all bounds in ascending order, which is the number of lists that are in.
+-- Reference 3.3: the scan line, a counter over all bounds in ascending order, which is the number of lists that are in.
 use Prim.Native.Nat.{ℕ, _-_}
 use mathlib.Core.Path.{_≡_}
 use mathlib.Core.Bool.{Bool, cond}

@@ -1,4 +1,4 @@
-// The union by the improved scan line: intervals come in the order of their lower bounds, and join the active one or are put apart from it.
+// The union by an active interval: intervals come in the order of their lower bounds, and join the active one or are put apart from it.
 ghost use mathlib.Core.Path.{_≡_};
 ghost use mathlib.Core.Bool.{true};
 ghost use Prim.Native.Nat.{max, _≤_};

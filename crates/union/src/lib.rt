@@ -1,4 +1,4 @@
-// The records in at least one list of a request, by the scan line and by the improved scan line.
+// Reference 3.3: the union of the lists of a request, by two methods.
 
 pub mod active;
 pub mod scan;

@@ -1,4 +1,4 @@
--- Words: their bytes, their order, and the three that are operators.
+-- Words: their bytes, their order, and the three that are operators. Reference 2.
 use Prim.Native.Nat.{ℕ}
 use mathlib.Core.Bool.{Bool, true, false, not, cond, _&&_, _||_}
 use mathlib.Core.List.{List, [], _∷_}
@@ -12,7 +12,7 @@ use Rattle.word.specs.declared.Order.the-variants.{Before, Same, Behind}
 abbrev pub between : ℕ → ℕ → ℕ → Bool
 between a b x = leb a x && leb x b
 
--- "A word consists of A-Z, a-z and 0-9, ..
+-- Reference 2: digits, capital letters, small letters
 unfoldable pub isWordByte : ℕ → Bool
 isWordByte b = between 48 57 b || between 65 90 b || between 97 122 b
 
@@ -20,21 +20,21 @@ unfoldable pub allWordBytes : List ℕ → Bool
 allWordBytes [] = true
 allWordBytes (b ∷ bs) = isWordByte b && allWordBytes bs
 
--- .. compared byte for byte."
+-- Reference 2: the same bytes in the same order
 unfoldable pub same : List ℕ → List ℕ → Bool
 same [] [] = true
 same [] (y ∷ ys) = false
 same (x ∷ xs) [] = false
 same (x ∷ xs) (y ∷ ys) = eqb x y && same xs ys
 
--- "Words are ordered by bytes; a prefix comes first.": whether the first stands before the second
+-- Reference 2: whether the first stands before the second, of any two strings of bytes
 unfoldable pub before : List ℕ → List ℕ → Bool
 before [] [] = false
 before [] (y ∷ ys) = true
 before (x ∷ xs) [] = false
 before (x ∷ xs) (y ∷ ys) = ltb x y || (eqb x y && before xs ys)
 
--- "Operators are `and`, `or`, `not`, in small letters only"
+-- Reference 2: the three operators, by the bytes of their small letters
 unfoldable pub isAnd : List ℕ → Bool
 isAnd w = same w (97 ∷ 110 ∷ 100 ∷ [])
 
@@ -47,7 +47,7 @@ isNot w = same w (110 ∷ 111 ∷ 116 ∷ [])
 unfoldable pub isOperator : List ℕ → Bool
 isOperator w = isAnd w || isOr w || isNot w
 
--- "Word rule: length, bytes, .. and no word is `and`, `or` or `not`." (The order is between two words.)
+-- Reference 2: whether the bytes are a word; how it stands to others is no part of that
 unfoldable pub isWord : List ℕ → Bool
 isWord w = between 1 32 (length w) && allWordBytes w && not (isOperator w)
 

@@ -1,4 +1,4 @@
-// Words: their bytes, their order, and the three that are operators.
+// Words: their bytes, their order, and the three that are operators. Reference 2.
 ghost use mathlib.Core.Path.{_≡_};
 ghost use mathlib.Core.Bool.{cond};
 ghost use Prim.Native.Nat.{min};
@@ -13,7 +13,7 @@ ghost use Rattle.word.specs.Word.{
 };
 ghost use Rattle.word.specs.declared.Order.the-variants.{Before, Behind};
 
-// Which operator a run of word bytes is, if it is one.
+// Which of the operators some word bytes are, if any.
 pub enum Operator {
     And,
     Or,
@@ -28,7 +28,7 @@ pub enum Order {
     Behind,
 }
 
-// Whether a byte is one of A-Z, a-z and 0-9, without a branch.
+// Whether a byte is a word byte, without a branch.
 pub fn word_byte(b: u8) -> bool
     ensures { λ r. ⌜ r ≡ isWordByte b ⌝ }
 {
