@@ -59,14 +59,14 @@ one-within index word x (suc k) i h e f =
             by-le (yes d) = absurd (n (omega arith))
             by-le (no d) = lt-of-not-le d
 
--- "the word's list": an index has of a word what the list of its entry names
+-- Reference 5.5: an index has of a word what the list of its entry names
 pub has-entry : (index : List ℕ) → Sound index → (word : List ℕ) (i x : ℕ) → i < wordCount index → wordOf index i ≡ word →
     has index word x ≡ names (listOf index i) x
 unfolding has
 has-entry index s word i x h e =
     one-within index word x (wordCount index) i h (equal-same (wordOf index i) word e) (λ j k n. word-others index s word i j h k e n)
 
--- "A word that the index lacks names no record."
+-- Reference 5.5: a word without an entry
 pub has-nowhere : (index word : List ℕ) (x : ℕ) → ((j : ℕ) → j < wordCount index → same (wordOf index j) word ≡ false) → has index word x ≡ false
 unfolding has
 has-nowhere index word x f = none-within index word x (wordCount index) f

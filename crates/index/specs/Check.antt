@@ -1,4 +1,4 @@
--- "Index calls: 1, 2, 3, 4 over all entries, 5. Each refusal is given when it holds and none before it does, and not otherwise."
+-- Reference 8.1 and 9.2: what a check answers, refusals 1 to 5 in their order.
 use Prim.Native.Nat.{ℕ}
 use mathlib.Core.Bool.{Bool, cond}
 use mathlib.Core.List.{List}
@@ -13,7 +13,7 @@ use Rattle.index.specs.declared.Checked.the-variants.{Good, Refused}
 use Rattle.index.specs.Format.{wordCount, edition}
 use Rattle.index.specs.Sound.{badLength, badEdition, badTrailer, badEntry, badEnd, badList}
 
--- 4: "first bad entry; n if only an end is wrong"
+-- Reference 9.1, row 4: the first bad entry, or n
 abbrev pub badPlace : Found → Bool → ℕ → Found
 badPlace (At i) ends n = At i
 badPlace Nowhere ends n = cond ends (At n) Nowhere
@@ -25,7 +25,7 @@ abbrev pub entriesAnswer : Found → Checked → Checked
 entriesAnswer (At i) next = Refused (Directory i)
 entriesAnswer Nowhere next = next
 
--- 5: "first bad entry"
+-- Reference 9.1, row 5
 abbrev pub badListOf : List ℕ → Found
 badListOf index = first (badList index) (wordCount index)
 
@@ -33,11 +33,11 @@ abbrev pub listsAnswer : Found → Checked
 listsAnswer (At i) = Refused (KeptList i)
 listsAnswer Nowhere = Good
 
--- what a check answers once the trailer is good
+-- Reference 9.2: 4, then 5
 unfoldable pub contentsOf : List ℕ → Checked
 contentsOf index = entriesAnswer (badEntryOf index) (listsAnswer (badListOf index))
 
--- what a check answers
+-- Reference 9.2: the whole check
 unfoldable pub checkOf : List ℕ → Checked
 checkOf index =
     cond (badLength index) (Refused (IndexLength (length index)))

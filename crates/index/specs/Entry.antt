@@ -1,4 +1,4 @@
--- The calls that read one entry: each checks the index first, then asks what it is asked.
+-- The calls that read one entry: each checks the index first, then asks what it is asked. Reference 8.2 to 8.4.
 use Prim.Native.Nat.{ℕ}
 use mathlib.Core.Bool.{Bool, cond, _||_}
 use mathlib.Core.List.{List, []}
@@ -19,7 +19,7 @@ use Rattle.index.specs.declared.Probed.the-variants.{Counted, NoCount}
 use Rattle.index.specs.Format.{wordCount, wordOf, listOf}
 use Rattle.index.specs.Check.{checkOf}
 
--- "A lookup answers the word's entry number, from 0."; 21: "word looked up isn't in the directory"
+-- Reference 8.2: the entry, or 21 behind the check
 abbrev pub foundAnswer : Found → Lookup
 foundAnswer (At i) = Entry i
 foundAnswer Nowhere = NoEntry Missing
@@ -31,16 +31,16 @@ lookupAfter Good found = foundAnswer found
 unfoldable pub lookupOf : List ℕ → List ℕ → Lookup
 lookupOf index word = lookupAfter (checkOf index) (first (λ i. same (wordOf index i) word) (wordCount index))
 
--- 14: "entry number not below n", with the value 0, since it is the only one
+-- Reference 9.1, row 14: a call of one entry has no place to tell
 abbrev pub entryAfter : Checked → Bool → Checked
 entryAfter (Refused r) below = Refused r
 entryAfter Good below = cond below Good (Refused (EntryNumber 0))
 
--- "An entry's word is asked for by two calls on the same arguments: one returns 0 or the refusal with its value,
+-- Reference 8.3: the refusal or none
 unfoldable pub entryOf : List ℕ → ℕ → Checked
 entryOf index i = entryAfter (checkOf index) (ltb i (wordCount index))
 
--- the other hands the word back as that part of the lent index, or an empty part when refused."
+-- Reference 8.3: the word, nothing where it is refused
 abbrev pub wordAfter : Checked → List ℕ → List ℕ
 wordAfter Good word = word
 wordAfter (Refused r) word = []
@@ -48,7 +48,7 @@ wordAfter (Refused r) word = []
 unfoldable pub entryWord : List ℕ → ℕ → List ℕ
 entryWord index i = wordAfter (entryOf index i) (wordOf index i)
 
--- 20: "probe with a = 0, a > b or b > 16,777,215"
+-- Reference 9.1, row 20
 unfoldable pub badRange : ℕ → ℕ → Bool
 badRange a b = eqb a 0 || ltb b a || ltb top b
 
@@ -59,6 +59,6 @@ abbrev pub probeAfter : Checked → Probed → Probed
 probeAfter (Refused r) counted = NoCount r
 probeAfter Good counted = counted
 
--- "Probe: 14, 20."
+-- Reference 8.4: 14, then 20, then the two counts
 unfoldable pub probeOf : List ℕ → ℕ → ℕ → ℕ → Probed
 probeOf index i a b = probeAfter (entryOf index i) (rangeAnswer (badRange a b) (belowCount a (listOf index i)) (overlapCount a b (listOf index i)))

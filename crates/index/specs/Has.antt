@@ -7,12 +7,12 @@ use Rattle.list.specs.Interval.{names}
 use Rattle.list.specs.Ginix.{one}
 use Rattle.index.specs.Format.{wordCount, wordOf, listOf}
 
--- whether one of the first k entries is the word's, with the record in its list
+-- Reference 5.5: whether one of the first k entries is the word's, with the record in its list
 unfoldable pub hasWithin : List ℕ → ℕ → List ℕ → ℕ → Bool
 hasWithin index zero word x = false
 hasWithin index (suc k) word x = (same (wordOf index k) word && names (listOf index k) x) || hasWithin index k word x
 
--- whether the word stands in record x; "A word that the index lacks names no record."
+-- Reference 5.5: whether the index has the word in record x
 unfoldable pub has : List ℕ → List ℕ → ℕ → Bool
 has index word x = hasWithin index (wordCount index) word x
 

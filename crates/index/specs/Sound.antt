@@ -1,4 +1,4 @@
--- When an index is sound, rule by rule.
+-- When an index is sound, rule by rule. Reference 5.
 use Prim.Native.Nat.{ℕ, zero, suc, _+_, _*_, _<_}
 use mathlib.Core.Path.{_≡_}
 use mathlib.Core.Bool.{Bool, false, not, _||_}
@@ -30,15 +30,15 @@ use Rattle.index.specs.Format.{
   upperOf,
 }
 
--- 1: "index under 20 or over 16,777,216 bytes"
+-- Reference 5.1, rule 1
 unfoldable pub badLength : List ℕ → Bool
 badLength index = ltb (length index) 20 || ltb 16777216 (length index)
 
--- 2: "edition is not 1"
+-- Reference 5.1, rule 2
 unfoldable pub badEdition : List ℕ → Bool
 badEdition index = not (eqb (edition index) 1)
 
--- 3: "N or n too large, W > D, or the length rule fails": "D + 20n + 20 equal to its length"
+-- Reference 5.1, rule 3
 unfoldable pub badTrailer : List ℕ → Bool
 badTrailer index =
     ltb top (highest index)
@@ -46,8 +46,7 @@ badTrailer index =
     || ltb (directoryStart index) (wordsStart index)
     || not (eqb (directoryStart index + entrySize (edition index) * wordCount index + 20) (length index))
 
--- "Directory rule: each start equals what the entries before it add up to; s + m is at least 1; an entry whose word runs past D or whose list
---  runs past W is bad"
+-- Reference 5.2: whether entry i breaks the directory rule, in the order of its sentences there; the last two are its two ends
 unfoldable pub badDirectory : List ℕ → ℕ → Bool
 badDirectory index i =
     not (eqb (wordStart index i) (wordsEnd index i))
@@ -56,31 +55,31 @@ badDirectory index i =
     || ltb (directoryStart index) (wordsEnd index (i + 1))
     || ltb (wordsStart index) (listsEnd index (i + 1))
 
--- the word before entry i's; nothing stands before the first
+-- Reference 5.3: the word before entry i's; before the first the empty string, which stands before every word
 abbrev pub wordBefore : List ℕ → ℕ → List ℕ
 wordBefore index zero = []
 wordBefore index (suc i) = wordOf index i
 
--- "Word rule: length, bytes, order (the later of two is the bad one), and no word is `and`, `or` or `not`."
+-- Reference 5.3: whether entry i breaks the word rule
 unfoldable pub badWord : List ℕ → ℕ → Bool
 badWord index i = not (isWord (wordOf index i)) || not (before (wordBefore index i) (wordOf index i))
 
--- 4: "directory rule or word rule fails"
+-- Reference 5.1, rule 4: an entry is bad by either rule
 unfoldable pub badEntry : List ℕ → ℕ → Bool
 badEntry index i = badDirectory index i || badWord index i
 
--- "the lists end at W and the words at D"
+-- Reference 5.4: whether the lists or the words stop short
 unfoldable pub badEnd : List ℕ → Bool
 badEnd index =
     not (eqb (listsEnd index (wordCount index)) (wordsStart index))
     || not (eqb (wordsEnd index (wordCount index)) (directoryStart index))
 
--- 5: "List rule: each list is proper, within 1 to N, with L[q] < U[q]."
+-- Reference 5.1, rule 5
 unfoldable pub badList : List ℕ → ℕ → Bool
 badList index i =
     not (isKept (highest index) (numbersIn (singlesOf index i)) (numbersIn (lowerOf index i)) (numbersIn (upperOf index i)))
 
--- "A sound index"
+-- Reference 5.1: no rule is broken
 pub record Sound (index : List ℕ) : Type 0 where
   pub size : badLength index ≡ false
   pub issue : badEdition index ≡ false

@@ -1,4 +1,4 @@
-// The check of an index: refusals 1 to 5.
+// The check of an index: refusals 1 to 5. Reference 5.
 ghost use mathlib.Core.Path.{_≡_};
 ghost use mathlib.Core.Bool.{not, false, _&&_};
 ghost use mathlib.Core.List.{List};
@@ -43,7 +43,7 @@ fn list_length(entry: Entry) -> usize
     4 * (entry.singles + 2 * entry.pairs)
 }
 
-// Whether an entry keeps the directory rule, where the entries before it add up to `words` and `lists`.
+// Reference 5.2: whether an entry keeps the directory rule, where the words before it end at `words` and the lists at `lists`.
 fn directory_good(trailer: Trailer, entry: Entry, words: usize, lists: usize) -> bool
     requires { ⌜ (words < 4294967296) × (lists < 4294967296) × Small entry ⌝ }
     ensures { λ r. ⌜ ((index : List ℕ) (i : ℕ) → TrailerOf index trailer → EntryOf index i entry → words ≡ wordsEnd index i → lists ≡ listsEnd index i → r ≡ not (badDirectory index i)) ⌝ }
@@ -55,7 +55,7 @@ fn directory_good(trailer: Trailer, entry: Entry, words: usize, lists: usize) ->
         & (lists + list_length(entry) <= trailer.words)
 }
 
-// Whether a word keeps the word rule behind the word before it.
+// Reference 5.3: whether a word keeps the word rule behind the word before it.
 pub fn word_good(prior: &[u8], word: &[u8]) -> bool
     ensures { λ r. ⌜ r ≡ (isWord (now (word .entry)) && before (now (prior .entry)) (now (word .entry))) ⌝ }
 {
@@ -69,7 +69,7 @@ pub fn word_good(prior: &[u8], word: &[u8]) -> bool
     }
 }
 
-// The first bad entry, or n where only an end is wrong: in one pass, with the sums of what is passed.
+// Reference 9.1, row 4: the first bad entry, or n, in one pass that sums up the lengths.
 fn first_bad_entry(index: &[u8], trailer: Trailer) -> Found
     requires { ⌜ Framed (now index) trailer ⌝ }
     ensures { λ r. ⌜ r ≡ badEntryOf (now (index .entry)) ⌝ }
@@ -101,7 +101,7 @@ fn first_bad_entry(index: &[u8], trailer: Trailer) -> Found
     Found::Nowhere
 }
 
-// Whether an entry's list keeps the list rule: its three regions are handed on as parts of the index.
+// Reference 3.4: whether an entry's list keeps the list rule; its regions are slices of the index.
 fn list_good(index: &[u8], entry: Entry, limit: u32) -> bool
     requires { ⌜ (entry .«list_start» + 4 * entry .singles + 8 * entry .pairs ≤ length (now index)) × (length (now index) ≤ 16777216) × (limit ≤ 16777215) ⌝ }
     ensures { λ r. ⌜ ((i : ℕ) → EntryOf (now (index .entry)) i entry → limit ≡ highest (now (index .entry)) → r ≡ not (badList (now (index .entry)) i)) ⌝ }
@@ -148,7 +148,7 @@ fn check_entries(index: &[u8], trailer: Trailer) -> Checked
     }
 }
 
-// Whether an index is sound, or the first refusal that holds.
+// Reference 8.1: whether an index is sound, or the first refusal that holds.
 pub fn check_index(index: &[u8]) -> Checked
     ensures { λ r. ⌜ r ≡ checkOf (now (index .entry)) ⌝ }
 {

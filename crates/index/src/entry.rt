@@ -1,4 +1,4 @@
-// One entry of the directory.
+// One entry of the directory. Reference 4.3.
 ghost use mathlib.Core.Path.{_≡_};
 ghost use Prim.Native.Nat.{_+_, _*_, _<_};
 ghost use Rattle.index.specs.Format.{entrySize};

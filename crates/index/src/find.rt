@@ -59,7 +59,7 @@ pub fn find_place(index: &[u8], word: &[u8]) -> usize
     low
 }
 
-// The word's entry number, if it has one: it stands at its place or nowhere.
+// The entry whose word it is, if there is one: it stands at its place or nowhere.
 pub fn find_word(index: &[u8], word: &[u8]) -> Found
     requires { ⌜ Sound (now index) ⌝ }
     ensures { λ r. ⌜ r ≡ first (λ i. same (wordOf (now (index .entry)) i) (now (word .entry))) (wordCount (now (index .entry))) ⌝ }
@@ -75,7 +75,7 @@ pub fn find_word(index: &[u8], word: &[u8]) -> Found
     }
 }
 
-// The entry number of a word, which may be any bytes, or the first refusal that holds.
+// Reference 8.2: the entry number of a word, which may be any bytes, or the first refusal that holds.
 pub fn look_up(index: &[u8], word: &[u8]) -> Lookup
     ensures { λ r. ⌜ r ≡ lookupOf (now (index .entry)) (now (word .entry)) ⌝ }
 {

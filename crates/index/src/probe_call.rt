@@ -22,7 +22,7 @@ fn bad_range(a: u32, b: u32) -> bool
     (a == 0) | (b < a) | (16777215 < b)
 }
 
-// The three regions of an entry's list are handed on as parts.
+// Probes an entry's list by its regions, which are slices of the index.
 fn probe_parts(index: &[u8], i: usize, a: u32, b: u32) -> Probe
     requires { ⌜ Sound (now index) × (i < wordCount (now index)) × (a ≤ b) × (b ≤ top) ⌝ }
     ensures { λ r. ⌜ (r .below ≡ belowCount a (listOf (now (index .entry)) i)) × (r .overlapping ≡ overlapCount a b (listOf (now (index .entry)) i)) ⌝ }
@@ -47,7 +47,7 @@ fn probe_sound(index: &[u8], i: usize, a: u32, b: u32) -> Probed
     Probed::Counted(probe_parts(index, i, a, b))
 }
 
-// How many intervals of an entry's list lie wholly below a, and how many overlap [a, b], or the first refusal that holds.
+// Reference 8.4: the two counts, or the first refusal that holds.
 pub fn probe_entry(index: &[u8], entry: u32, a: u32, b: u32) -> Probed
     ensures { λ r. ⌜ r ≡ probeOf (now (index .entry)) entry a b ⌝ }
 {

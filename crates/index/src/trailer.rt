@@ -1,4 +1,4 @@
-// The trailer: the last 20 bytes of an index.
+// The trailer of an index. Reference 4.2.
 ghost use Prim.Native.Nat.{_≤_};
 ghost use lib.ListN.{length};
 ghost use Rattle.index.specs.Read.{TrailerOf};

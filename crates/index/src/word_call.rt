@@ -1,4 +1,4 @@
-// An entry's word, by two calls on the same arguments.
+// Reference 8.3: an entry's word, by two calls, of which the first says whether there is one.
 ghost use mathlib.Core.Path.{_≡_};
 ghost use Rattle.index.specs.Entry.{entryOf, entryWord};
 use crate::Checked;
@@ -20,7 +20,7 @@ pub fn entry_refusal(index: &[u8], entry: u32) -> Checked
     }
 }
 
-// The word as a part of the index, or an empty part when refused.
+// The word, where it stands in the index; an empty part where the first call refuses.
 pub fn entry_word<'a>(index: &'a [u8], entry: u32) -> &'a [u8]
     ensures { λ r. ⌜ now r ≡ entryWord (now (index .entry)) entry ⌝ }
 {

@@ -1,4 +1,4 @@
--- "For n records S, L and U together hold at most n numbers.": a single names one number, a longer interval at least two.
+-- Reference 3.4: the kept form has no more cells than records, for a single names one number and a pair two or more.
 use mathlib.Core.Path.{_≡_, refl}
 use Prim.Native.Nat.{ℕ, zero, suc, _+_, _-_, _*_, _≤_}
 use native.Mathlib.Omega.{arith}

@@ -74,7 +74,7 @@ stretches-count p l x (suc k) b h = count-step p l x k b (p x) h (λ i g. stretc
 pub stretches-records : (p : ℕ → Bool) (x k : ℕ) → 0 < x → records (stretches p false x k) ≡ length (recordsFrom p x k)
 stretches-records p x k h = omega (arith, stretches-count p 0 x k false h)
 
--- "its records .. being how many record numbers its list names"
+-- Reference 3.1: the record count is how many records there are
 pub records-count : (p : ℕ → Bool) (n : ℕ) → records (cellsOf p n) ≡ length (recordsOf p n)
 unfolding cellsOf recordsOf
 records-count p n = omega (arith, stretches-count p 0 1 n false (omega arith))

@@ -116,7 +116,7 @@ cells-same p q n h = stretches-same p q false 1 n (λ y f g. h y f (omega arith)
 pub cells-agree : (p q : ℕ → Bool) (n : ℕ) → cellsOf p n ≡ cellsOf q n → (x : ℕ) → 1 ≤ x → x ≤ n → p x ≡ q x
 cells-agree p q n e x h g = sym (cells-names p n x h g) ∙ ap (λ (c : List ℕ). names c x) e ∙ cells-names q n x h g
 
--- ---- "Exactly one proper list names a given set."
+-- ---- Reference 3.2: one list for one set
 
 -- of two lists that name the same, the first interval neither starts nor ends before the other's
 first-start : (n k l u : ℕ) (r d : List ℕ) → l ≤ u → ProperFrom n k d → names (l ∷ u ∷ r) l ≡ names d l → k ≤ l

@@ -1,9 +1,9 @@
--- "All cells are 32 bits, low byte first."
+-- Reference 4.1: cells in bytes.
 use Prim.Native.Nat.{ℕ, _+_, _*_}
 use mathlib.Core.List.{List, [], _∷_}
 use lib.ListN.{getD}
 
--- the number in four bytes
+-- Reference 4.1: the number in four bytes, the lowest first
 abbrev pub cell : ℕ → ℕ → ℕ → ℕ → ℕ
 cell a b c d = a + b * 256 + c * 65536 + d * 16777216
 

@@ -1,4 +1,4 @@
--- Definitions 1 to 3 of Ginix, over lists of cells.
+-- Reference 3.3: union, intersection and probe, over lists of cells.
 use Prim.Native.Nat.{ℕ, _+_}
 use mathlib.Core.Bool.{Bool, true, false, _&&_, _||_}
 use mathlib.Core.List.{List, [], _∷_}
@@ -6,7 +6,7 @@ use lib.Dec.{leb, ltb}
 use Rattle.list.specs.Interval.{top, names}
 use Rattle.list.specs.Stretches.{cellsOf}
 
--- "Union of lists: records in at least one."
+-- Reference 3.3: the union
 unfoldable pub inSome : List (List ℕ) → ℕ → Bool
 inSome [] x = false
 inSome (c ∷ cs) x = names c x || inSome cs x
@@ -14,7 +14,7 @@ inSome (c ∷ cs) x = names c x || inSome cs x
 unfoldable pub unionOf : List (List ℕ) → List ℕ
 unionOf cs = cellsOf (inSome cs) top
 
--- "Intersection: records in all."; a request of no list is refused, so that no list is asked for what is in all of none
+-- Reference 3.3: the intersection; a request of no list is refused, so that what every one of no lists names is never asked for
 unfoldable pub inEvery : List (List ℕ) → ℕ → Bool
 inEvery [] x = true
 inEvery (c ∷ cs) x = names c x && inEvery cs x
@@ -27,13 +27,13 @@ abbrev pub one : Bool → ℕ
 one true = 1
 one false = 0
 
--- "Probing [a, b] in a list answers the number of its intervals wholly below a,
+-- Reference 3.3: what a probe counts below [a, b]
 unfoldable pub belowCount : ℕ → List ℕ → ℕ
 belowCount a [] = 0
 belowCount a (l ∷ []) = 0
 belowCount a (l ∷ u ∷ r) = one (ltb u a) + belowCount a r
 
--- and how many overlap [a, b]."
+-- Reference 3.3: what a probe counts as having a number in common with [a, b]
 unfoldable pub overlapCount : ℕ → ℕ → List ℕ → ℕ
 overlapCount a b [] = 0
 overlapCount a b (l ∷ []) = 0

@@ -1,4 +1,4 @@
--- "In the index a list is kept .. first the singles S, then the lower bounds L and upper bounds U of the intervals longer than one."
+-- Reference 3.4: the kept form of a list, in which S, L and U are the numbers of its regions, and the walk through it.
 use Prim.Native.Nat.{ℕ, zero, suc, _+_}
 use mathlib.Core.Bool.{Bool, true, false, cond, _&&_}
 use mathlib.Core.List.{List, [], _∷_}
@@ -7,15 +7,15 @@ use lib.ListN.{length, getD}
 use Rattle.list.specs.declared.Place.{Place}
 use Rattle.list.specs.Interval.{isProper}
 
--- "Two positions walk it, one in S and one in L/U": from the start of both
+-- Reference 3.4: both positions at the start
 abbrev pub start : Place
 start = record { p = record { 0 = 0 }; q = record { 0 = 0 } }
 
--- "The smaller of S[p] and L[q] is next; when one side is used up, the other is next.": whether a single is next at p and q
+-- Reference 3.4: whether the step at p and q gives a single
 abbrev pub singleNext : List ℕ → List ℕ → ℕ → ℕ → Bool
 singleNext S L p q = cond (ltb p (length S)) (cond (ltb q (length L)) (ltb (getD S p 0) (getD L q 0)) true) false
 
--- the position of the side that was next moves on
+-- Reference 3.4: the position that a step moves
 abbrev pub moved : Bool → Place → Place
 moved true at = record { p = record { 0 = at .p .0 + 1 }; q = record { 0 = at .q .0 } }
 moved false at = record { p = record { 0 = at .p .0 }; q = record { 0 = at .q .0 + 1 } }
@@ -23,7 +23,7 @@ moved false at = record { p = record { 0 = at .p .0 }; q = record { 0 = at .q .0
 abbrev pub nextPlace : List ℕ → List ℕ → Place → Place
 nextPlace S L at = moved (singleNext S L (at .p .0) (at .q .0)) at
 
--- the bounds of the interval that is next: a single is its own lower and upper bound
+-- Reference 3.4: the bounds of the interval that a step gives; a single is its own lower and upper bound
 abbrev pub lowerAt : List ℕ → List ℕ → Place → ℕ
 lowerAt S L at = cond (singleNext S L (at .p .0) (at .q .0)) (getD S (at .p .0) 0) (getD L (at .q .0) 0)
 
@@ -35,7 +35,7 @@ unfoldable pub walkFrom : List ℕ → List ℕ → List ℕ → Place → ℕ �
 walkFrom S L U at zero = []
 walkFrom S L U at (suc k) = lowerAt S L at ∷ upperAt S L U at ∷ walkFrom S L U (nextPlace S L at) k
 
--- the list that the walk gives
+-- Reference 3.4: the walked list
 unfoldable pub walked : List ℕ → List ℕ → List ℕ → List ℕ
 walked S L U = walkFrom S L U start (length S + length L)
 
@@ -46,6 +46,6 @@ areLonger [] (u ∷ us) = false
 areLonger (l ∷ ls) [] = false
 areLonger (l ∷ ls) (u ∷ us) = ltb l u && areLonger ls us
 
--- "List rule: each list is proper, within 1 to N, with L[q] < U[q]."
+-- Reference 3.4: the list rule with the limit n
 unfoldable pub isKept : ℕ → List ℕ → List ℕ → List ℕ → Bool
 isKept n S L U = areLonger L U && isProper n (walked S L U)

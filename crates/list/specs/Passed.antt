@@ -6,7 +6,7 @@ use lib.Dec.{ltb}
 use Rattle.list.specs.declared.kept.Pass.{Pass}
 use Rattle.list.specs.Interval.{top}
 
--- from place i on: where the pass ends, and "each next l is at least the u before it plus 2", the least that the next l may be there.
+-- from place i on: where the pass ends, and the least that the next l may be there (Reference 3.1).
 -- It ends at the first that is not below the bound, or at one that is below its own least, behind which no l may come.
 unfoldable pub passed : ℕ → ℕ → ℕ → List ℕ → Pass
 passed bound least i [] = record { p = record { 0 = i }; least = least }

@@ -9,7 +9,7 @@ use Rattle.list.specs.Cell.{numbersIn}
 use Rattle.list.specs.Kept.{walked, isKept}
 use Rattle.list.specs.Seek.{countBelow}
 
--- "first the singles S, then the lower bounds L and upper bounds U": whether three regions keep the list rule, and the list that they hold
+-- Reference 3.4: whether three regions keep the list rule, and the list that they hold
 abbrev pub KeptIn : ℕ → List ℕ → List ℕ → List ℕ → Type 0
 KeptIn n singles lower upper = isKept n (numbersIn singles) (numbersIn lower) (numbersIn upper) ≡ true
 

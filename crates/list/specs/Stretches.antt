@@ -1,4 +1,4 @@
--- "Exactly one proper list names a given set." A set of record numbers is a test on numbers; this is its list.
+-- Reference 3.2: the one list of a set, where a set of record numbers is a test on numbers.
 use Prim.Native.Nat.{ℕ, zero, suc, _+_, _-_}
 use mathlib.Core.Bool.{Bool, true, false}
 use mathlib.Core.List.{List, [], _∷_}
@@ -16,7 +16,7 @@ unfoldable pub stretches : (ℕ → Bool) → Bool → ℕ → ℕ → List ℕ
 stretches p b x zero = turned b false x []
 stretches p b x (suc k) = turned b (p x) x (stretches p (p x) (x + 1) k)
 
--- the one proper list of the numbers from 1 to n at which p holds
+-- Reference 3.2: the one proper list of the numbers from 1 to n at which p holds
 unfoldable pub cellsOf : (ℕ → Bool) → ℕ → List ℕ
 cellsOf p n = stretches p false 1 n
 
@@ -30,6 +30,6 @@ unfoldable pub recordsFrom : (ℕ → Bool) → ℕ → ℕ → List ℕ
 recordsFrom p x zero = []
 recordsFrom p x (suc k) = kept (p x) x (recordsFrom p (x + 1) k)
 
--- the numbers from 1 to n at which p holds, in order
+-- Reference 8.8: the numbers from 1 to n at which p holds, in order
 unfoldable pub recordsOf : (ℕ → Bool) → ℕ → List ℕ
 recordsOf p n = recordsFrom p 1 n

@@ -1,6 +1,6 @@
 // What a call that writes an interval list answers.
 
-// "A question or join reports its intervals and its records."
+// Reference 7: what a join and a question report.
 pub struct Tally {
     pub intervals: usize,
     pub records: usize,

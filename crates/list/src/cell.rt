@@ -1,4 +1,4 @@
-// Cells of 32 bits in bytes, low byte first.
+// Cells in bytes. Reference 4.1.
 ghost use mathlib.Core.Path.{_≡_};
 ghost use Prim.Native.Nat.{_+_, _*_, _≤_};
 ghost use lib.ListN.{length, getD};

@@ -1,4 +1,4 @@
-// The list rule, in one pass over a kept list.
+// The list rule, in one pass over a kept list. Reference 3.4.
 ghost use mathlib.Core.Path.{_≡_};
 ghost use Prim.Native.Nat.{_+_, _≤_};
 ghost use lib.ListN.{length, drop};

@@ -15,7 +15,7 @@ pub const TOP: u32 = 16_777_215;
 // Above every record number.
 pub const END: u32 = 16_777_216;
 
-// The two positions that walk a kept list, document 01's p and q: one cannot be passed for the other.
+// Reference 3.4: p and q, the two positions of a walk, as types of their own, so that neither is taken for the other.
 pub struct SingleAt(pub usize);
 
 pub struct PairAt(pub usize);
