@@ -128,7 +128,7 @@ module _ (n : ℕ) (words counts numbers out out′ : List ℕ) (size : ℕ) (do
   pub build-list : (i : ℕ) → i < length (wordsOf words) → listOf (take size out′) i ≡ cellsIn n (getD (listsFrom counts numbers) i [])
   build-list i h = rw build-bytes (built-list n (wordsOf words) (listsFrom counts numbers) indexable i h)
 
-  -- "reads back as the lists it was built from"
+  -- Reference 8.9: of a word the index has just the records that were given for it
   pub build-has : (word : List ℕ) (x : ℕ) → has (take size out′) word x ≡ among (recordsFor (wordsOf words) (listsFrom counts numbers) word) x
   build-has word x = rw build-bytes (reads-back n (wordsOf words) (listsFrom counts numbers) indexable word x)
 

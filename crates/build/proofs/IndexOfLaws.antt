@@ -114,7 +114,7 @@ module _ (n : ℕ) (ws xss : List (List ℕ)) where
   end-length e =
       omega (arith, length-append (directoryCells n wordsFirst 0 ws xss) (trailerCells wordsFirst directoryFirst (length ws) n), directory-length n wordsFirst 0 ws xss e)
 
-  -- "D + 20n + 20 equal to its length"
+  -- Reference 5.1, rule 3: the length
   pub index-length : length xss ≡ length ws → length (indexOf n ws xss) ≡ directoryFirst + 20 * length ws + 20
   index-length e =
       rw index-cells (omega (arith, length-append (listsBytes n xss ++ wordsBytes ws) (cellsBytes endCells), front-length, cells-length endCells, end-length e))

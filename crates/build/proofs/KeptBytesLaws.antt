@@ -40,7 +40,7 @@ unfolding singlesIn lowersIn
 cells-count n k [] p = refl
 cells-count n k (l ∷ u ∷ r) p = count-step l (eqb l u) (singlesIn r) (lowersIn r) r (cells-count n (u + 2) r (p .3))
 
--- "A list takes 4(s + 2m) bytes."
+-- Reference 3.4: the bytes of a kept list
 pub kept-length : (c : List ℕ) → length (keptBytes c) ≡ 4 * (length (singlesIn c) + 2 * length (lowersIn c))
 unfolding keptBytes
 kept-length c =

@@ -62,7 +62,7 @@ module _ (n : ℕ) (ws xss : List (List ℕ)) (is : Indexable n ws xss) where
       has-nowhere (indexOf n ws xss) w x
       (λ j h. let g : j < length ws = omega (arith, built-word-count n ws xss is) in rw (built-word n ws xss is j g) (f j g))
 
-  -- "an index we build reads back as the lists it was built from"
+  -- Reference 8.9: of a word the index has just the records that were given for it
   pub reads-back : (w : List ℕ) (x : ℕ) → has (indexOf n ws xss) w x ≡ among (recordsFor ws xss w) x
   unfolding among
   reads-back w x = go (first (λ i. same (getD ws i []) w) (length ws)) refl

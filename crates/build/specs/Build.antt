@@ -1,4 +1,4 @@
--- "Build: 19(0), 17, 18, 15 (limit N), 19(1), 12."
+-- Reference 8.9 and 9.2: what a build answers, and what it writes.
 use Prim.Native.Nat.{ℕ}
 use mathlib.Core.Path.{_≡_}
 use mathlib.Core.Bool.{cond}
@@ -19,16 +19,16 @@ use Rattle.index.specs.Check.{badPlace}
 use Rattle.build.specs.Lent.{wordsOf, wordTotal, badLent, badCount, badRest, badListed, listsFrom}
 use Rattle.build.specs.Written.{indexOf}
 
--- 17: the first bad word
+-- Reference 9.1, row 17: the first bad word
 abbrev pub badWords : List ℕ → Found
 badWords words = first (badLent (wordsOf words)) (wordTotal words)
 
--- 18: "first bad count; word count if surplus or left over"
+-- Reference 9.1, row 18: the first bad count, or the word count
 abbrev pub badCounts : List ℕ → List ℕ → List ℕ → Found
 badCounts words counts numbers =
     badPlace (first (badCount counts (length numbers)) (length (wordsOf words))) (badRest counts (length numbers) (length (wordsOf words))) (length (wordsOf words))
 
--- 15, with limit N: the place of the first bad number
+-- Reference 9.1, row 15: the first bad number among all
 abbrev pub badNumbers : ℕ → List ℕ → List ℕ → List ℕ → Found
 badNumbers n words counts numbers = first (badListed n counts (length (wordsOf words)) numbers) (length numbers)
 
@@ -37,7 +37,7 @@ abbrev pub faultThen : (ℕ → Refusal) → Found → Checked → Checked
 faultThen refusal (At i) next = Refused (refusal i)
 faultThen refusal Nowhere next = next
 
--- "19(0), 17, 18, 15": what is lent, before its size is asked for
+-- Reference 9.2: 19 with 0, 17, 18, 15, before the size is asked for
 unfoldable pub lentOf : ℕ → List ℕ → List ℕ → List ℕ → Checked
 lentOf n words counts numbers =
     cond (ltb top n) (Refused (BuildLimit 0))
@@ -45,7 +45,7 @@ lentOf n words counts numbers =
     (faultThen BuildCount (badCounts words counts numbers)
     (faultThen Number (badNumbers n words counts numbers) Good)))
 
--- 19(1): "index over 16,777,216 bytes"; 12: "no room: bytes needed"
+-- Reference 9.2: 19 with 1, then 12, by the size of the index
 abbrev pub sizeAnswer : ℕ → ℕ → Written
 sizeAnswer size room =
     cond (ltb 16777216 size) (written.Refused (BuildLimit 1)) (cond (leb size room) (written.Wrote size) (written.Refused (Room size)))
@@ -55,7 +55,7 @@ abbrev pub afterLent : Checked → Written → Written
 afterLent (Refused r) next = written.Refused r
 afterLent Good next = next
 
--- the index that the arguments ask for
+-- Reference 8.9: the index that the arguments ask for
 abbrev pub indexFrom : ℕ → List ℕ → List ℕ → List ℕ → List ℕ
 indexFrom n words counts numbers = indexOf n (wordsOf words) (listsFrom counts numbers)
 
@@ -63,7 +63,7 @@ unfoldable pub buildOf : ℕ → List ℕ → List ℕ → List ℕ → ℕ → 
 buildOf n words counts numbers room =
     afterLent (lentOf n words counts numbers) (sizeAnswer (length (indexFrom n words counts numbers)) room)
 
--- what the lent bytes hold then
+-- Reference 7: what the lent bytes hold then
 abbrev pub bytesAfter : Written → List ℕ → List ℕ → List ℕ
 bytesAfter (written.Wrote size) index out = index ++ drop size out
 bytesAfter (written.Refused r) index out = out

@@ -1,4 +1,4 @@
--- "To build an index the caller lends N, the words each ended by byte 10, one count of records per word, and all record numbers, list after list."
+-- Reference 8.9: what is lent to a build, and when it is refused.
 use Prim.Native.Nat.{ℕ, zero, suc, _+_}
 use mathlib.Core.Bool.{Bool, false, cond, not, _||_}
 use mathlib.Core.List.{List, [], _∷_, _++_}
@@ -6,7 +6,7 @@ use lib.Dec.{eqb, leb, ltb}
 use lib.ListN.{length, getD, take, drop}
 use Rattle.word.specs.Word.{before, isWord}
 
--- the words that are ended; acc is what stands since the last end
+-- Reference 8.9: the words that have their byte 10; acc is what stands since the last one
 unfoldable pub wordsFrom : List ℕ → List ℕ → List (List ℕ)
 wordsFrom acc [] = []
 wordsFrom acc (b ∷ bs) = cond (eqb b 10) (acc ∷ wordsFrom [] bs) (wordsFrom (acc ++ b ∷ []) bs)
@@ -14,7 +14,7 @@ wordsFrom acc (b ∷ bs) = cond (eqb b 10) (acc ∷ wordsFrom [] bs) (wordsFrom 
 unfoldable pub wordsOf : List ℕ → List (List ℕ)
 wordsOf bytes = wordsFrom [] bytes
 
--- the bytes behind the last byte 10
+-- Reference 9.1, row 17: the bytes behind the last byte 10
 unfoldable pub restFrom : List ℕ → List ℕ → List ℕ
 restFrom acc [] = acc
 restFrom acc (b ∷ bs) = cond (eqb b 10) (restFrom [] bs) (restFrom (acc ++ b ∷ []) bs)
@@ -22,7 +22,7 @@ restFrom acc (b ∷ bs) = cond (eqb b 10) (restFrom [] bs) (restFrom (acc ++ b �
 unfoldable pub restOf : List ℕ → List ℕ
 restOf bytes = restFrom [] bytes
 
--- how many words are lent: a rest that is not ended counts as one
+-- Reference 9.1, row 17: how many words are lent, where a rest without its byte 10 counts as one
 abbrev pub one-if-any : List ℕ → ℕ
 one-if-any [] = 0
 one-if-any (b ∷ bs) = 1
@@ -30,12 +30,12 @@ one-if-any (b ∷ bs) = 1
 unfoldable pub wordTotal : List ℕ → ℕ
 wordTotal bytes = length (wordsOf bytes) + one-if-any (restOf bytes)
 
--- the word before word i; nothing stands before the first
+-- the word before word i; before the first the empty string, which stands before every word
 abbrev pub lentBefore : List (List ℕ) → ℕ → List ℕ
 lentBefore ws zero = []
 lentBefore ws (suc i) = getD ws i []
 
--- 17: "word to build: length, bytes, order, operator, missing byte 10, or the 65,536th"
+-- Reference 9.1, row 17: whether word i is bad; a word that has no byte 10 is not among ws
 unfoldable pub badLent : List (List ℕ) → ℕ → Bool
 badLent ws i = leb 65535 i || leb (length ws) i || not (isWord (getD ws i [])) || not (before (lentBefore ws i) (getD ws i []))
 
@@ -44,11 +44,11 @@ unfoldable pub sumTo : List ℕ → ℕ → ℕ
 sumTo counts zero = 0
 sumTo counts (suc i) = sumTo counts i + getD counts i 0
 
--- 18: "counts to build: zero, missing, .. running past the numbers": of one of the counts that the words ask for
+-- Reference 9.1, row 18: whether count i is bad, for a word i
 unfoldable pub badCount : List ℕ → ℕ → ℕ → Bool
 badCount counts total i = leb (length counts) i || eqb (getD counts i 0) 0 || ltb total (sumTo counts (i + 1))
 
--- "surplus, .. or numbers left over": what is wrong behind the last word's count
+-- Reference 9.1, row 18: whether there are more counts than words, or more numbers than the words' counts take
 unfoldable pub badRest : List ℕ → ℕ → ℕ → Bool
 badRest counts total words = ltb words (length counts) || ltb (sumTo counts words) total
 
@@ -62,11 +62,11 @@ abbrev pub listedBefore : List ℕ → ℕ → List ℕ → ℕ → ℕ
 listedBefore counts words numbers zero = 0
 listedBefore counts words numbers (suc k) = cond (beginsList counts words (suc k)) 0 (getD numbers k 0)
 
--- 15: "record number 0, above its limit, or not above the one before in its list", with limit N
+-- Reference 9.1, row 15: whether number k is bad, with the limit n; each list begins anew
 unfoldable pub badListed : ℕ → List ℕ → ℕ → List ℕ → ℕ → Bool
 badListed n counts words numbers k = leb (getD numbers k 0) (listedBefore counts words numbers k) || ltb n (getD numbers k 0)
 
--- the records of the words, list after list
+-- Reference 8.9: the records of each word
 unfoldable pub listsFrom : List ℕ → List ℕ → List (List ℕ)
 listsFrom [] numbers = []
 listsFrom (c ∷ cs) numbers = take c numbers ∷ listsFrom cs (drop c numbers)

@@ -40,7 +40,7 @@ pub record Lists (counts numbers : List ℕ) : Type 0 where
   pub room : (i : ℕ) → i < length counts → sumTo counts i + getD counts i 0 ≤ length numbers
   pub good : (i : ℕ) → i < length counts → badNumberOf (part (sumTo counts i) (getD counts i 0) numbers) ≡ Nowhere
 
--- how many singles and pairs the numbers make: "For n records S, L and U together hold at most n numbers."
+-- Reference 3.4: how many singles and pairs the numbers make, in no more cells than there are numbers
 pub record KeptOf (numbers : List ℕ) (k : Kept) : Type 0 where
   pub singles : k .singles ≡ length (singlesIn (intervalsOf numbers))
   pub pairs : k .pairs ≡ length (lowersIn (intervalsOf numbers))

@@ -1,4 +1,4 @@
--- The words in which it is said that a built index reads back, and that a sound one has one encoding.
+-- The words in which it is said that a built index reads back (Reference 8.9), and that a sound one has one encoding (Reference 5.5).
 use Prim.Native.Nat.{ℕ, zero, suc, _+_, _≤_, _<_}
 use mathlib.Core.Path.{_≡_}
 use mathlib.Core.Bool.{true, cond}
@@ -19,7 +19,7 @@ abbrev pub Below : ℕ → List ℕ → Type 0
 Below m [] = Unit {0}
 Below m (x ∷ xs) = (x < m) × Below m xs
 
--- N, words and lists that no rule of building refuses, 12 apart
+-- Reference 8.9: N, words and lists that no rule of building refuses, 12 apart
 pub record Indexable (n : ℕ) (ws xss : List (List ℕ)) : Type 0 where
   pub limit : n ≤ 16777215
   pub few : length ws ≤ 65535
@@ -30,7 +30,7 @@ pub record Indexable (n : ℕ) (ws xss : List (List ℕ)) : Type 0 where
   pub records : (i : ℕ) → i < length ws → first (badNumber n (getD xss i [])) (length (getD xss i [])) ≡ Nowhere
   pub size : length (indexOf n ws xss) ≤ 16777216
 
--- the records of word w, of words and their lists: none where it is not among the words
+-- Reference 8.9: the records of word w, of words and their lists: none where it is not among the words
 unfoldable pub recordsFor : List (List ℕ) → List (List ℕ) → List ℕ → List ℕ
 recordsFor [] xss w = []
 recordsFor (v ∷ ws) [] w = []
@@ -41,7 +41,7 @@ unfoldable pub listed : (ℕ → List ℕ) → ℕ → ℕ → List (List ℕ)
 listed f i zero = []
 listed f i (suc k) = f i ∷ listed f (i + 1) k
 
--- an index's words, the records of entry i, and those of all entries
+-- Reference 5.5: an index's words, the records of entry i, and those of all entries
 unfoldable pub wordsIn : List ℕ → List (List ℕ)
 wordsIn index = listed (wordOf index) 0 (wordCount index)
 

@@ -1,4 +1,4 @@
--- The index of N, words and lists, as bytes: "From byte 0 stand the lists, then the words' bytes, then the directory, then the trailer, without gaps."
+-- Reference 4: the index of N, words and lists, as bytes.
 use Prim.Native.Nat.{ℕ, _+_, _/_, _%_}
 use mathlib.Core.Bool.{cond}
 use mathlib.Core.List.{List, [], _∷_, _++_}
@@ -7,7 +7,7 @@ use lib.ListN.{length}
 use Rattle.list.specs.Stretches.{cellsOf}
 use Rattle.list.specs.Among.{among}
 
--- "All cells are 32 bits, low byte first.": the four bytes of a cell, and the bytes of several
+-- Reference 4.1: the four bytes of a cell, and the bytes of several
 abbrev pub cellBytes : ℕ → List ℕ
 cellBytes x = x % 256 ∷ x / 256 % 256 ∷ x / 65536 % 256 ∷ x / 16777216 % 256 ∷ []
 
@@ -15,7 +15,7 @@ unfoldable pub cellsBytes : List ℕ → List ℕ
 cellsBytes [] = []
 cellsBytes (x ∷ xs) = cellBytes x ++ cellsBytes xs
 
--- "first the singles S, then the lower bounds L and upper bounds U of the intervals longer than one": of the cells l, u, l, u
+-- Reference 3.4: S, L and U of a list that is given as cells
 unfoldable pub singlesIn : List ℕ → List ℕ
 singlesIn [] = []
 singlesIn (l ∷ []) = []
@@ -31,29 +31,29 @@ uppersIn [] = []
 uppersIn (l ∷ []) = []
 uppersIn (l ∷ u ∷ r) = cond (eqb l u) (uppersIn r) (u ∷ uppersIn r)
 
--- one list, as it is kept
+-- Reference 3.4: one list, as it is kept
 unfoldable pub keptBytes : List ℕ → List ℕ
 keptBytes c = cellsBytes (singlesIn c) ++ cellsBytes (lowersIn c) ++ cellsBytes (uppersIn c)
 
--- the intervals of a word's records
+-- Reference 3.2: the intervals of a word's records
 abbrev pub cellsIn : ℕ → List ℕ → List ℕ
 cellsIn n xs = cellsOf (among xs) n
 
--- all lists, one after the other
+-- Reference 4.1: all lists
 unfoldable pub listsBytes : ℕ → List (List ℕ) → List ℕ
 listsBytes n [] = []
 listsBytes n (xs ∷ xss) = keptBytes (cellsIn n xs) ++ listsBytes n xss
 
--- all words' bytes
+-- Reference 4.1: all words' bytes
 unfoldable pub wordsBytes : List (List ℕ) → List ℕ
 wordsBytes [] = []
 wordsBytes (w ∷ ws) = w ++ wordsBytes ws
 
--- "Directory entry, 20 bytes: word start, word length, list start, count of singles s, count of pairs m."
+-- Reference 4.3: an entry
 abbrev pub entryBytes : ℕ → List ℕ → ℕ → List ℕ → List ℕ
 entryBytes wordAt w listAt c = cellsBytes (wordAt ∷ length w ∷ listAt ∷ length (singlesIn c) ∷ length (lowersIn c) ∷ [])
 
--- the entries of words and lists, of which the first start at wordAt and listAt
+-- Reference 4.3: the directory of words and lists, of which the first start at wordAt and listAt
 unfoldable pub directoryBytes : ℕ → ℕ → ℕ → List (List ℕ) → List (List ℕ) → List ℕ
 directoryBytes n wordAt listAt [] xss = []
 directoryBytes n wordAt listAt (w ∷ ws) [] = []
@@ -61,11 +61,11 @@ directoryBytes n wordAt listAt (w ∷ ws) (xs ∷ xss) =
     entryBytes wordAt w listAt (cellsIn n xs)
     ++ directoryBytes n (wordAt + length w) (listAt + length (keptBytes (cellsIn n xs))) ws xss
 
--- "Trailer, the last 20 bytes: start of the words W, start of the directory D, word count n, N, edition (1)."
+-- Reference 4.2: the trailer
 abbrev pub trailerBytes : ℕ → ℕ → ℕ → ℕ → List ℕ
 trailerBytes w d count n = cellsBytes (w ∷ d ∷ count ∷ n ∷ 1 ∷ [])
 
--- the index of N, the words, and the records of each
+-- Reference 4.1: the four parts, with W and D as the lengths before them
 unfoldable pub indexOf : ℕ → List (List ℕ) → List (List ℕ) → List ℕ
 indexOf n ws xss =
     listsBytes n xss

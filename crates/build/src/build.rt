@@ -17,7 +17,7 @@ use refusal::Refusal;
 // The most bytes that an index has.
 const LARGEST: usize = 16_777_216;
 
-// Refusals 19(0), 17, 18 and 15, in this order.
+// Reference 9.2: refusals 19 with 0, 17, 18 and 15.
 fn check_lent(n: u32, words: &[u8], counts: &[u32], numbers: &[u32]) -> Checked
     ensures { λ r. ⌜ r ≡ lentOf n (now (words .entry)) (now (counts .entry)) (now (numbers .entry)) ⌝ }
 {
@@ -36,7 +36,7 @@ fn check_lent(n: u32, words: &[u8], counts: &[u32], numbers: &[u32]) -> Checked
     }
 }
 
-// Refusals 19(1) and 12, or the index written.
+// Reference 9.2: refusals 19 with 1 and 12, or the index written.
 fn build_checked(n: u32, words: &[u8], counts: &[u32], numbers: &[u32], out: &mut [u8]) -> Written
     requires { ⌜ lentOf n (now words) (now counts) (now numbers) ≡ Checked.Good ⌝ }
     ensures { λ r. ⌜ (r ≡ sizeAnswer (length (indexFrom n (now (words .entry)) (now (counts .entry)) (now (numbers .entry)))) (length (now (out .entry)))) × (now (out .exit) ≡ bytesAfter (sizeAnswer (length (indexFrom n (now (words .entry)) (now (counts .entry)) (now (numbers .entry)))) (length (now (out .entry)))) (indexFrom n (now (words .entry)) (now (counts .entry)) (now (numbers .entry))) (now (out .entry))) ⌝ }
@@ -56,7 +56,7 @@ fn build_checked(n: u32, words: &[u8], counts: &[u32], numbers: &[u32], out: &mu
     Written::Wrote(size)
 }
 
-// Builds an index: how many bytes were written, or the first refusal that holds.
+// Reference 8.9: builds an index; how many bytes were written, or the first refusal that holds.
 pub fn build_index(n: u32, words: &[u8], counts: &[u32], numbers: &[u32], out: &mut [u8]) -> Written
     ensures { λ r. ⌜ Builds n (now (words .entry)) (now (counts .entry)) (now (numbers .entry)) (now (out .entry)) (now (out .exit)) r ⌝ }
 {

@@ -1,4 +1,4 @@
-// Cells as four bytes, low byte first.
+// Cells as bytes. Reference 4.1.
 ghost use mathlib.Core.Path.{_≡_};
 ghost use mathlib.Core.List.{[], _∷_};
 ghost use Prim.Native.Nat.{_+_, _%_, _≤_};
@@ -13,7 +13,7 @@ fn low(x: u32) -> u8
     (x % 256) as u8
 }
 
-// Writes a cell from byte `at` on, low byte first.
+// Writes a cell from byte `at` on.
 pub fn put_cell(out: &mut [u8], at: usize, x: u32)
     requires { ⌜ at + 4 ≤ length (now out) ⌝ }
     ensures { λ _. ⌜ now (out .exit) ≡ sets (now (out .entry)) at (cellBytes x) ⌝ }

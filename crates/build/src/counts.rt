@@ -5,7 +5,7 @@ ghost use Rattle.index.specs.Check.{badPlace};
 ghost use Rattle.build.specs.Lent.{badCount, badRest};
 use refusal::Found;
 
-// The first count that is missing, zero or runs past the numbers; the number of words where counts or numbers are left over.
+// Reference 9.1, row 18: the first bad count, or the word count.
 pub fn check_counts(counts: &[u32], total: usize, words: usize) -> Found
     ensures { λ r. ⌜ r ≡ badPlace (first (badCount (now (counts .entry)) total) words) (badRest (now (counts .entry)) total words) words ⌝ }
 {

@@ -30,7 +30,7 @@ fn write_bytes(out: &mut [u8], bytes: &[u8])
     }
 }
 
-// Writes a word's list into the part of the output from its start, then the word's bytes and its entry; answers where those of the next word belong.
+// Writes a word's list into the tail of the output that begins with it, then the word's bytes and its entry; answers where those of the next word belong.
 pub fn write_word(out: &mut [u8], at: Spots, word: &[u8], numbers: &[u32]) -> Spots
     requires { ⌜ (badNumberOf (now numbers) ≡ Found.Nowhere) × EnteredWithin at (now word) (intervalsOf (now numbers)) (length (now out)) ⌝ }
     ensures { λ r. ⌜ (now (out .exit) ≡ entered (now (out .entry)) at (now (word .entry)) (intervalsOf (now (numbers .entry)))) × (r ≡ enteredTo at (now (word .entry)) (intervalsOf (now (numbers .entry)))) ⌝ }

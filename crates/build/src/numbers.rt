@@ -1,4 +1,4 @@
-// The record numbers, list after list.
+// The record numbers of all words.
 ghost use mathlib.Core.Path.{_≡_};
 ghost use lib.ListN.{length};
 ghost use Rattle.refusal.specs.First.{first};
@@ -7,7 +7,7 @@ ghost use Rattle.build.specs.Passes.{Fair};
 use convert::numbers::first_bad_number;
 use refusal::Found;
 
-// The first number that is 0, above n, or not above the one before in its list.
+// Reference 9.1, row 15: the first bad number, with the limit n.
 pub fn check_numbers(n: u32, counts: &[u32], numbers: &[u32]) -> Found
     requires { ⌜ Fair (now counts) (length (now numbers)) ⌝ }
     ensures { λ r. ⌜ r ≡ first (badListed n (now (counts .entry)) (length (now (counts .entry))) (now (numbers .entry))) (length (now (numbers .entry))) ⌝ }

@@ -11,7 +11,7 @@ ghost use Rattle.build.specs.Written.{listsBytes};
 ghost use Rattle.build.specs.Passes.{Lists, KeptOf};
 use refusal::Found;
 
-// How many singles and how many pairs a list is kept as.
+// How many singles and how many pairs a list has.
 pub struct Kept {
     pub singles: usize,
     pub pairs: usize,
@@ -61,7 +61,7 @@ pub fn count_kept(numbers: &[u32]) -> Kept
     }
 }
 
-// "A list takes 4(s + 2m) bytes."
+// Reference 3.4: the bytes of a kept list.
 pub fn list_size(kept: Kept) -> usize
     requires { ⌜ 4 * (kept .singles + 2 * kept .pairs) ≤ 18446744073709551615 ⌝ }
     ensures { λ r. ⌜ r ≡ 4 * (kept .singles + 2 * kept .pairs) ⌝ }

@@ -1,4 +1,4 @@
-// The words that are lent, each ended by byte 10.
+// Reference 9.1, row 17: the words that are lent.
 ghost use mathlib.Core.Path.{_≡_};
 ghost use Prim.Native.Nat.{_+_, _≤_};
 ghost use lib.ListN.{length, drop};

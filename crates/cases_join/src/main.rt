@@ -144,7 +144,7 @@ fn singles(index: &[u8]) {
     case(index, &[14, 5, 15], 8);
 }
 
-// Room for exactly the answer and one cell less; what is needed is said, and no cell is written. An empty answer needs no room.
+// Room for the answer and no more, then one cell too few; what is needed is said, and no cell is written. An empty answer needs no room.
 fn rooms(index: &[u8]) {
     case(index, &[7, 8, 9], 6);
     case(index, &[7, 8, 9], 5);

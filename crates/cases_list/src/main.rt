@@ -81,7 +81,7 @@ fn answered_numbers() {
     numbers(&[5, 16777214, 16777215], 8);
 }
 
-// Room for exactly the answer, one cell less, and none; a cell over is no room for an interval.
+// Room for the answer and no more, one cell too few, and none; a cell over is no room for an interval.
 fn room_for_intervals() {
     numbers(&[1, 2, 3, 5, 6], 4);
     numbers(&[1, 2, 3, 5, 6], 3);
@@ -125,7 +125,7 @@ fn answered_intervals() {
     intervals(&[5, 5, 16777214, 16777215], 8);
 }
 
-// Room for exactly the answer, one cell less, and none; what is needed may be every record.
+// Room for the answer and no more, one cell too few, and none; what is needed may be every record.
 fn room_for_numbers() {
     intervals(&[1, 3, 5, 6], 5);
     intervals(&[1, 3, 5, 6], 4);
@@ -136,7 +136,7 @@ fn room_for_numbers() {
     intervals(&[], 0);
 }
 
-// A lone last cell, as the only one, behind good intervals, and behind a bad one.
+// A last cell without a second, as the only one, behind good intervals, and behind a bad one.
 fn lone_cells() {
     intervals(&[5], 8);
     intervals(&[1, 3, 5], 8);

@@ -1,4 +1,4 @@
-// Reads questions, one a line, and writes a line for each: refusal or 0, its value or the number of words, where each word stands, and the question.
+// Reads questions, one line each, and writes a line for each: 0 and the number of words, or the refusal and its value; where each word stands; and the question.
 ghost use mathlib.Core.Path.{_≡_};
 ghost use Prim.Native.Nat.{_≤_, _<_};
 ghost use lib.ListN.{length};

@@ -13,7 +13,7 @@ use Rattle.question.specs.Grammar.{Tree, word, pair, part, Out, good, wordsOf}
 use Rattle.question.specs.Meaning.{combine}
 use Rattle.evaluate.specs.Code.{codesOf}
 
--- whether the word of slot k stands in record x: an entry number that is no entry's names no record
+-- whether the word of slot k stands in record x: an entry number that is no entry's has none
 unfoldable pub slotHas : List ℕ → List ℕ → ℕ → ℕ → Bool
 slotHas index entries k x = cond (ltb (getD entries k 0) (wordCount index)) (names (listOf index (getD entries k 0)) x) false
 

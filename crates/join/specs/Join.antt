@@ -1,4 +1,4 @@
--- "Join: 13, 14, 12.", after the index's own refusals.
+-- Reference 8.5 and 9.2: what a join answers, and what it writes.
 use Prim.Native.Nat.{ℕ, _/_}
 use mathlib.Core.Path.{_≡_}
 use mathlib.Core.Bool.{Bool, cond, _||_}
@@ -18,11 +18,11 @@ use Rattle.index.specs.Format.{wordCount}
 use Rattle.index.specs.Check.{checkOf}
 use Rattle.merge.specs.Asked.{listsOf}
 
--- 13: "lists to join: none, or over 16"
+-- Reference 9.1, row 13
 unfoldable pub badListCount : List ℕ → Bool
 badListCount entries = eqb (length entries) 0 || ltb 16 (length entries)
 
--- 14: "entry number not below n": "its place in the request"
+-- Reference 9.1, row 14: whether the entry number at place i is bad
 unfoldable pub badEntryNumber : List ℕ → List ℕ → ℕ → Bool
 badEntryNumber index entries i = leb (wordCount index) (getD entries i 0)
 
@@ -30,7 +30,7 @@ abbrev pub entriesAfter : Found → Checked
 entriesAfter (At i) = Refused (EntryNumber i)
 entriesAfter Nowhere = Good
 
--- 13, then 14
+-- Reference 9.2: 13, then 14
 unfoldable pub entriesOf : List ℕ → List ℕ → Checked
 entriesOf index entries =
     cond (badListCount entries) (Refused (ListCount (length entries))) (entriesAfter (first (badEntryNumber index entries) (length entries)))
@@ -39,7 +39,7 @@ abbrev pub requestAfter : Checked → Checked → Checked
 requestAfter (Refused r) next = Refused r
 requestAfter Good next = next
 
--- whether the request may be answered: 1 to 5, 13, 14
+-- Reference 9.2: whether the request may be answered, 1 to 5, 13, 14
 unfoldable pub requestOf : List ℕ → List ℕ → Checked
 requestOf index entries = requestAfter (checkOf index) (entriesOf index entries)
 
@@ -51,7 +51,7 @@ abbrev pub joinCells : Checked → List ℕ → ℕ → List ℕ → List ℕ
 joinCells (Refused r) c room out = out
 joinCells Good c room out = listCells c room out
 
--- the promise of a join: `method` is the union of Definition 1 or the intersection of Definition 2
+-- Reference 8.5: the promise of a join, where `method` is the union or the intersection
 pub record Joins (method : List (List ℕ) → List ℕ) (index entries out out′ : List ℕ) (r : Answer) : Type 0 where
   pub answer : r ≡ joinAnswer (requestOf index entries) (method (listsOf index entries)) (length out / 2)
   pub cells : out′ ≡ joinCells (requestOf index entries) (method (listsOf index entries)) (length out / 2) out

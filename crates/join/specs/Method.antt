@@ -1,5 +1,4 @@
--- "The union is wanted by the scan line and by the improved scan line with an active interval, the intersection by the twin heap and by
---  probing from the shortest list.": which list each method gives
+-- Reference 8.5: which list each of the four methods gives.
 use Prim.Native.Nat.{ℕ}
 use mathlib.Core.List.{List}
 use Rattle.list.specs.Ginix.{unionOf, intersectionOf}

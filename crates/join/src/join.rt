@@ -60,7 +60,7 @@ fn join(index: &[u8], entries: &[u32], out: &mut [u32], method: Method) -> Answe
     }
 }
 
-// The records in at least one list of the request, by a counter over all bounds in ascending order.
+// Reference 8.5: the union of the lists of the request, by a counter over all bounds in ascending order.
 pub fn union_scan_line(index: &[u8], entries: &[u32], out: &mut [u32]) -> Answer
     ensures { λ r. ⌜ Joins unionOf (now (index .entry)) (now (entries .entry)) (now (out .entry)) (now (out .exit)) r ⌝ }
 {
@@ -74,7 +74,7 @@ pub fn union_active_interval(index: &[u8], entries: &[u32], out: &mut [u32]) -> 
     join(index, entries, out, Method::ActiveInterval)
 }
 
-// The records in every list of the request, by the largest lower and the least upper bound of the intervals that are next.
+// Reference 8.5: their intersection, by the largest lower and the least upper bound of the intervals that are next.
 pub fn intersection_twin_heap(index: &[u8], entries: &[u32], out: &mut [u32]) -> Answer
     ensures { λ r. ⌜ Joins intersectionOf (now (index .entry)) (now (entries .entry)) (now (out .entry)) (now (out .exit)) r ⌝ }
 {

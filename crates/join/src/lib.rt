@@ -1,4 +1,4 @@
-// Union and intersection of up to 16 lists of an index, by the Ginix paper's four methods.
+// Reference 8.5: union and intersection of lists of an index, by the Ginix paper's four methods.
 
 pub mod join;
 pub mod request;

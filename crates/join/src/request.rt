@@ -28,7 +28,7 @@ fn first_bad_number(index: &[u8], entries: &[u32]) -> Found
     Found::Nowhere
 }
 
-// Refusal 13, then 14.
+// Reference 9.2: refusal 13, then 14.
 fn check_entries(index: &[u8], entries: &[u32]) -> Checked
     requires { ⌜ Sound (now index) ⌝ }
     ensures { λ r. ⌜ r ≡ entriesOf (now (index .entry)) (now (entries .entry)) ⌝ }

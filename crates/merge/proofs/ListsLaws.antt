@@ -29,7 +29,7 @@ module _ (index : List ℕ) (s : Sound index) (i : ℕ) (h : i < wordCount index
   pub entry-regions : length (lowerOf index i) ≡ length (upperOf index i)
   entry-regions = lower-length index s i h ∙ sym (upper-length index s i h)
 
-  -- "s + m is at least 1"
+  -- Reference 5.2: no list is empty
   pub entry-some : 0 < length (singlesIn index i) + length (lowerIn index i)
   entry-some =
       some (singleCount index i) (pairCount index i) (length (singlesOf index i)) (length (lowerOf index i)) (length (singlesIn index i)) (length (lowerIn index i))

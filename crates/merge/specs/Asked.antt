@@ -12,7 +12,7 @@ pub record Asked (index entries : List ℕ) : Type 0 where
   pub few : length entries ≤ 16
   pub below : (j : ℕ) → j < length entries → getD entries j 0 < wordCount index
 
--- the lists of the entries asked for
+-- Reference 8.5: the lists of the entries asked for
 unfoldable pub listsOf : List ℕ → List ℕ → List (List ℕ)
 listsOf index [] = []
 listsOf index (e ∷ es) = listOf index e ∷ listsOf index es

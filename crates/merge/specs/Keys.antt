@@ -16,7 +16,7 @@ unfoldable pub sumOf : (ℕ → ℕ) → ℕ → ℕ
 sumOf f zero = 0
 sumOf f (suc n) = f n + sumOf f n
 
--- a bound as a key has it: the lower bound l is 2l, the upper bound u is 2(u + 1) + 1, so that of a lower bound and an upper one at the same
+-- Reference 3.3: a bound as a key has it, the lower bound l as 2l, the upper bound u as 2(u + 1) + 1, so that of a lower bound and an upper one at the same
 -- number the lower comes first
 abbrev pub lowerMark : ℕ → ℕ
 lowerMark l = l * 2

@@ -1,4 +1,4 @@
--- "Where these methods merge, each of up to 16 lists has its own reading place."
+-- The lists of a join by their regions, and when one is used up at its reading place.
 use Prim.Native.Nat.{ℕ, _+_, _<_}
 use mathlib.Core.Bool.{Bool}
 use mathlib.Core.List.{List}

@@ -1,4 +1,4 @@
-// The reading places of up to 16 lists, one for each.
+// Reading places, one for each list of a join.
 ghost use mathlib.Core.Path.{_≡_};
 ghost use Prim.Native.Nat.{_≤_, _<_};
 ghost use lib.ListN.{length, getD, set, replicate};

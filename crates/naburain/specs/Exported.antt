@@ -1,4 +1,4 @@
--- The promises of the exported calls that write: those of the calls behind them, with the answer as numbers.
+-- Reference 8.5 to 8.9: the promises of the exported calls that write, those of the calls behind them with the answer as numbers.
 use Prim.Native.Nat.{ℕ}
 use mathlib.Core.Path.{_≡_}
 use mathlib.Core.List.{List}

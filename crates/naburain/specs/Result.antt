@@ -1,4 +1,4 @@
--- What the exported calls return: the refusal's number and value, or 0 and 0, and then what the call reports, 0 where it was refused.
+-- Reference 7: what the exported calls return, the refusal's number and value, or 0 and 0, and then what the call reports, 0 where it was refused.
 use Prim.Native.Nat.{ℕ}
 use Rattle.refusal.specs.Refusal.{numberOf, valueOf}
 use Rattle.list.specs.declared.Written.{Written}
@@ -26,7 +26,7 @@ abbrev pub lookupResult : Lookup → LookupResult
 lookupResult (Entry i) = record { refusal = 0; value = 0; entry = i }
 lookupResult (NoEntry r) = record { refusal = numberOf r; value = valueOf r; entry = 0 }
 
--- the word's place in the index
+-- Reference 8.3: the word's place in the index
 abbrev pub wordResult : Checked → ℕ → ℕ → WordResult
 wordResult checked.Good start length = record { refusal = 0; value = 0; start = start; length = length }
 wordResult (checked.Refused r) start length = record { refusal = numberOf r; value = valueOf r; start = 0; length = 0 }

@@ -1,4 +1,4 @@
-// The calls for C programs: numbers and slices in, a struct of numbers out by value, so that a refused call writes nothing anywhere.
+// The calls for C programs (Reference 8): numbers and slices in, a struct of numbers out by value, so that a refused call writes nothing anywhere.
 ghost use mathlib.Core.Path.{_≡_};
 ghost use Rattle.convert.specs.Convert.{ToIntervals, ToNumbers};
 ghost use Rattle.index.specs.Format.{wordStart, wordLength};
@@ -146,7 +146,7 @@ fn answer_result(answer: Answer) -> AnswerResult
     }
 }
 
-// Refusals 1 to 5.
+// Reference 8.1: refusals 1 to 5.
 #[no_mangle]
 pub extern "C" fn naburain_check(index: &[u8]) -> CheckResult
     ensures { λ r. ⌜ r ≡ checkResult (checkOf (now (index .entry))) ⌝ }
@@ -154,7 +154,7 @@ pub extern "C" fn naburain_check(index: &[u8]) -> CheckResult
     check_result(index::check::check_index(index))
 }
 
-// Refusals 1 to 5, 21.
+// Reference 8.2: refusals 1 to 5, 21.
 #[no_mangle]
 pub extern "C" fn naburain_lookup(index: &[u8], word: &[u8]) -> LookupResult
     ensures { λ r. ⌜ r ≡ lookupResult (lookupOf (now (index .entry)) (now (word .entry))) ⌝ }
@@ -162,7 +162,7 @@ pub extern "C" fn naburain_lookup(index: &[u8], word: &[u8]) -> LookupResult
     lookup_result(index::find::look_up(index, word))
 }
 
-// Where the word of an entry stands in the index. Refusals 1 to 5, 14.
+// Reference 8.3: where the word of an entry stands in the index; refusals 1 to 5, 14.
 #[no_mangle]
 pub extern "C" fn naburain_word(index: &[u8], entry: u32) -> WordResult
     ensures { λ r. ⌜ r ≡ wordResult (entryOf (now (index .entry)) entry) (wordStart (now (index .entry)) entry) (wordLength (now (index .entry)) entry) ⌝ }
@@ -186,7 +186,7 @@ pub extern "C" fn naburain_word(index: &[u8], entry: u32) -> WordResult
     }
 }
 
-// Refusals 1 to 5, 14, 20.
+// Reference 8.4: refusals 1 to 5, 14, 20.
 #[no_mangle]
 pub extern "C" fn naburain_probe(index: &[u8], entry: u32, a: u32, b: u32) -> ProbeResult
     ensures { λ r. ⌜ r ≡ probeResult (probeOf (now (index .entry)) entry a b) ⌝ }
@@ -194,7 +194,7 @@ pub extern "C" fn naburain_probe(index: &[u8], entry: u32, a: u32, b: u32) -> Pr
     probe_result(index::probe_call::probe_entry(index, entry, a, b))
 }
 
-// Refusals 15, 12.
+// Reference 8.7: refusals 15, 12.
 #[no_mangle]
 pub extern "C" fn naburain_to_intervals(numbers: &[u32], cells: &mut [u32]) -> WriteResult
     ensures { λ r. ⌜ IntervalsExported (now (numbers .entry)) (now (cells .entry)) (now (cells .exit)) r ⌝ }
@@ -202,7 +202,7 @@ pub extern "C" fn naburain_to_intervals(numbers: &[u32], cells: &mut [u32]) -> W
     write_result(convert::to_intervals::to_intervals(numbers, cells))
 }
 
-// Refusals 16, 12.
+// Reference 8.8: refusals 16, 12.
 #[no_mangle]
 pub extern "C" fn naburain_to_numbers(cells: &[u32], numbers: &mut [u32]) -> WriteResult
     ensures { λ r. ⌜ NumbersExported (now (cells .entry)) (now (numbers .entry)) (now (numbers .exit)) r ⌝ }
@@ -210,7 +210,7 @@ pub extern "C" fn naburain_to_numbers(cells: &[u32], numbers: &mut [u32]) -> Wri
     write_result(convert::to_numbers::to_numbers(cells, numbers))
 }
 
-// Refusals 1 to 5, 13, 14, 12.
+// Reference 8.5: refusals 1 to 5, 13, 14, 12.
 #[no_mangle]
 pub extern "C" fn naburain_union_scan_line(
     index: &[u8],
@@ -222,7 +222,7 @@ pub extern "C" fn naburain_union_scan_line(
     answer_result(join::join::union_scan_line(index, entries, cells))
 }
 
-// Refusals 1 to 5, 13, 14, 12.
+// Reference 8.5: refusals 1 to 5, 13, 14, 12.
 #[no_mangle]
 pub extern "C" fn naburain_union_active_interval(
     index: &[u8],
@@ -234,7 +234,7 @@ pub extern "C" fn naburain_union_active_interval(
     answer_result(join::join::union_active_interval(index, entries, cells))
 }
 
-// Refusals 1 to 5, 13, 14, 12.
+// Reference 8.5: refusals 1 to 5, 13, 14, 12.
 #[no_mangle]
 pub extern "C" fn naburain_intersection_twin_heap(
     index: &[u8],
@@ -246,7 +246,7 @@ pub extern "C" fn naburain_intersection_twin_heap(
     answer_result(join::join::intersection_twin_heap(index, entries, cells))
 }
 
-// Refusals 1 to 5, 13, 14, 12.
+// Reference 8.5: refusals 1 to 5, 13, 14, 12.
 #[no_mangle]
 pub extern "C" fn naburain_intersection_probing(
     index: &[u8],
@@ -258,7 +258,7 @@ pub extern "C" fn naburain_intersection_probing(
     answer_result(join::join::intersection_probing(index, entries, cells))
 }
 
-// Refusals 1 to 5, 6, 7, 8, 9 to 11, 12.
+// Reference 8.6: refusals 1 to 5, 6, 7, 8, 9 to 11, 12.
 #[no_mangle]
 pub extern "C" fn naburain_ask(index: &[u8], question: &[u8], cells: &mut [u32]) -> AnswerResult
     ensures { λ r. ⌜ AskExported (now (index .entry)) (now (question .entry)) (now (cells .entry)) (now (cells .exit)) r ⌝ }
@@ -266,7 +266,7 @@ pub extern "C" fn naburain_ask(index: &[u8], question: &[u8], cells: &mut [u32])
     answer_result(query::ask::ask(index, question, cells))
 }
 
-// Refusals 19 with 0, 17, 18, 15, 19 with 1, 12.
+// Reference 8.9: refusals 19 with 0, 17, 18, 15, 19 with 1, 12.
 #[no_mangle]
 pub extern "C" fn naburain_build(
     n: u32,

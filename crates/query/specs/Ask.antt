@@ -1,4 +1,4 @@
--- "A question or join reports its intervals and its records": what a question over an index is answered with.
+-- Reference 8.6: what a question over an index is answered with.
 use Prim.Native.Nat.{ℕ, _/_}
 use mathlib.Core.Path.{_≡_}
 use mathlib.Core.List.{List}
@@ -16,11 +16,11 @@ use Rattle.question.specs.Grammar.{Tree, Rule}
 use Rattle.question.specs.Meaning.{fits}
 use Rattle.question.specs.Reading.{Asked, asks, refuses, asked}
 
--- the one proper list of the records that satisfy a question's tree
+-- Reference 6.3: the answer to a question, by its tree
 unfoldable pub satisfying : List ℕ → Tree → List ℕ
 satisfying index t = cellsOf (fits (has index) t) (highest index)
 
--- after the question is read: 12, or the list
+-- Reference 9.2: the refusal of the question, then 12, or the list
 abbrev pub treeAnswer : List ℕ → Asked → ℕ → Answer
 treeAnswer index (asks t k) room = listAnswer (satisfying index t) room
 treeAnswer index (refuses r) room = answer.Refused r
@@ -34,7 +34,7 @@ pub record Answers (rule : Rule) (index question out out′ : List ℕ) (r : Ans
   pub answer : r ≡ treeAnswer index (asked rule question) (length out / 2)
   pub cells : out′ ≡ treeCells index (asked rule question) (length out / 2) out
 
--- "Index calls: 1, 2, 3, 4 over all entries, 5. Then a question: 6, 7, 8, then 9, 10, 11 as met from the left, then 12."
+-- Reference 9.2: the index's own refusals come before those of the question
 abbrev pub askAnswer : Checked → List ℕ → Asked → ℕ → Answer
 askAnswer (Refused r) index a room = answer.Refused r
 askAnswer Good index a room = treeAnswer index a room
@@ -43,7 +43,7 @@ abbrev pub askCells : Checked → List ℕ → Asked → ℕ → List ℕ → Li
 askCells (Refused r) index a room out = out
 askCells Good index a room out = treeCells index a room out
 
--- the promise of a question over any bytes
+-- Reference 8.6: the promise of a question over any bytes
 pub record Asks (rule : Rule) (index question out out′ : List ℕ) (r : Answer) : Type 0 where
   pub answer : r ≡ askAnswer (checkOf index) index (asked rule question) (length out / 2)
   pub cells : out′ ≡ askCells (checkOf index) index (asked rule question) (length out / 2) out

@@ -65,7 +65,7 @@ pub fn answer_question(index: &[u8], question: &[u8], out: &mut [u32]) -> Answer
     }
 }
 
-// Answers a question over any bytes: the index is checked first.
+// Reference 8.6: answers a question over any bytes; the index is checked first.
 pub fn ask(index: &[u8], question: &[u8], out: &mut [u32]) -> Answer
     ensures { λ r. ⌜ Asks fromLeft (now (index .entry)) (now (question .entry)) (now (out .entry)) (now (out .exit)) r ⌝ }
 {

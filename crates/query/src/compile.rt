@@ -59,7 +59,7 @@ pub fn write_codes(question: &[u8], codes: &mut [u8]) -> usize
     }
 }
 
-// The word's entry number; where the index lacks the word, one that is no entry's.
+// The entry whose word it is; where the index has no such word, a number that is no entry's.
 fn entry_of(index: &[u8], word: &[u8]) -> usize
     requires { ⌜ Sound (now index) ⌝ }
     ensures { λ r. ⌜ EntryOf (now (index .entry)) (now (word .entry)) r ⌝ }
