@@ -1,4 +1,4 @@
-/* The independent Rust implementation of document 01 (reference.rs): it checks the whole index, reads it into memory, and merges sorted intervals. */
+/* The independent Rust implementation (reference.rs): it checks the whole index, reads it into memory, and merges sorted intervals. */
 #ifndef REFERENCE_H
 #define REFERENCE_H
 

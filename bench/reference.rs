@@ -1,4 +1,4 @@
-//! The independent implementation of document 01, the one that the outside tests hold the library to, as calls for C.
+//! The independent implementation of docs/REFERENCE.md, the one that the outside tests hold the library to, as calls for C.
 
 #![allow(dead_code)] // questions and joins are all that is asked of it here
 
