@@ -19,13 +19,14 @@ use Rattle.lines.specs.Line.{lineOf}
 abbrev pub fileCheck : List ℕ → Checked
 fileCheck index = cond (ltb 65536 (length index)) (Refused (IndexLength 65537)) (checkOf index)
 
--- what a question is answered with, where `room` intervals have room in the cells `out`
+-- Reference 10: what a question is answered with, where `room` intervals have room in the cells `out`
 abbrev pub answerTo : List ℕ → List ℕ → ℕ → Answer
 answerTo index question room = askAnswer (fileCheck index) index (asked fromLeft question) room
 
 abbrev pub cellsFor : List ℕ → List ℕ → ℕ → List ℕ → List ℕ
 cellsFor index question room out = askCells (fileCheck index) index (asked fromLeft question) room out
 
+-- Reference 8.6: the promise of a line, that of a question by what was read of the file
 pub record AnswersLine (index question out out′ : List ℕ) (r : Answer) : Type 0 where
   pub answer : r ≡ answerTo index question (length out / 2)
   pub cells : out′ ≡ cellsFor index question (length out / 2) out

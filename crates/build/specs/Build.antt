@@ -32,7 +32,7 @@ badCounts words counts numbers =
 abbrev pub badNumbers : ℕ → List ℕ → List ℕ → List ℕ → Found
 badNumbers n words counts numbers = first (badListed n counts (length (wordsOf words)) numbers) (length numbers)
 
--- a fault is refused, or what comes next is asked
+-- Reference 9.2: a fault is refused, or what comes next is asked
 abbrev pub faultThen : (ℕ → Refusal) → Found → Checked → Checked
 faultThen refusal (At i) next = Refused (refusal i)
 faultThen refusal Nowhere next = next
@@ -50,7 +50,7 @@ abbrev pub sizeAnswer : ℕ → ℕ → Written
 sizeAnswer size room =
     cond (ltb 16777216 size) (written.Refused (BuildLimit 1)) (cond (leb size room) (written.Wrote size) (written.Refused (Room size)))
 
--- what is lent is refused, or its size answers
+-- Reference 9.2: what is lent is refused, or its size answers
 abbrev pub afterLent : Checked → Written → Written
 afterLent (Refused r) next = written.Refused r
 afterLent Good next = next
@@ -59,6 +59,7 @@ afterLent Good next = next
 abbrev pub indexFrom : ℕ → List ℕ → List ℕ → List ℕ → List ℕ
 indexFrom n words counts numbers = indexOf n (wordsOf words) (listsFrom counts numbers)
 
+-- Reference 8.9: the whole answer
 unfoldable pub buildOf : ℕ → List ℕ → List ℕ → List ℕ → ℕ → Written
 buildOf n words counts numbers room =
     afterLent (lentOf n words counts numbers) (sizeAnswer (length (indexFrom n words counts numbers)) room)
@@ -68,6 +69,7 @@ abbrev pub bytesAfter : Written → List ℕ → List ℕ → List ℕ
 bytesAfter (written.Wrote size) index out = index ++ drop size out
 bytesAfter (written.Refused r) index out = out
 
+-- Reference 8.9: the promise of a build
 pub record Builds (n : ℕ) (words counts numbers out out′ : List ℕ) (r : Written) : Type 0 where
   pub answer : r ≡ buildOf n words counts numbers (length out)
   pub bytes : out′ ≡ bytesAfter (buildOf n words counts numbers (length out)) (indexFrom n words counts numbers) out

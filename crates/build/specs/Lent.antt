@@ -30,7 +30,7 @@ one-if-any (b ∷ bs) = 1
 unfoldable pub wordTotal : List ℕ → ℕ
 wordTotal bytes = length (wordsOf bytes) + one-if-any (restOf bytes)
 
--- the word before word i; before the first the empty string, which stands before every word
+-- Reference 9.1, row 17: the word before word i; before the first the empty string, which stands before every word
 abbrev pub lentBefore : List (List ℕ) → ℕ → List ℕ
 lentBefore ws zero = []
 lentBefore ws (suc i) = getD ws i []
@@ -39,7 +39,7 @@ lentBefore ws (suc i) = getD ws i []
 unfoldable pub badLent : List (List ℕ) → ℕ → Bool
 badLent ws i = leb 65535 i || leb (length ws) i || not (isWord (getD ws i [])) || not (before (lentBefore ws i) (getD ws i []))
 
--- what the first i counts add up to
+-- Reference 9.1, row 18: what the first i counts add up to
 unfoldable pub sumTo : List ℕ → ℕ → ℕ
 sumTo counts zero = 0
 sumTo counts (suc i) = sumTo counts i + getD counts i 0
@@ -52,12 +52,12 @@ badCount counts total i = leb (length counts) i || eqb (getD counts i 0) 0 || lt
 unfoldable pub badRest : List ℕ → ℕ → ℕ → Bool
 badRest counts total words = ltb words (length counts) || ltb (sumTo counts words) total
 
--- whether place k is where the list of one of the first i counts begins
+-- Reference 8.9: whether place k is where the list of one of the first i counts begins
 unfoldable pub beginsList : List ℕ → ℕ → ℕ → Bool
 beginsList counts zero k = false
 beginsList counts (suc i) k = eqb (sumTo counts i) k || beginsList counts i k
 
--- the number before place k in its list, 0 before the first
+-- Reference 9.1, row 15: the number before place k in its list, 0 before the first
 abbrev pub listedBefore : List ℕ → ℕ → List ℕ → ℕ → ℕ
 listedBefore counts words numbers zero = 0
 listedBefore counts words numbers (suc k) = cond (beginsList counts words (suc k)) 0 (getD numbers k 0)

@@ -48,10 +48,11 @@ abbrev pub leftOf : Found → ℕ → ℕ → List ℕ → List ℕ → List ℕ
 leftOf (At i) needed room written out = out
 leftOf Nowhere needed room written out = cond (leb needed room) (written ++ drop (length written) out) out
 
--- Reference 8.7: the first bad number, and the list to write
+-- Reference 9.2: 15, with the limit of all record numbers
 abbrev pub badNumberOf : List ℕ → Found
 badNumberOf xs = first (badNumber top xs) (length xs)
 
+-- Reference 8.7: the list to write
 abbrev pub intervalsOf : List ℕ → List ℕ
 intervalsOf xs = cellsOf (among xs) top
 
@@ -60,10 +61,11 @@ pub record ToIntervals (xs out out′ : List ℕ) (r : Written) : Type 0 where
   pub answer : r ≡ answerOf Number (badNumberOf xs) (intervals (intervalsOf xs)) (length out / 2)
   pub cells : out′ ≡ leftOf (badNumberOf xs) (intervals (intervalsOf xs)) (length out / 2) (intervalsOf xs) out
 
--- Reference 8.8: the first bad interval, where a last cell without a second counts as one, and the numbers to write
+-- Reference 9.2: 16; a last cell without a second counts as an interval
 abbrev pub badIntervalOf : List ℕ → Found
 badIntervalOf c = first (badInterval c) ((length c + 1) / 2)
 
+-- Reference 8.8: the numbers to write
 abbrev pub numbersOf : List ℕ → List ℕ
 numbersOf c = recordsOf (names c) top
 

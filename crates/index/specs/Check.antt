@@ -29,6 +29,7 @@ entriesAnswer Nowhere next = next
 abbrev pub badListOf : List ℕ → Found
 badListOf index = first (badList index) (wordCount index)
 
+-- Reference 5.1: an index that breaks none of the rules is good
 abbrev pub listsAnswer : Found → Checked
 listsAnswer (At i) = Refused (KeptList i)
 listsAnswer Nowhere = Good

@@ -28,6 +28,7 @@ abbrev pub lookupAfter : Checked → Found → Lookup
 lookupAfter (Refused r) found = NoEntry r
 lookupAfter Good found = foundAnswer found
 
+-- Reference 8.2: the whole lookup
 unfoldable pub lookupOf : List ℕ → List ℕ → Lookup
 lookupOf index word = lookupAfter (checkOf index) (first (λ i. same (wordOf index i) word) (wordCount index))
 
@@ -45,6 +46,7 @@ abbrev pub wordAfter : Checked → List ℕ → List ℕ
 wordAfter Good word = word
 wordAfter (Refused r) word = []
 
+-- Reference 8.3: the whole call
 unfoldable pub entryWord : List ℕ → ℕ → List ℕ
 entryWord index i = wordAfter (entryOf index i) (wordOf index i)
 

@@ -43,10 +43,12 @@ requestAfter Good next = next
 unfoldable pub requestOf : List ℕ → List ℕ → Checked
 requestOf index entries = requestAfter (checkOf index) (entriesOf index entries)
 
+-- Reference 9.2: then 12, or the list
 abbrev pub joinAnswer : Checked → List ℕ → ℕ → Answer
 joinAnswer (Refused r) c room = answer.Refused r
 joinAnswer Good c room = listAnswer c room
 
+-- Reference 7: what the cells hold then
 abbrev pub joinCells : Checked → List ℕ → ℕ → List ℕ → List ℕ
 joinCells (Refused r) c room out = out
 joinCells Good c room out = listCells c room out

@@ -7,11 +7,11 @@ use lib.ListN.{getD}
 abbrev pub cell : ℕ → ℕ → ℕ → ℕ → ℕ
 cell a b c d = a + b * 256 + c * 65536 + d * 16777216
 
--- the cell that stands at byte i
+-- Reference 4.1: the cell that stands at byte i
 abbrev pub cellAt : List ℕ → ℕ → ℕ
 cellAt bytes i = cell (getD bytes i 0) (getD bytes (i + 1) 0) (getD bytes (i + 2) 0) (getD bytes (i + 3) 0)
 
--- the numbers in a region of whole cells
+-- Reference 4.1: the numbers in a region of whole cells
 unfoldable pub numbersIn : List ℕ → List ℕ
 numbersIn [] = []
 numbersIn (a ∷ []) = []

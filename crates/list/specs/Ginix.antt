@@ -11,6 +11,7 @@ unfoldable pub inSome : List (List ℕ) → ℕ → Bool
 inSome [] x = false
 inSome (c ∷ cs) x = names c x || inSome cs x
 
+-- Reference 3.3: its list
 unfoldable pub unionOf : List (List ℕ) → List ℕ
 unionOf cs = cellsOf (inSome cs) top
 
@@ -19,6 +20,7 @@ unfoldable pub inEvery : List (List ℕ) → ℕ → Bool
 inEvery [] x = true
 inEvery (c ∷ cs) x = names c x && inEvery cs x
 
+-- Reference 3.3: its list
 unfoldable pub intersectionOf : List (List ℕ) → List ℕ
 intersectionOf cs = cellsOf (inEvery cs) top
 

@@ -30,7 +30,7 @@ lowerAt S L at = cond (singleNext S L (at .p .0) (at .q .0)) (getD S (at .p .0) 
 abbrev pub upperAt : List ℕ → List ℕ → List ℕ → Place → ℕ
 upperAt S L U at = cond (singleNext S L (at .p .0) (at .q .0)) (getD S (at .p .0) 0) (getD U (at .q .0) 0)
 
--- the cells of the k intervals from a place on
+-- Reference 3.4: the cells of the k steps from a place on; a whole walk has as many as S and L have numbers
 unfoldable pub walkFrom : List ℕ → List ℕ → List ℕ → Place → ℕ → List ℕ
 walkFrom S L U at zero = []
 walkFrom S L U at (suc k) = lowerAt S L at ∷ upperAt S L U at ∷ walkFrom S L U (nextPlace S L at) k
@@ -39,7 +39,7 @@ walkFrom S L U at (suc k) = lowerAt S L at ∷ upperAt S L U at ∷ walkFrom S L
 unfoldable pub walked : List ℕ → List ℕ → List ℕ → List ℕ
 walked S L U = walkFrom S L U start (length S + length L)
 
--- whether L and U are equally long, with each L[q] < U[q]
+-- Reference 3.4: whether each pair names two numbers or more, where L and U have as many
 unfoldable pub areLonger : List ℕ → List ℕ → Bool
 areLonger [] [] = true
 areLonger [] (u ∷ us) = false

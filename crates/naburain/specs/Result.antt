@@ -18,10 +18,12 @@ use Rattle.naburain.specs.declared.ProbeResult.{ProbeResult}
 use Rattle.naburain.specs.declared.WriteResult.{WriteResult}
 use Rattle.naburain.specs.declared.AnswerResult.{AnswerResult}
 
+-- Reference 8.1
 abbrev pub checkResult : Checked → CheckResult
 checkResult checked.Good = record { refusal = 0; value = 0 }
 checkResult (checked.Refused r) = record { refusal = numberOf r; value = valueOf r }
 
+-- Reference 8.2
 abbrev pub lookupResult : Lookup → LookupResult
 lookupResult (Entry i) = record { refusal = 0; value = 0; entry = i }
 lookupResult (NoEntry r) = record { refusal = numberOf r; value = valueOf r; entry = 0 }
@@ -31,14 +33,17 @@ abbrev pub wordResult : Checked → ℕ → ℕ → WordResult
 wordResult checked.Good start length = record { refusal = 0; value = 0; start = start; length = length }
 wordResult (checked.Refused r) start length = record { refusal = numberOf r; value = valueOf r; start = 0; length = 0 }
 
+-- Reference 8.4
 abbrev pub probeResult : Probed → ProbeResult
 probeResult (Counted p) = record { refusal = 0; value = 0; below = p .below; overlapping = p .overlapping }
 probeResult (NoCount r) = record { refusal = numberOf r; value = valueOf r; below = 0; overlapping = 0 }
 
+-- Reference 8.7 to 8.9
 abbrev pub writeResult : Written → WriteResult
 writeResult (written.Wrote n) = record { refusal = 0; value = 0; written = n }
 writeResult (written.Refused r) = record { refusal = numberOf r; value = valueOf r; written = 0 }
 
+-- Reference 8.5 and 8.6
 abbrev pub answerResult : Answer → AnswerResult
 answerResult (answer.Listed t) = record { refusal = 0; value = 0; intervals = t .intervals; records = t .records }
 answerResult (answer.Refused r) = record { refusal = numberOf r; value = valueOf r; intervals = 0; records = 0 }

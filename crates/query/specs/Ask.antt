@@ -25,11 +25,12 @@ abbrev pub treeAnswer : List ℕ → Asked → ℕ → Answer
 treeAnswer index (asks t k) room = listAnswer (satisfying index t) room
 treeAnswer index (refuses r) room = answer.Refused r
 
+-- Reference 7: what the cells hold then
 abbrev pub treeCells : List ℕ → Asked → ℕ → List ℕ → List ℕ
 treeCells index (asks t k) room out = listCells (satisfying index t) room out
 treeCells index (refuses r) room out = out
 
--- the promise of a question over an index that is sound already
+-- Reference 8.6: the promise of a question over an index that is sound already
 pub record Answers (rule : Rule) (index question out out′ : List ℕ) (r : Answer) : Type 0 where
   pub answer : r ≡ treeAnswer index (asked rule question) (length out / 2)
   pub cells : out′ ≡ treeCells index (asked rule question) (length out / 2) out

@@ -9,6 +9,6 @@ unfoldable pub firstFrom : (ℕ → Bool) → ℕ → ℕ → Found
 firstFrom t i zero = Nowhere
 firstFrom t i (suc k) = cond (t i) (At i) (firstFrom t (i + 1) k)
 
--- the first of the places 0 to n - 1 at which the test holds
+-- Reference 9.1: the first of the places 0 to n - 1 at which the test holds
 unfoldable pub first : (ℕ → Bool) → ℕ → Found
 first t n = firstFrom t 0 n

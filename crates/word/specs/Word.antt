@@ -51,10 +51,10 @@ isOperator w = isAnd w || isOr w || isNot w
 unfoldable pub isWord : List ℕ → Bool
 isWord w = between 1 32 (length w) && allWordBytes w && not (isOperator w)
 
--- which operator a run of word bytes is
+-- Reference 6.1: which operator a run is, if any
 unfoldable pub operatorOf : List ℕ → Operator
 operatorOf w = cond (isAnd w) And (cond (isOr w) Or (cond (isNot w) Not Neither))
 
--- how the first word stands to the second
+-- Reference 2: how the first stands to the second
 unfoldable pub orderOf : List ℕ → List ℕ → Order
 orderOf a b = cond (same a b) Same (cond (before a b) Before Behind)
