@@ -39,7 +39,7 @@ walkFrom S L U at (suc k) = lowerAt S L at ∷ upperAt S L U at ∷ walkFrom S L
 unfoldable pub walked : List ℕ → List ℕ → List ℕ → List ℕ
 walked S L U = walkFrom S L U start (length S + length L)
 
--- Reference 3.4: whether each pair names two numbers or more, where L and U have as many
+-- Reference 3.4: whether L and U have as many numbers, and each pair names two or more
 unfoldable pub areLonger : List ℕ → List ℕ → Bool
 areLonger [] [] = true
 areLonger [] (u ∷ us) = false
