@@ -4,6 +4,7 @@ pub mod TokenLaws
 pub mod ReaderLaws
 pub mod FaultLaws
 pub mod Lockstep
+pub mod WalkLaws
 pub mod LimitLaws
 pub mod AskedLaws
 pub mod SplitLaws
