@@ -6,6 +6,8 @@ pub mod FaultLaws
 pub mod Lockstep
 pub mod WalkLaws
 pub mod LimitLaws
+pub mod StopLaws
+pub mod PartLaws
 pub mod AskedLaws
 pub mod SplitLaws
 pub mod RuleLaws

@@ -1,17 +1,17 @@
 -- Laws of the walk: the reading of a question stops where the walk stops, by the same number, and else has the words that the walk took.
 use Prim.Native.Nat.{ℕ, zero, suc, _+_, _-_, _*_, _≤_, _<_}
 use native.Mathlib.Omega.{arith}
-use mathlib.Core.Path.{_≡_, refl, sym, ap, _∙_}
+use mathlib.Core.Path.{_≡_, refl, sym, _∙_}
 use mathlib.Core.List.{List, [], _∷_, _++_}
 use mathlib.Core.Bool.{Bool, true, false}
 use lib.ListN.{length}
 use lib.Dec.{ltb, eqb}
-use borrow.Author.Tests.{ltb-true, ltb-false, eqb-true, eqb-false, lt-ltb, le-ltb, ne-eqb}
+use borrow.Author.Tests.{eqb-true, eqb-false, lt-ltb, le-ltb, ne-eqb}
 use Rattle.word.specs.Word.{isWordByte}
 use Rattle.question.specs.declared.token.Op.{Op}
 use Rattle.question.specs.Token.{choose, Tok, wordT, opT, openT, closeT, otherT, flush, mark, gather, tokensAt, tokens}
 use Rattle.question.specs.Grammar.{Tree, word, Link, link, Rule, Out, good, bad, bind, closed, question, operand, links, ended, whole}
-use Rattle.question.specs.Walk.{Stand, operandNext, operatorNext, Walked, reached, stopped, onward, pass, walk, atEnd, walkAll, fresh}
+use Rattle.question.specs.Walk.{Stand, operandNext, operatorNext, Walked, reached, stopped, walk, walkAll, fresh, verdict}
 
 -- ---- a question has no more tokens than bytes
 
@@ -177,11 +177,6 @@ mutual
   links-steps rule (suc f) d n k (otherT p ∷ r) s h = steps-end n k (otherT p ∷ r) tt
 
 -- ---- the whole question
-
--- a reading without its tree
-abbrev pub verdict : Out Tree → Walked ℕ
-verdict (good t r k) = reached k
-verdict (bad c r) = stopped c r
 
 ended-steps : (ts : List Tok) (o : Out Tree) → Steps NoOperator 0 fresh ts o → verdict (bind o ended) ≡ walkAll fresh ts
 unfolding walkAll walk

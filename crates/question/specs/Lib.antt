@@ -4,6 +4,7 @@ pub mod Meaning
 pub mod Reading
 pub mod Limits
 pub mod Walk
+pub mod Stops
 pub mod Words
 pub mod Next
 pub mod Readers
