@@ -25,7 +25,7 @@ use Rattle.question.specs.Exchange.{around, NeverBelow, Matched, Accepte
 use Rattle.question.proofs.Lockstep as lock
 use Rattle.question.proofs.LimitLaws.{count, walk-kept, accepts-walk}
 use Rattle.question.proofs.PartLaws.{bracketed, Taken, inside-walk, exchange-walk, walk-bare, bare-walk, bare-count, bare-deepest, bare-open, bare-below}
-use Rattle.question.proofs.AskedLaws.{asked-accepts, accepted-walk, walk-accepted}
+use Rattle.question.proofs.AskedLaws.{asked-accepts, accepted-walk, accepted-within, walk-accepted}
 use Rattle.question.proofs.RuleLaws.{from-left-respects}
 use Rattle.question.proofs.SplitLaws.{bares, bareOut, bare-question, tokens-around, none-proper, proper-none, proper-around, proper-inside, none-short, short-none, short-around, short-inside}
 
@@ -135,3 +135,9 @@ exchange rule respects has a b e before behind t n h =
 pub exchange-from-left : (has : List ℕ → ℕ → Bool) (a b : List ℕ) → Exchangeable fromLeft has a b →
     (before behind : List ℕ) (t : Tree) (n : ℕ) → asked fromLeft (around before a behind) ≡ asks t n → Exchanged fromLeft has t (around before b behind)
 exchange-from-left = exchange fromLeft from-left-respects
+
+pub inside-accepted-from-left : (before a behind : List ℕ) (t : Tree) (n : ℕ) → asked fromLeft (around before a behind) ≡ asks t n → Matched a → AcceptedBy fromLeft a (count (tokens a))
+inside-accepted-from-left = inside-accepted fromLeft
+
+pub accepted-within-from-left : (s : List ℕ) (t : Tree) (n : ℕ) → asked fromLeft s ≡ asks t n → WithinLimits s
+accepted-within-from-left = accepted-within fromLeft
