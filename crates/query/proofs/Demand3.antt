@@ -37,12 +37,12 @@ use Rattle.question.specs.Grammar.{Tree, Rule, fromLeft}
 use Rattle.question.specs.Meaning.{fits, Respects}
 use Rattle.question.specs.Reading.{asks, asked}
 use Rattle.question.specs.Limits.{wordsIn}
-use Rattle.question.specs.Exchange.{around, Matched, AcceptedToo}
+use Rattle.question.specs.Exchange.{around, Matched, Exchangeable, AcceptedToo}
 use Rattle.question.proofs.RuleLaws.{from-left-respects}
 use Rattle.question.proofs.AskedLaws.{accepted-within}
-use Rattle.question.proofs.Exchange.{exchange-accepted, inside-accepted}
+use Rattle.question.proofs.Exchange.{exchange, inside-accepted}
 use Rattle.query.specs.Ask.{satisfying, Asks}
-use Rattle.query.specs.Demand3.{written, Answered, SameRecords, Exchanging, ExchangingPair, TwoCalls, writtenBy, OnlyWritten, ListOrRoom, SameAnswers}
+use Rattle.query.specs.Demand3.{written, Answered, SameRecords, Exchanging, ExchangingPair, writtenBy, OnlyWritten, ListOrRoom, SameAnswers}
 use Rattle.query.proofs.SatisfyLaws.{same-everywhere, satisfying-even, satisfying-same, same-satisfying}
 
 -- ---- what an answered question writes: the one proper list of its records
@@ -113,22 +113,31 @@ module _ (rule : Rule) (respects : Respects rule) (index before a b behind : Lis
   -- the second question is accepted, and the same records satisfy it
   changed : (e : Exchanging rule index before a b behind) → AcceptedToo rule (has index) (around before b behind) (e .tree)
   changed e =
-      exchange-accepted rule respects (has index) before a b behind (e .tree-a) (e .tree-b) (e .words-a) (e .words-b) (e .a-accepted) (e .b-accepted)
-      (same-everywhere index (good-sound index (e .sound)) (e .tree-a) (e .tree-b) (e .same)) (e .tree) (e .words) (e .accepted) (e .within)
+      let parts : Exchangeable rule (has index) a b =
+      record {
+        tree-a = e .tree-a;
+        tree-b = e .tree-b;
+        words-a = e .words-a;
+        words-b = e .words-b;
+        a-accepted = e .a-accepted;
+        b-accepted = e .b-accepted;
+        same = same-everywhere index (good-sound index (e .sound)) (e .tree-a) (e .tree-b) (e .same);
+      } in
+      exchange rule respects (has index) a b parts before behind (e .tree) (e .words) (e .accepted) .accepted (e .within)
 
   pub exchange-answers : Exchanging rule index before a b behind →
-      (out out′ other other′ : List ℕ) (r r′ : Answer) → TwoCalls rule index (around before a behind) (around before b behind) out out′ other other′ r r′ →
+      (out out′ other other′ : List ℕ) (r r′ : Answer) → length out / 2 ≡ length other / 2 →
+      Asks rule index (around before a behind) out out′ r → Asks rule index (around before b behind) other other′ r′ →
       SameAnswers rule (around before b behind) out out′ other other′ r r′
-  exchange-answers e out out′ other other′ r r′ calls =
+  exchange-answers e out out′ other other′ r r′ room one-call other-call =
       let too = changed e in
       let one = e .tree in
       let two = too .tree in
       let same : satisfying index one ≡ satisfying index two = satisfying-same index one two (λ x h g. too .fits-same x) in
-      let room = calls .room in
-      let first-says : r ≡ listAnswer (satisfying index one) (length out / 2) = rw (e .sound, e .accepted) at (calls .first-call .answer) in
-      let first-leaves : out′ ≡ listCells (satisfying index one) (length out / 2) out = rw (e .sound, e .accepted) at (calls .first-call .cells) in
-      let second-says : r′ ≡ listAnswer (satisfying index two) (length other / 2) = rw (e .sound, too .accepted) at (calls .second-call .answer) in
-      let second-leaves : other′ ≡ listCells (satisfying index two) (length other / 2) other = rw (e .sound, too .accepted) at (calls .second-call .cells) in
+      let first-says : r ≡ listAnswer (satisfying index one) (length out / 2) = rw (e .sound, e .accepted) at (one-call .answer) in
+      let first-leaves : out′ ≡ listCells (satisfying index one) (length out / 2) out = rw (e .sound, e .accepted) at (one-call .cells) in
+      let second-says : r′ ≡ listAnswer (satisfying index two) (length other / 2) = rw (e .sound, too .accepted) at (other-call .answer) in
+      let second-leaves : other′ ≡ listCells (satisfying index two) (length other / 2) other = rw (e .sound, too .accepted) at (other-call .cells) in
       let first = call-writes (satisfying index one) (satisfying-even index one) out out′ r (length out / 2) first-says first-leaves in
       let second = call-writes (satisfying index two) (satisfying-even index two) other other′ r′ (length other / 2) second-says second-leaves in
       record {
@@ -162,7 +171,8 @@ module _ (rule : Rule) (respects : Respects rule) (index before a b behind : Lis
       }
 
   pub exchange-pair : ExchangingPair rule index before a b behind →
-      (out out′ other other′ : List ℕ) (r r′ : Answer) → TwoCalls rule index (around before a behind) (around before b behind) out out′ other other′ r r′ →
+      (out out′ other other′ : List ℕ) (r r′ : Answer) → length out / 2 ≡ length other / 2 →
+      Asks rule index (around before a behind) out out′ r → Asks rule index (around before b behind) other other′ r′ →
       SameAnswers rule (around before b behind) out out′ other other′ r r′
   exchange-pair e = exchange-answers (pair-exchanging e)
 
@@ -191,12 +201,14 @@ exchanging-itself rule index before a behind sound t n accepted matched =
 
 module _ (index before a b behind : List ℕ) where
   pub exchange-answers-from-left : Exchanging fromLeft index before a b behind →
-      (out out′ other other′ : List ℕ) (r r′ : Answer) → TwoCalls fromLeft index (around before a behind) (around before b behind) out out′ other other′ r r′ →
+      (out out′ other other′ : List ℕ) (r r′ : Answer) → length out / 2 ≡ length other / 2 →
+      Asks fromLeft index (around before a behind) out out′ r → Asks fromLeft index (around before b behind) other other′ r′ →
       SameAnswers fromLeft (around before b behind) out out′ other other′ r r′
   exchange-answers-from-left = exchange-answers fromLeft from-left-respects index before a b behind
 
   pub exchange-pair-from-left : ExchangingPair fromLeft index before a b behind →
-      (out out′ other other′ : List ℕ) (r r′ : Answer) → TwoCalls fromLeft index (around before a behind) (around before b behind) out out′ other other′ r r′ →
+      (out out′ other other′ : List ℕ) (r r′ : Answer) → length out / 2 ≡ length other / 2 →
+      Asks fromLeft index (around before a behind) out out′ r → Asks fromLeft index (around before b behind) other other′ r′ →
       SameAnswers fromLeft (around before b behind) out out′ other other′ r r′
   exchange-pair-from-left = exchange-pair fromLeft from-left-respects index before a b behind
 

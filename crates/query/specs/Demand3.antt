@@ -1,5 +1,5 @@
 -- What demand 3 compares: the cells that two questions write over one sound index, and the exchange of a part in brackets.
-use Prim.Native.Nat.{ℕ, _*_, _/_, _≤_}
+use Prim.Native.Nat.{ℕ, _*_, _≤_}
 use mathlib.Core.Path.{_≡_}
 use mathlib.Core.List.{List, [], _++_}
 use lib.ListN.{length, take, drop}
@@ -64,12 +64,6 @@ pub record ExchangingPair (rule : Rule) (index before a b behind : List ℕ) : T
   pub b-accepted : asked rule b ≡ asks tree-b words-b
   pub same : (t : Tree) (n : ℕ) → asked rule a ≡ asks t n → SameRecords index t tree-b
   pub within : WithinLimits (around before b behind)
-
--- two calls that keep the promise, with room for equally many intervals; what stood in the cells may differ
-pub record TwoCalls (rule : Rule) (index first second out out′ other other′ : List ℕ) (r r′ : Answer) : Type 0 where
-  pub room : length out / 2 ≡ length other / 2
-  pub first-call : Asks rule index first out out′ r
-  pub second-call : Asks rule index second other other′ r′
 
 -- the cells that a call writes: none, where it refuses
 abbrev pub writtenBy : Answer → List ℕ → List ℕ

@@ -143,37 +143,28 @@ module _ (rule : Rule) (s : List ℕ) (x : Refusal) where
 stops-asked : (rule : Rule) (s : List ℕ) (c : ℕ) (r : List Tok) → Faultless s → walkAll fresh (tokens s) ≡ stopped c r → asked rule s ≡ refuses (refusalOf c (placeOf (length s) r))
 stops-asked rule s c r f h = faultless-asked rule s f ∙ ap (outcome (length s)) (whole-stops rule s c r .1 h)
 
+-- refused so exactly where the walk stops so
+exactly-asked : (rule : Rule) (s : List ℕ) (x : Refusal) (Stop : List Tok → List Tok → Type 0) → 9 ≤ numberOf x → refusalOf (numberOf x) (valueOf x) ≡ x →
+    ((r : List Tok) → Exactly (By x (tokens s) r) (Stop (tokens s) r)) → Exactly (asked rule s ≡ refuses x) (StopsAt Stop s (valueOf x))
+exactly-asked rule s x Stop l is exact = (
+  λ h. let w = asked-stops rule s x l h in record { faultless = w .faultless; left = w .left; stop = exact (w .left) .0 (w .stop); place = w .place },
+  λ w.
+      stops-asked rule s (numberOf x) (w .left) (w .faultless) (exact (w .left) .1 (w .stop)) ∙ ap (λ (i : ℕ). refuses (refusalOf (numberOf x) i)) (sym (w .place))
+      ∙ ap refuses is,
+)
+
 module _ (rule : Rule) (s : List ℕ) (p : ℕ) where
   pub grammar-asked : Exactly (asked rule s ≡ refuses (Grammar p)) (StopsAt Misplaced s p)
   unfolding refusalOf
-  grammar-asked = (
-    λ h. asked-stops rule s (Grammar p) (omega arith) h,
-    λ w. stops-asked rule s 9 (w .left) (w .faultless) (w .stop) ∙ ap (λ (i : ℕ). refuses (Grammar i)) (sym (w .place)),
-  )
+  grammar-asked = exactly-asked rule s (Grammar p) Misplaced (omega arith) refl (λ r. (λ h. h, λ h. h))
 
   pub word-limit-asked : Exactly (asked rule s ≡ refuses (WordLimit p)) (StopsAt WordTooMany s p)
   unfolding refusalOf
-  word-limit-asked = (
-    λ h. let w = asked-stops rule s (WordLimit p) (omega arith) h in record {
-      faultless = w .faultless;
-      left = w .left;
-      stop = word-limit-walk (tokens s) (w .left) .0 (w .stop);
-      place = w .place;
-    },
-    λ w. stops-asked rule s 10 (w .left) (w .faultless) (word-limit-walk (tokens s) (w .left) .1 (w .stop)) ∙ ap (λ (i : ℕ). refuses (WordLimit i)) (sym (w .place)),
-  )
+  word-limit-asked = exactly-asked rule s (WordLimit p) WordTooMany (omega arith) refl (word-limit-walk (tokens s))
 
   pub bracket-limit-asked : Exactly (asked rule s ≡ refuses (BracketLimit p)) (StopsAt BracketTooMany s p)
   unfolding refusalOf
-  bracket-limit-asked = (
-    λ h. let w = asked-stops rule s (BracketLimit p) (omega arith) h in record {
-      faultless = w .faultless;
-      left = w .left;
-      stop = bracket-limit-walk (tokens s) (w .left) .0 (w .stop);
-      place = w .place;
-    },
-    λ w. stops-asked rule s 11 (w .left) (w .faultless) (bracket-limit-walk (tokens s) (w .left) .1 (w .stop)) ∙ ap (λ (i : ℕ). refuses (BracketLimit i)) (sym (w .place)),
-  )
+  bracket-limit-asked = exactly-asked rule s (BracketLimit p) BracketTooMany (omega arith) refl (bracket-limit-walk (tokens s))
 
 -- ---- two rules accept and refuse alike
 

@@ -10,18 +10,18 @@
 -- exchanged (`Respects`; the published rule, from the left, is one: `from-left-respects` in RuleLaws).
 use Prim.Native.Nat.{ℕ, _+_, _*_, _≤_}
 use native.Mathlib.Omega.{arith}
-use mathlib.Core.Path.{_≡_, sym, ap, _∙_}
+use mathlib.Core.Path.{_≡_, ap, _∙_}
 use mathlib.Core.List.{List, [], _∷_, _++_}
 use mathlib.Core.Bool.{Bool}
 use lib.ListN.{length, length-append}
-use Rattle.question.specs.Token.{Tok, openT, closeT, tokens}
+use Rattle.question.specs.Token.{Tok, tokens}
 use Rattle.question.specs.Grammar.{Tree, Rule, fromLeft, good, question}
 use Rattle.question.specs.Meaning.{Same, Respects}
 use Rattle.question.specs.Reading.{asks, asked}
-use Rattle.question.specs.Limits.{deepest, openAfter, WithinLimits}
+use Rattle.question.specs.Limits.{deepest, WithinLimits}
 use Rattle.question.specs.Walk.{operatorNext, reached, walk, fresh}
 use Rattle.question.specs.Stops.{Faultless}
-use Rattle.question.specs.Exchange.{around, NeverBelow, Matched, AcceptedBy, AcceptedToo, Exchangeable, Exchanged}
+use Rattle.question.specs.Exchange.{around, Matched, AcceptedBy, AcceptedToo, Exchangeable, Exchanged}
 use Rattle.question.proofs.Lockstep as lock
 use Rattle.question.proofs.LimitLaws.{count, walk-kept, accepts-walk}
 use Rattle.question.proofs.PartLaws.{bracketed, Taken, inside-walk, exchange-walk, walk-bare, bare-walk, bare-count, bare-deepest, bare-open, bare-below}

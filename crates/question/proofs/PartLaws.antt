@@ -1,15 +1,14 @@
 -- Laws of a part in brackets: a part that is walked in one place is walked in every other where it passes no limit.
-use Prim.Native.Nat.{ℕ, zero, suc, _+_, _-_, _≤_, _<_}
+use Prim.Native.Nat.{ℕ, _+_, _-_, _≤_, _<_}
 use native.Mathlib.Omega.{arith}
 use mathlib.Core.Path.{_≡_, refl, sym, ap, ap₂, _∙_, subst}
 use mathlib.Core.List.{List, [], _∷_, _++_}
 use mathlib.Core.Bool.{Bool, true, false}
-use lib.ListN.{length}
 use lib.Dec.{ltb, eqb}
 use borrow.Author.Tests.{ltb-true, lt-ltb, ne-eqb}
 use Rattle.question.specs.Token.{choose, Tok, wordT, opT, openT, closeT, otherT}
 use Rattle.question.specs.Limits.{wordsIn, deepest, openAfter}
-use Rattle.question.specs.Walk.{Stand, operandNext, operatorNext, Pass, goes, refused, pass, Walked, reached, stopped, walk, fresh}
+use Rattle.question.specs.Walk.{Stand, operandNext, operatorNext, goes, refused, pass, reached, walk, fresh}
 use Rattle.question.specs.Exchange.{NeverBelow}
 use Rattle.question.proofs.Apart.{zero-one}
 use Rattle.question.proofs.LimitLaws.{count, through, walk-none, walk-pass, walk-apart, walk-append, walk-kept}

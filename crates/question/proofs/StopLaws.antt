@@ -5,19 +5,18 @@
 --   word-limit-read     it is refused by 10 exactly where a word stands behind 16 words, where an operand must stand;
 --   bracket-limit-read  and by 11 exactly where a bracket opens behind 8 that are open, where an operand must stand.
 -- What the whole call answers then is in AskedLaws (`grammar-asked`, `word-limit-asked`, `bracket-limit-asked`).
-use Prim.Native.Nat.{ℕ, _+_, _-_, _≤_, _<_}
+use Prim.Native.Nat.{ℕ, _+_, _-_, _≤_}
 use native.Mathlib.Omega.{arith}
 use mathlib.Core.Path.{_≡_, refl, sym, ap, _∙_}
 use mathlib.Core.List.{List, [], _∷_, _++_}
 use mathlib.Core.Bool.{Bool, true, false}
 use mathlib.Core.Logic.{_⊎_, inl, inr}
-use lib.ListN.{length}
 use lib.Dec.{ltb, eqb}
 use borrow.Author.Tests.{ltb-false, le-ltb}
 use Rattle.question.specs.Token.{choose, Tok, wordT, opT, openT, closeT, otherT, tokens}
 use Rattle.question.specs.Grammar.{Tree, Rule, Out, good, bad, whole}
 use Rattle.question.specs.Walk.{Stand, operandNext, operatorNext, Pass, goes, refused, pass, Walked, reached, stopped, onward, walk, toEnd, walkAll, fresh, verdict}
-use Rattle.question.specs.Stops.{StopNumber, Misplaced, WordTooMany, BracketTooMany, Exactly}
+use Rattle.question.specs.Stops.{StopNumber, WordTooMany, BracketTooMany, Exactly}
 use Rattle.question.proofs.Apart.{zero-one}
 use Rattle.question.proofs.WalkLaws.{whole-walked}
 use Rattle.question.proofs.LimitLaws.{walk-pass, walk-append, walk-kept}

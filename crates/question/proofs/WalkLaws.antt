@@ -11,7 +11,7 @@ use Rattle.word.specs.Word.{isWordByte}
 use Rattle.question.specs.declared.token.Op.{Op}
 use Rattle.question.specs.Token.{choose, Tok, wordT, opT, openT, closeT, otherT, flush, mark, gather, tokensAt, tokens}
 use Rattle.question.specs.Grammar.{Tree, word, Link, link, Rule, Out, good, bad, bind, closed, question, operand, links, ended, whole}
-use Rattle.question.specs.Walk.{Stand, operandNext, operatorNext, Walked, reached, stopped, walk, walkAll, fresh, verdict}
+use Rattle.question.specs.Walk.{Stand, operandNext, operatorNext, stopped, walk, walkAll, fresh, verdict}
 
 -- ---- a question has no more tokens than bytes
 

@@ -1,4 +1,4 @@
--- When a question is refused by 9, 10 or 11, said by the walk (proved of the reading and of the call in proofs/StopLaws.antt).
+-- When a question is refused by 9, 10 or 11, said by the walk (proved of the reading in proofs/StopLaws.antt, and of the call in AskedLaws.antt).
 use Prim.Native.Nat.{ℕ, _≤_}
 use mathlib.Core.Path.{_≡_}
 use mathlib.Core.List.{List, _∷_, _++_}
@@ -15,7 +15,7 @@ use Rattle.question.specs.Walk.{operandNext, reached, stopped, walk, wal
 abbrev pub StopNumber : ℕ → Type 0
 StopNumber c = (c ≡ 9) ⊎ ((c ≡ 10) ⊎ (c ≡ 11))
 
--- 9: the walk over ts stops for want of what must stand next; r is the tokens from there on
+-- 9: the walk over ts stops because something else stands, or nothing, where an operand or an operator must; r is the tokens from there on
 abbrev pub Misplaced : List Tok → List Tok → Type 0
 Misplaced ts r = walkAll fresh ts ≡ stopped 9 r
 
