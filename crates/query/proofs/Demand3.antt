@@ -6,12 +6,12 @@
 -- Let `before ( a ) behind` be accepted over a sound index, a and b be accepted by themselves and satisfied by the same records, and `before ( b ) behind` be
 -- within the limits of bytes, words and brackets. Then for two calls with equal room
 --   exchange-answers  the second question is accepted too, both calls answer the same, the list or refusal 12 with its value, and the cells that they write
---                     are equal; no other cell is changed.
---   exchange-pair     So it is where of a no more is known than that the brackets around it are a pair, since then a is accepted by itself.
---   exchanging-itself And the premises hold of every pair of brackets in every accepted question.
--- And no list of intervals, ordered or not, that names the records of an answer has fewer intervals:
+--                     are equal; no other cell is changed;
+--   exchange-pair     the same, where of a no more is known than that the brackets around it are a pair, since then a is accepted by itself;
+--   exchanging-itself the premises hold of every pair of brackets in every accepted question over a sound index, with a for b.
+-- These three stand for the published rule as well, with `-from-left`. And no list of intervals, ordered or not, that names the records of an answer has fewer intervals:
 --   fewest-intervals.
--- What stood in the lent cells before may differ between the calls (`out`, `other`). The published rule has each of these with `-from-left`.
+-- What stood in the lent cells before may differ between the calls (`out`, `other`).
 use Prim.Native.Nat.{ℕ, _*_, _/_, _≤_}
 use native.Mathlib.Omega.{arith}
 use mathlib.Core.Path.{_≡_, refl, sym, ap, _∙_}
@@ -103,7 +103,7 @@ module _ (cells : List ℕ) (even : 2 * intervals cells ≡ length cells) (out o
       rw e (taken, g ∙ ap (λ (c : List ℕ). c ++ drop (length c) out) (sym taken), tt)
   call-step false e g = rw e (refl, g, refl)
 
-  pub call-writes : (room : ℕ) → r ≡ listAnswer cells room → out′ ≡ listCells cells room out →
+  call-writes : (room : ℕ) → r ≡ listAnswer cells room → out′ ≡ listCells cells room out →
       (writtenBy r out′ ≡ cond (leb (intervals cells) room) cells []) × OnlyWritten r out out′ × ListOrRoom r
   call-writes room e g = call-step (leb (intervals cells) room) e g
 
@@ -152,7 +152,7 @@ module _ (rule : Rule) (respects : Respects rule) (index before a b behind : Lis
       }
 
   -- a pair of brackets has a question inside
-  pub pair-exchanging : ExchangingPair rule index before a b behind → Exchanging rule index before a b behind
+  pair-exchanging : ExchangingPair rule index before a b behind → Exchanging rule index before a b behind
   pair-exchanging e =
       let by = inside-accepted rule before a behind (e .tree) (e .words) (e .accepted) (e .matched) in
       record {
