@@ -1,21 +1,24 @@
 -- DEMAND 3.
 --
 -- Let two questions be answered over one sound index, by one rule of grouping or by two. Then
---   same-cells      where every record from 1 to N satisfies both or neither, both write the same cells, and report the same;
---   same-records    where both write the same cells, every record from 1 to N satisfies both or neither.
--- Let a and b be questions that are accepted by themselves and that the same records satisfy. Then for any bytes before and behind,
---   exchange-cells  where `before ( a ) behind` and `before ( b ) behind` are both answered, both write the same cells, and report the same;
---   exchange-answer with equal room, and both accepted, both calls answer the same: the list, or refusal 12 with the same value.
--- And no list of intervals, ordered or not, that names the records of an answer has fewer intervals:
+--   same-cells        where every record from 1 to N satisfies both or neither, both write the same cells, and report the same;
+--   same-records      where both write the same cells, every record from 1 to N satisfies both or neither.
+-- Let `before ( a ) behind` be accepted over a sound index, a and b be accepted by themselves and satisfied by the same records, and `before ( b ) behind` be
+-- within the limits of bytes, words and brackets. Then for two calls with equal room
+--   exchange-answers  the second question is accepted too, both calls answer the same, the list or refusal 12 with its value, and the cells that they write
+--                     are equal; no other cell is changed;
+--   exchange-pair     the same, where of a no more is known than that the brackets around it are a pair, since then a is accepted by itself;
+--   exchanging-itself the premises hold of every pair of brackets in every accepted question over a sound index, with a for b.
+-- These three stand for the published rule as well, with `-from-left`. And no list of intervals, ordered or not, that names the records of an answer has fewer intervals:
 --   fewest-intervals.
 -- What stood in the lent cells before may differ between the calls (`out`, `other`).
-use mathlib.Core.Path.{_≡_, sym, ap, _∙_}
 use Prim.Native.Nat.{ℕ, _*_, _/_, _≤_}
 use native.Mathlib.Omega.{arith}
+use mathlib.Core.Path.{_≡_, refl, sym, ap, _∙_}
 use mathlib.Core.Bool.{Bool, true, false, cond}
-use mathlib.Core.List.{List, _++_}
+use mathlib.Core.List.{List, [], _++_}
 use lib.Dec.{leb}
-use lib.ListN.{length, drop}
+use lib.ListN.{length, take, drop}
 use lib.Seq.{take-at}
 use Rattle.refusal.specs.declared.Refusal.the-variants.{Room}
 use Rattle.list.specs.declared.answer.Tally.{Tally}
@@ -29,13 +32,17 @@ use Rattle.index.specs.Format.{highest}
 use Rattle.index.specs.Has.{has}
 use Rattle.index.specs.Check.{checkOf}
 use Rattle.index.proofs.CheckLaws.{good-sound}
-use Rattle.question.specs.Grammar.{Tree, Rule}
+use Rattle.question.specs.Token.{tokens}
+use Rattle.question.specs.Grammar.{Tree, Rule, fromLeft}
 use Rattle.question.specs.Meaning.{fits, Respects}
 use Rattle.question.specs.Reading.{asks, asked}
-use Rattle.question.specs.Exchange.{around}
-use Rattle.question.proofs.Exchange.{exchange-fits}
+use Rattle.question.specs.Limits.{wordsIn}
+use Rattle.question.specs.Exchange.{around, Matched, Exchangeable, AcceptedToo}
+use Rattle.question.proofs.RuleLaws.{from-left-respects}
+use Rattle.question.proofs.AskedLaws.{accepted-within}
+use Rattle.question.proofs.Exchange.{exchange, inside-accepted}
 use Rattle.query.specs.Ask.{satisfying, Asks}
-use Rattle.query.specs.Demand3.{written, Answered, SameRecords}
+use Rattle.query.specs.Demand3.{written, Answered, SameRecords, Exchanging, ExchangingPair, writtenBy, OnlyWritten, ListOrRoom, SameAnswers}
 use Rattle.query.proofs.SatisfyLaws.{same-everywhere, satisfying-even, satisfying-same, same-satisfying}
 
 -- ---- what an answered question writes: the one proper list of its records
@@ -86,29 +93,125 @@ module _ (rule rule′ : Rule) (index first second : List ℕ) (t u : Tree) (out
   same-records e =
       same-satisfying index t u (sym (answered-cells rule index first t out out′ tally a) ∙ e ∙ answered-cells rule′ index second u other other′ tally′ b)
 
+-- ---- what any call writes, once nothing but room can refuse it
+
+module _ (cells : List ℕ) (even : 2 * intervals cells ≡ length cells) (out out′ : List ℕ) (r : Answer) where
+  call-step : (f : Bool) → r ≡ cond f (Listed (tallyOf cells)) (Refused (Room (intervals cells))) → out′ ≡ cond f (cells ++ drop (length cells) out) out →
+      (writtenBy r out′ ≡ cond f cells []) × OnlyWritten r out out′ × ListOrRoom r
+  call-step true e g =
+      let taken : written (tallyOf cells) out′ ≡ cells = ap (λ (o : List ℕ). take (2 * intervals cells) o) g ∙ take-at cells (drop (length cells) out) (2 * intervals cells) (sym even) in
+      rw e (taken, g ∙ ap (λ (c : List ℕ). c ++ drop (length c) out) (sym taken), tt)
+  call-step false e g = rw e (refl, g, refl)
+
+  call-writes : (room : ℕ) → r ≡ listAnswer cells room → out′ ≡ listCells cells room out →
+      (writtenBy r out′ ≡ cond (leb (intervals cells) room) cells []) × OnlyWritten r out out′ × ListOrRoom r
+  call-writes room e g = call-step (leb (intervals cells) room) e g
+
 -- ---- a part in brackets exchanged for another, all by one rule
 
-module _ (rule : Rule) (respects : Respects rule) (index before a b behind : List ℕ)
-    (sound : checkOf index ≡ Good)
-    (ta tb : Tree) (na nb : ℕ) (a-accepted : asked rule a ≡ asks ta na) (b-accepted : asked rule b ≡ asks tb nb)
-    (a-b : SameRecords index ta tb) where
-  exchange-records : (t u : Tree) (n m : ℕ) → asked rule (around before a behind) ≡ asks t n → asked rule (around before b behind) ≡ asks u m → SameRecords index t u
-  exchange-records t u n m e f x h g =
-      exchange-fits rule respects (has index) before a b behind ta tb na nb a-accepted b-accepted
-      (same-everywhere index (good-sound index sound) ta tb a-b) t n e u m f x
+module _ (rule : Rule) (respects : Respects rule) (index before a b behind : List ℕ) where
+  -- the second question is accepted, and the same records satisfy it
+  changed : (e : Exchanging rule index before a b behind) → AcceptedToo rule (has index) (around before b behind) (e .tree)
+  changed e =
+      let parts : Exchangeable rule (has index) a b =
+      record {
+        tree-a = e .tree-a;
+        tree-b = e .tree-b;
+        words-a = e .words-a;
+        words-b = e .words-b;
+        a-accepted = e .a-accepted;
+        b-accepted = e .b-accepted;
+        same = same-everywhere index (good-sound index (e .sound)) (e .tree-a) (e .tree-b) (e .same);
+      } in
+      exchange rule respects (has index) a b parts before behind (e .tree) (e .words) (e .accepted) .accepted (e .within)
 
-  pub exchange-cells : (t u : Tree) (out out′ other other′ : List ℕ) (tally tally′ : Tally) →
-      Answered rule index (around before a behind) t out out′ tally → Answered rule index (around before b behind) u other other′ tally′ →
-      (written tally out′ ≡ written tally′ other′) × (tally ≡ tally′)
-  exchange-cells t u out out′ other other′ tally tally′ p q =
-      same-cells rule rule index (around before a behind) (around before b behind) t u out out′ other other′ tally tally′ p q
-      (exchange-records t u (p .words) (q .words) (p .accepted) (q .accepted))
-
-  pub exchange-answer : (t u : Tree) (n m : ℕ) → asked rule (around before a behind) ≡ asks t n → asked rule (around before b behind) ≡ asks u m →
+  pub exchange-answers : Exchanging rule index before a b behind →
       (out out′ other other′ : List ℕ) (r r′ : Answer) → length out / 2 ≡ length other / 2 →
-      Asks rule index (around before a behind) out out′ r → Asks rule index (around before b behind) other other′ r′ → r ≡ r′
-  exchange-answer t u n m e f out out′ other other′ r r′ l p q =
-      let c : satisfying index t ≡ satisfying index u = satisfying-same index t u (exchange-records t u n m e f) in
-      let v : r ≡ listAnswer (satisfying index t) (length out / 2) = rw (sound, e) at (p .answer) in
-      let w : r′ ≡ listAnswer (satisfying index u) (length other / 2) = rw (sound, f) at (q .answer) in
-      v ∙ (rw (c, l)) ∙ sym w
+      Asks rule index (around before a behind) out out′ r → Asks rule index (around before b behind) other other′ r′ →
+      SameAnswers rule (around before b behind) out out′ other other′ r r′
+  exchange-answers e out out′ other other′ r r′ room one-call other-call =
+      let too = changed e in
+      let one = e .tree in
+      let two = too .tree in
+      let same : satisfying index one ≡ satisfying index two = satisfying-same index one two (λ x h g. too .fits-same x) in
+      let first-says : r ≡ listAnswer (satisfying index one) (length out / 2) = rw (e .sound, e .accepted) at (one-call .answer) in
+      let first-leaves : out′ ≡ listCells (satisfying index one) (length out / 2) out = rw (e .sound, e .accepted) at (one-call .cells) in
+      let second-says : r′ ≡ listAnswer (satisfying index two) (length other / 2) = rw (e .sound, too .accepted) at (other-call .answer) in
+      let second-leaves : other′ ≡ listCells (satisfying index two) (length other / 2) other = rw (e .sound, too .accepted) at (other-call .cells) in
+      let first = call-writes (satisfying index one) (satisfying-even index one) out out′ r (length out / 2) first-says first-leaves in
+      let second = call-writes (satisfying index two) (satisfying-even index two) other other′ r′ (length other / 2) second-says second-leaves in
+      record {
+        tree = two;
+        words = too .count;
+        accepted = too .accepted;
+        list-or-room = first .2;
+        answers = first-says ∙ (rw (same, room)) ∙ sym second-says;
+        cells = first .0 ∙ (rw (same, room)) ∙ sym (second .0);
+        first-only = first .1;
+        second-only = second .1;
+      }
+
+  -- a pair of brackets has a question inside
+  pair-exchanging : ExchangingPair rule index before a b behind → Exchanging rule index before a b behind
+  pair-exchanging e =
+      let by = inside-accepted rule before a behind (e .tree) (e .words) (e .accepted) (e .matched) in
+      record {
+        sound = e .sound;
+        tree = e .tree;
+        words = e .words;
+        accepted = e .accepted;
+        tree-a = by .tree;
+        words-a = length (wordsIn (tokens a));
+        a-accepted = by .accepted;
+        tree-b = e .tree-b;
+        words-b = e .words-b;
+        b-accepted = e .b-accepted;
+        same = e .same (by .tree) (length (wordsIn (tokens a))) (by .accepted);
+        within = e .within;
+      }
+
+  pub exchange-pair : ExchangingPair rule index before a b behind →
+      (out out′ other other′ : List ℕ) (r r′ : Answer) → length out / 2 ≡ length other / 2 →
+      Asks rule index (around before a behind) out out′ r → Asks rule index (around before b behind) other other′ r′ →
+      SameAnswers rule (around before b behind) out out′ other other′ r r′
+  exchange-pair e = exchange-answers (pair-exchanging e)
+
+asks-once : (rule : Rule) (s : List ℕ) (t u : Tree) (n m : ℕ) → asked rule s ≡ asks t n → asked rule s ≡ asks u m → t ≡ u
+asks-once rule s t u n m e f = cc
+
+-- no premise is empty: any pair of brackets in an accepted question may be exchanged, for itself if for nothing else
+pub exchanging-itself : (rule : Rule) (index before a behind : List ℕ) → checkOf index ≡ Good → (t : Tree) (n : ℕ) → asked rule (around before a behind) ≡ asks t n → Matched a →
+    ExchangingPair rule index before a a behind
+exchanging-itself rule index before a behind sound t n accepted matched =
+    let by = inside-accepted rule before a behind t n accepted matched in
+    record {
+      sound = sound;
+      tree = t;
+      words = n;
+      accepted = accepted;
+      matched = matched;
+      tree-b = by .tree;
+      words-b = length (wordsIn (tokens a));
+      b-accepted = by .accepted;
+      same = λ u m e x h g. ap (λ (y : Tree). fits (has index) y x) (asks-once rule a u (by .tree) m (length (wordsIn (tokens a))) e (by .accepted));
+      within = accepted-within rule (around before a behind) t n accepted;
+    }
+
+-- ---- by the published rule
+
+module _ (index before a b behind : List ℕ) where
+  pub exchange-answers-from-left : Exchanging fromLeft index before a b behind →
+      (out out′ other other′ : List ℕ) (r r′ : Answer) → length out / 2 ≡ length other / 2 →
+      Asks fromLeft index (around before a behind) out out′ r → Asks fromLeft index (around before b behind) other other′ r′ →
+      SameAnswers fromLeft (around before b behind) out out′ other other′ r r′
+  exchange-answers-from-left = exchange-answers fromLeft from-left-respects index before a b behind
+
+  pub exchange-pair-from-left : ExchangingPair fromLeft index before a b behind →
+      (out out′ other other′ : List ℕ) (r r′ : Answer) → length out / 2 ≡ length other / 2 →
+      Asks fromLeft index (around before a behind) out out′ r → Asks fromLeft index (around before b behind) other other′ r′ →
+      SameAnswers fromLeft (around before b behind) out out′ other other′ r r′
+  exchange-pair-from-left = exchange-pair fromLeft from-left-respects index before a b behind
+
+pub exchanging-itself-from-left : (index before a behind : List ℕ) → checkOf index ≡ Good → (t : Tree) (n : ℕ) → asked fromLeft (around before a behind) ≡ asks t n → Matched a →
+    ExchangingPair fromLeft index before a a behind
+exchanging-itself-from-left = exchanging-itself fromLeft

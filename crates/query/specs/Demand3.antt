@@ -1,10 +1,12 @@
--- What demand 3 compares: the cells that two answered questions write over one sound index.
+-- What demand 3 compares: the cells that two questions write over one sound index, and the exchange of a part in brackets.
 use Prim.Native.Nat.{ℕ, _*_, _≤_}
 use mathlib.Core.Path.{_≡_}
-use mathlib.Core.List.{List}
-use lib.ListN.{take}
+use mathlib.Core.List.{List, [], _++_}
+use lib.ListN.{length, take, drop}
+use Rattle.refusal.specs.Refusal.{numberOf}
 use Rattle.list.specs.declared.answer.Tally.{Tally}
-use Rattle.list.specs.declared.answer.Answer.the-variants.{Listed}
+use Rattle.list.specs.declared.answer.Answer.{Answer}
+use Rattle.list.specs.declared.answer.Answer.the-variants.{Listed, Refused}
 use Rattle.index.specs.declared.Checked.the-variants.{Good}
 use Rattle.index.specs.Format.{highest}
 use Rattle.index.specs.Has.{has}
@@ -12,6 +14,8 @@ use Rattle.index.specs.Check.{checkOf}
 use Rattle.question.specs.Grammar.{Tree, Rule}
 use Rattle.question.specs.Meaning.{fits}
 use Rattle.question.specs.Reading.{asks, asked}
+use Rattle.question.specs.Limits.{WithinLimits}
+use Rattle.question.specs.Exchange.{around, Matched}
 use Rattle.query.specs.Ask.{Asks}
 
 -- "The cells an answer writes are two for each interval it reports, from cell 0, whatever stood there before; demand 3 compares these."
@@ -29,3 +33,59 @@ pub record Answered (rule : Rule) (index question : List ℕ) (t : Tree) (out ou
 -- every record from 1 to N satisfies both questions or neither
 abbrev pub SameRecords : List ℕ → Tree → Tree → Type 0
 SameRecords index t u = (x : ℕ) → 1 ≤ x → x ≤ highest index → fits (has index) t x ≡ fits (has index) u x
+
+-- ---- the exchange of a part in brackets
+
+-- The question `before ( a ) behind` is accepted over a sound index; a and b are accepted by themselves, and the same records satisfy them;
+-- `before ( b ) behind` is within the limits.
+pub record Exchanging (rule : Rule) (index before a b behind : List ℕ) : Type 0 where
+  pub sound : checkOf index ≡ Good
+  pub tree : Tree
+  pub words : ℕ
+  pub accepted : asked rule (around before a behind) ≡ asks tree words
+  pub tree-a : Tree
+  pub words-a : ℕ
+  pub a-accepted : asked rule a ≡ asks tree-a words-a
+  pub tree-b : Tree
+  pub words-b : ℕ
+  pub b-accepted : asked rule b ≡ asks tree-b words-b
+  pub same : SameRecords index tree-a tree-b
+  pub within : WithinLimits (around before b behind)
+
+-- the same, where of a no more is asked than that the brackets around it are a pair
+pub record ExchangingPair (rule : Rule) (index before a b behind : List ℕ) : Type 0 where
+  pub sound : checkOf index ≡ Good
+  pub tree : Tree
+  pub words : ℕ
+  pub accepted : asked rule (around before a behind) ≡ asks tree words
+  pub matched : Matched a
+  pub tree-b : Tree
+  pub words-b : ℕ
+  pub b-accepted : asked rule b ≡ asks tree-b words-b
+  pub same : (t : Tree) (n : ℕ) → asked rule a ≡ asks t n → SameRecords index t tree-b
+  pub within : WithinLimits (around before b behind)
+
+-- the cells that a call writes: none, where it refuses
+abbrev pub writtenBy : Answer → List ℕ → List ℕ
+writtenBy (Listed tally) out = written tally out
+writtenBy (Refused x) out = []
+
+-- they stand in front, and what is behind them is as it was
+abbrev pub OnlyWritten : Answer → List ℕ → List ℕ → Type 0
+OnlyWritten r out out′ = out′ ≡ writtenBy r out′ ++ drop (length (writtenBy r out′)) out
+
+-- a list, or 12
+abbrev pub ListOrRoom : Answer → Type 0
+ListOrRoom (Listed tally) = Unit {0}
+ListOrRoom (Refused x) = numberOf x ≡ 12
+
+-- the second question is accepted too, both calls answer the same, and they write the same cells and no others
+pub record SameAnswers (rule : Rule) (second out out′ other other′ : List ℕ) (r r′ : Answer) : Type 0 where
+  pub tree : Tree
+  pub words : ℕ
+  pub accepted : asked rule second ≡ asks tree words
+  pub list-or-room : ListOrRoom r
+  pub answers : r ≡ r′
+  pub cells : writtenBy r out′ ≡ writtenBy r′ other′
+  pub first-only : OnlyWritten r out out′
+  pub second-only : OnlyWritten r′ other other′

@@ -1,29 +1,68 @@
--- Laws of the whole call: what an accepted question is, and back.
-use Prim.Native.Nat.{ℕ, _+_, _*_, _≤_}
+-- THE WHOLE CALL, for every rule.
+--
+--   asked-accepts, accepts-asked  what an accepted question is, and back;
+--   accepted-within               an accepted question is within the limits;
+--   grammar-asked, word-limit-asked, bracket-limit-asked
+--                                 the call refuses by 9, 10 or 11, with the place, exactly where 6, 7 and 8 do not hold and the walk stops so;
+--   answer-any-rule               no rule of grouping changes what is accepted, with how many words, or refused.
+use Prim.Native.Nat.{ℕ, _+_, _*_, _≤_, _<_}
 use native.Mathlib.Omega.{arith}
-use mathlib.Core.Path.{_≡_, refl, _∙_}
+use mathlib.Core.Path.{_≡_, refl, sym, ap, _∙_}
 use mathlib.Core.List.{List, [], _∷_}
 use mathlib.Core.Bool.{Bool, true, false}
+use mathlib.Core.Logic.{inl, inr}
 use lib.ListN.{length}
 use lib.Dec.{ltb}
 use borrow.Author.Tests.{ltb-false, le-ltb}
 use Rattle.refusal.specs.First.{first}
+use Rattle.refusal.specs.Refusal.{numberOf, valueOf}
 use Rattle.refusal.specs.declared.Found.{Found}
 use Rattle.refusal.specs.declared.Found.the-variants.{At, Nowhere}
 use Rattle.refusal.specs.declared.Refusal.{Refusal}
-use Rattle.refusal.specs.declared.Refusal.the-variants.{QuestionLength, QuestionByte, LongWord}
+use Rattle.refusal.specs.declared.Refusal.the-variants.{QuestionLength, QuestionByte, LongWord, Grammar, WordLimit, BracketLimit}
+use Rattle.question.specs.declared.reader.Reading.{Reading}
 use Rattle.question.specs.declared.reader.Reading.the-variants.{Accepted, Refused}
-use Rattle.question.specs.Token.{choose, tokensAt, tokens}
+use Rattle.question.specs.Token.{choose, Tok, tokensAt, tokens}
 use Rattle.question.specs.Grammar.{Tree, Rule, fromLeft, Out, good, bad, bind, question, ended, whole}
-use Rattle.question.specs.Reading.{Asked, asks, refuses, foreignAt, longAt, outcome, unless, asked, answer, readingOf}
+use Rattle.question.specs.Limits.{WithinLimits}
+use Rattle.question.specs.Reading.{Asked, asks, refuses, foreignAt, longAt, placeOf, refusalOf, outcome, unless, asked, answer, readingOf}
+use Rattle.question.specs.Walk.{operatorNext, Walked, reached, stopped, walk, walkAll, fresh, verdict}
+use Rattle.question.specs.Stops.{StopNumber, Misplaced, WordTooMany, BracketTooMany, Faultless, StopsAt, Exactly}
+use Rattle.question.specs.Exchange.{AcceptedBy}
 use Rattle.question.proofs.Apart.{zero-one}
-use Rattle.question.proofs.RuleLaws.{answer-any-rule}
+use Rattle.question.proofs.WalkLaws.{whole-walked}
+use Rattle.question.proofs.LimitLaws.{walk-kept, walk-accepts}
+use Rattle.question.proofs.StopLaws.{ends-number, walk-ends, whole-stops, word-limit-walk, bracket-limit-walk}
+
+-- ---- the refusals in their order
+
+-- one of 6, 7 and 8 holds; or none of them, and the answer is the reading's
+data Call (s : List ℕ) (o a : Asked) : Type 0 where
+  early : (x : Refusal) → numberOf x < 9 → a ≡ refuses x → Call s o a
+  late : Faultless s → a ≡ o → Call s o a
+
+module _ (s : List ℕ) (o : Asked) where
+  call-step : (b : Bool) (f g : Found) → ltb 256 (length s) ≡ b → first (foreignAt s) (length s) ≡ f → first (longAt s) (length s) ≡ g →
+      Call s o (choose b (λ _. refuses (QuestionLength (length s))) (λ _. unless f QuestionByte (λ _. unless g LongWord (λ _. o))))
+  call-step true f g eb ef eg = early (QuestionLength (length s)) (omega arith) refl
+  call-step false (At i) g eb ef eg = early (QuestionByte i) (omega arith) refl
+  call-step false Nowhere (At i) eb ef eg = early (LongWord i) (omega arith) refl
+  call-step false Nowhere Nowhere eb ef eg = late (record { bytes = ltb-false 256 (length s) eb; proper = ef; short = eg }) refl
+
+module _ (rule : Rule) (s : List ℕ) where
+  call : Call s (outcome (length s) (whole rule s)) (asked rule s)
+  unfolding asked
+  call = call-step s (outcome (length s) (whole rule s)) (ltb 256 (length s)) (first (foreignAt s) (length s)) (first (longAt s) (length s)) refl refl refl
+
+  faultless-asked : Faultless s → asked rule s ≡ outcome (length s) (whole rule s)
+  unfolding asked
+  faultless-asked f = rw (le-ltb 256 (length s) (f .bytes), f .proper, f .short)
+
+-- ---- accepted
 
 -- the question is accepted, with tree t and n words
 pub record Accepts (rule : Rule) (s : List ℕ) (t : Tree) (n : ℕ) : Type 0 where
-  pub short : length s ≤ 256
-  pub proper : first (foreignAt s) (length s) ≡ Nowhere
-  pub words : first (longAt s) (length s) ≡ Nowhere
+  pub faultless : Faultless s
   pub reads : question rule (2 * length s + 2) 8 0 (tokens s) ≡ good t [] n
 
 outcome-good : (o : Out Tree) (len : ℕ) (t : Tree) (n : ℕ) → outcome len (bind o ended) ≡ asks t n → o ≡ good t [] n
@@ -32,33 +71,128 @@ outcome-good (good a (u ∷ s) j) len t n h = zero-one (cc)
 outcome-good (bad c s) len t n h = zero-one (cc)
 
 module _ (rule : Rule) (s : List ℕ) (t : Tree) (n : ℕ) where
-  accepts-step : (b : Bool) (f g : Found) → ltb 256 (length s) ≡ b → first (foreignAt s) (length s) ≡ f → first (longAt s) (length s) ≡ g →
-      choose b (λ _. refuses (QuestionLength (length s))) (λ _. unless f QuestionByte (λ _. unless g LongWord (λ _. outcome (length s) (bind (question rule (2 * length s + 2) 8 0 (tokens s)) ended)))) ≡ asks t n →
-      Accepts rule s t n
-  accepts-step true f g eb ef eg h = zero-one (cc)
-  accepts-step false (At i) g eb ef eg h = zero-one (cc)
-  accepts-step false Nowhere (At i) eb ef eg h = zero-one (cc)
-  accepts-step false Nowhere Nowhere eb ef eg h =
-      record { short = ltb-false 256 (length s) eb; proper = ef; words = eg; reads = outcome-good (question rule (2 * length s + 2) 8 0 (tokens s)) (length s) t n h }
+  accepts-step : (a : Asked) → a ≡ asks t n → Call s (outcome (length s) (whole rule s)) a → Accepts rule s t n
+  unfolding whole
+  accepts-step a h (early x l e) = zero-one (cc)
+  accepts-step a h (late f e) = record { faultless = f; reads = outcome-good (question rule (2 * length s + 2) 8 0 (tokens s)) (length s) t n (sym e ∙ h) }
 
   pub asked-accepts : asked rule s ≡ asks t n → Accepts rule s t n
-  unfolding asked whole
-  asked-accepts h = accepts-step (ltb 256 (length s)) (first (foreignAt s) (length s)) (first (longAt s) (length s)) refl refl refl h
+  asked-accepts h = accepts-step (asked rule s) h (call rule s)
 
   pub accepts-asked : Accepts rule s t n → asked rule s ≡ asks t n
-  unfolding asked whole
-  accepts-asked a = rw (le-ltb 256 (length s) (a .short), a .proper, a .words, a .reads)
+  unfolding whole
+  accepts-asked a = faultless-asked rule s (a .faultless) ∙ rw (a .reads)
 
   -- the level that whoever walks the question starts from
   pub accepts-level : asked rule s ≡ asks t n → question rule (2 * length s + 2) 8 0 (tokensAt s 0) ≡ good t [] n
   unfolding tokens
   accepts-level h = asked-accepts h .reads
 
--- ---- from what the call answers
+  -- the walk takes all its words, and closes all its brackets
+  pub accepted-walk : asked rule s ≡ asks t n → walk fresh (tokens s) ≡ reached (operatorNext 0 n)
+  unfolding whole
+  accepted-walk h =
+      let e : whole rule s ≡ good t [] n = rw (asked-accepts h .reads) in walk-accepts (tokens s) n (sym (whole-walked rule s) ∙ ap verdict e)
 
-pub record AcceptedBy (rule : Rule) (s : List ℕ) (n : ℕ) : Type 0 where
-  pub tree : Tree
-  pub accepted : asked rule s ≡ asks tree n
+  pub accepted-within : asked rule s ≡ asks t n → WithinLimits s
+  accepted-within h =
+      let kept = walk-kept fresh (tokens s) (operatorNext 0 n) (accepted-walk h) in
+      record { bytes = asked-accepts h .faultless .bytes; words = omega (arith, kept .words, kept .full (omega arith)); brackets = kept .deep (omega arith) }
+
+-- what the walk takes to the end is accepted
+good-verdict : (rule : Rule) (s : List ℕ) (n : ℕ) → Faultless s → (o : Out Tree) → whole rule s ≡ o → verdict o ≡ reached n → AcceptedBy rule s n
+good-verdict rule s n f (good t r k) e h = let q : k ≡ n = cc in record { tree = t; accepted = faultless-asked rule s f ∙ rw (e, q) }
+good-verdict rule s n f (bad c r) e h = zero-one (cc)
+
+pub walk-accepted : (rule : Rule) (s : List ℕ) (n : ℕ) → Faultless s → walkAll fresh (tokens s) ≡ reached n → AcceptedBy rule s n
+walk-accepted rule s n f h = good-verdict rule s n f (whole rule s) refl (whole-walked rule s ∙ h)
+
+-- ---- refused by 9, 10 or 11
+
+-- 10 and 11 have their refusals, and 9 has what is left
+refusal-number : (c p : ℕ) → StopNumber c → (numberOf (refusalOf c p) ≡ c) × (valueOf (refusalOf c p) ≡ p)
+unfolding refusalOf
+refusal-number c p (inl e) = rw e (refl, refl)
+refusal-number c p (inr (inl e)) = rw e (refl, refl)
+refusal-number c p (inr (inr e)) = rw e (refl, refl)
+
+-- the walk over the tokens stops by the refusal's number, with r left
+abbrev By : Refusal → List Tok → List Tok → Type 0
+By x ts r = walkAll fresh ts ≡ stopped (numberOf x) r
+
+module _ (rule : Rule) (s : List ℕ) (x : Refusal) where
+  outcome-stops : (o : Out Tree) → verdict o ≡ walkAll fresh (tokens s) → Faultless s → outcome (length s) o ≡ refuses x → StopsAt (By x) s (valueOf x)
+  outcome-stops (good t r k) v f h = zero-one (cc)
+  outcome-stops (bad c r) v f h =
+      let e : refusalOf c (placeOf (length s) r) ≡ x = cc in
+      let n = refusal-number c (placeOf (length s) r) (ends-number (tokens s) c r (walk-ends (tokens s) c r (sym v))) in
+      record {
+        faultless = f;
+        left = r;
+        stop = sym v ∙ ap (λ (d : ℕ). stopped d r) (sym (n .0) ∙ ap numberOf e);
+        place = sym (ap valueOf e) ∙ n .1;
+      }
+
+  stops-step : (a : Asked) → a ≡ refuses x → 9 ≤ numberOf x → Call s (outcome (length s) (whole rule s)) a → StopsAt (By x) s (valueOf x)
+  stops-step a h l (early y m e) = let q : y ≡ x = cc in let z = ap numberOf q in absurd (omega arith)
+  stops-step a h l (late f e) = outcome-stops (whole rule s) (whole-walked rule s) f (sym e ∙ h)
+
+  asked-stops : 9 ≤ numberOf x → asked rule s ≡ refuses x → StopsAt (By x) s (valueOf x)
+  asked-stops l h = stops-step (asked rule s) h l (call rule s)
+
+stops-asked : (rule : Rule) (s : List ℕ) (c : ℕ) (r : List Tok) → Faultless s → walkAll fresh (tokens s) ≡ stopped c r → asked rule s ≡ refuses (refusalOf c (placeOf (length s) r))
+stops-asked rule s c r f h = faultless-asked rule s f ∙ ap (outcome (length s)) (whole-stops rule s c r .1 h)
+
+-- refused so exactly where the walk stops so
+exactly-asked : (rule : Rule) (s : List ℕ) (x : Refusal) (Stop : List Tok → List Tok → Type 0) → 9 ≤ numberOf x → refusalOf (numberOf x) (valueOf x) ≡ x →
+    ((r : List Tok) → Exactly (By x (tokens s) r) (Stop (tokens s) r)) → Exactly (asked rule s ≡ refuses x) (StopsAt Stop s (valueOf x))
+exactly-asked rule s x Stop l is exact = (
+  λ h. let w = asked-stops rule s x l h in record { faultless = w .faultless; left = w .left; stop = exact (w .left) .0 (w .stop); place = w .place },
+  λ w.
+      stops-asked rule s (numberOf x) (w .left) (w .faultless) (exact (w .left) .1 (w .stop)) ∙ ap (λ (i : ℕ). refuses (refusalOf (numberOf x) i)) (sym (w .place))
+      ∙ ap refuses is,
+)
+
+module _ (rule : Rule) (s : List ℕ) (p : ℕ) where
+  pub grammar-asked : Exactly (asked rule s ≡ refuses (Grammar p)) (StopsAt Misplaced s p)
+  unfolding refusalOf
+  grammar-asked = exactly-asked rule s (Grammar p) Misplaced (omega arith) refl (λ r. (λ h. h, λ h. h))
+
+  pub word-limit-asked : Exactly (asked rule s ≡ refuses (WordLimit p)) (StopsAt WordTooMany s p)
+  unfolding refusalOf
+  word-limit-asked = exactly-asked rule s (WordLimit p) WordTooMany (omega arith) refl (word-limit-walk (tokens s))
+
+  pub bracket-limit-asked : Exactly (asked rule s ≡ refuses (BracketLimit p)) (StopsAt BracketTooMany s p)
+  unfolding refusalOf
+  bracket-limit-asked = exactly-asked rule s (BracketLimit p) BracketTooMany (omega arith) refl (bracket-limit-walk (tokens s))
+
+-- ---- two rules accept and refuse alike
+
+-- what is answered, by the walk
+abbrev said : ℕ → Walked ℕ → Reading
+said len (reached k) = Accepted k
+said len (stopped c r) = Refused (refusalOf c (placeOf len r))
+
+outcome-said : (len : ℕ) (o : Out Tree) → answer (outcome len o) ≡ said len (verdict o)
+outcome-said len (good t r k) = refl
+outcome-said len (bad c r) = refl
+
+whole-said : (rule : Rule) (s : List ℕ) → answer (outcome (length s) (whole rule s)) ≡ said (length s) (walkAll fresh (tokens s))
+whole-said rule s = outcome-said (length s) (whole rule s) ∙ ap (said (length s)) (whole-walked rule s)
+
+pub answer-any-rule : (rule rule′ : Rule) (s : List ℕ) → answer (asked rule s) ≡ answer (asked rule′ s)
+unfolding asked
+answer-any-rule rule rule′ s = go (ltb 256 (length s)) (first (foreignAt s) (length s)) (first (longAt s) (length s))
+  where
+    go : (b : Bool) (f g : Found) →
+        answer (choose b (λ _. refuses (QuestionLength (length s))) (λ _. unless f QuestionByte (λ _. unless g LongWord (λ _. outcome (length s) (whole rule s))))) ≡
+        answer (choose b (λ _. refuses (QuestionLength (length s))) (λ _. unless f QuestionByte (λ _. unless g LongWord (λ _. outcome (length s) (whole rule′ s)))))
+    go true f g = refl
+    go false (At i) g = refl
+    go false Nowhere (At i) = refl
+    go false Nowhere Nowhere = whole-said rule s ∙ sym (whole-said rule′ s)
+
+-- ---- from what the call answers
 
 accepted-step : (rule : Rule) (s : List ℕ) (n : ℕ) (a : Asked) → asked rule s ≡ a → answer a ≡ Accepted n → AcceptedBy rule s n
 accepted-step rule s n (asks t k) e h = let q : k ≡ n = cc in record { tree = t; accepted = e ∙ rw q }

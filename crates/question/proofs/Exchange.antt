@@ -1,29 +1,80 @@
 -- THE EXCHANGE OF A PART IN BRACKETS.
 --
+-- Let `before ( a ) behind` be accepted. Then
+--   inside-accepted    where the brackets of a match, a is accepted by itself.
 -- Let a and b be questions that are accepted by themselves and that the same records fit. Then for any bytes before and behind,
 --   exchange-fits      where `before ( a ) behind` and `before ( b ) behind` are both accepted, the same records fit both;
 --   exchange-accepted  where the first is accepted, and the second has at most 256 bytes, 16 words and 8 brackets open at once, the second is accepted.
 -- `asked rule s ≡ asks t n` says that s is accepted, with tree t and n words, and `around before a behind` is the bytes `before ( a ) behind`.
 -- It holds at any depth, whatever the index has of each word, and for every rule of grouping under which operands that the same records fit may be
--- exchanged (`Respects`; the rule of document 01, from the left, is one: `from-left-respects` in RuleLaws).
-use Prim.Native.Nat.{ℕ, _+_, _-_, _*_}
+-- exchanged (`Respects`; the published rule, from the left, is one: `from-left-respects` in RuleLaws).
+use Prim.Native.Nat.{ℕ, _+_, _*_, _≤_}
 use native.Mathlib.Omega.{arith}
-use mathlib.Core.Path.{_≡_, refl, ap, _∙_}
+use mathlib.Core.Path.{_≡_, ap, _∙_}
 use mathlib.Core.List.{List, [], _∷_, _++_}
 use mathlib.Core.Bool.{Bool}
-use lib.ListN.{length}
-use Rattle.question.specs.Token.{Tok, openT, closeT, tokens}
-use Rattle.question.specs.Grammar.{Tree, Rule, fromLeft, Out, good, bad, question}
+use lib.ListN.{length, length-append}
+use Rattle.question.specs.Token.{Tok, tokens}
+use Rattle.question.specs.Grammar.{Tree, Rule, fromLeft, good, question}
 use Rattle.question.specs.Meaning.{Same, Respects}
 use Rattle.question.specs.Reading.{asks, asked}
-use Rattle.question.specs.Limits.{WithinLimits}
-use Rattle.question.specs.Exchange.{around, AcceptedToo, Exchangeable, Exchanged}
-use Rattle.question.proofs.Apart.{cons-nil}
+use Rattle.question.specs.Limits.{deepest, WithinLimits}
+use Rattle.question.specs.Walk.{operatorNext, reached, walk, fresh}
+use Rattle.question.specs.Stops.{Faultless}
+use Rattle.question.specs.Exchange.{around, Matched, AcceptedBy, AcceptedToo, Exchangeable, Exchanged}
 use Rattle.question.proofs.Lockstep as lock
-use Rattle.question.proofs.LimitLaws.{B, Why, grammar, words, brackets, bounds-question, tokens-length}
-use Rattle.question.proofs.AskedLaws.{asked-accepts, accepts-asked}
+use Rattle.question.proofs.LimitLaws.{count, walk-kept, accepts-walk}
+use Rattle.question.proofs.PartLaws.{bracketed, Taken, inside-walk, exchange-walk, walk-bare, bare-walk, bare-count, bare-deepest, bare-open, bare-below}
+use Rattle.question.proofs.AskedLaws.{asked-accepts, accepted-walk, accepted-within, walk-accepted}
 use Rattle.question.proofs.RuleLaws.{from-left-respects}
-use Rattle.question.proofs.SplitLaws.{bare, bares, bareOut, bare-question, tokens-around, none-proper, proper-none, proper-around, none-short, short-none, short-around}
+use Rattle.question.proofs.SplitLaws.{bares, bareOut, bare-question, tokens-around, none-proper, proper-none, proper-around, proper-inside, none-short, short-none, short-around, short-inside}
+
+-- an accepted question, by its tokens without their places
+module _ (rule : Rule) (s : List ℕ) (t : Tree) (n : ℕ) (accepted : asked rule s ≡ asks t n) where
+  bares-read : question rule (2 * length s + 2) 8 0 (bares (tokens s)) ≡ good t [] n
+  bares-read = bare-question rule (2 * length s + 2) 8 0 (tokens s) ∙ ap bareOut (asked-accepts rule s t n accepted .reads)
+
+  bares-walked : walk fresh (bares (tokens s)) ≡ reached (operatorNext 0 n)
+  bares-walked = walk-bare fresh (tokens s) (operatorNext 0 n) (accepted-walk rule s t n accepted)
+
+abbrev parts : List ℕ → List ℕ → List ℕ → List Tok
+parts before a behind = bracketed (bares (tokens before)) (bares (tokens a)) (bares (tokens behind))
+
+-- ---- the first question, and its part by itself
+
+module _ (rule : Rule) (before a behind : List ℕ) (t : Tree) (n : ℕ) (accepted : asked rule (around before a behind) ≡ asks t n) where
+  parts-walked : walk fresh (parts before a behind) ≡ reached (operatorNext 0 n)
+  parts-walked = rw (tokens-around before a behind) at (bares-walked rule (around before a behind) t n accepted)
+
+  parts-read : question rule (2 * length (around before a behind) + 2) 8 0 (parts before a behind) ≡ good t [] n
+  parts-read = rw (tokens-around before a behind) at (bares-read rule (around before a behind) t n accepted)
+
+  faultless : Faultless (around before a behind)
+  faultless = asked-accepts rule (around before a behind) t n accepted .faultless
+
+  inside-faultless : Faultless a
+  inside-faultless =
+      let bytes = faultless .bytes in
+      record {
+        bytes = omega (arith, length-append before (40 ∷ (a ++ 41 ∷ behind)), length-append a (41 ∷ behind));
+        proper = proper-none a (proper-inside before a behind (none-proper (around before a behind) (faultless .proper)));
+        short = short-none a (short-inside before a behind (none-short (around before a behind) (faultless .short)));
+      }
+
+  pub inside-accepted : Matched a → AcceptedBy rule a (count (tokens a))
+  inside-accepted m =
+      let w =
+      inside-walk (bares (tokens before)) (bares (tokens a)) (bares (tokens behind)) n parts-walked (bare-below 0 (tokens a) (m .above))
+      (bare-open 0 (tokens a) ∙ m .ends) in
+      walk-accepted rule a (count (tokens a)) inside-faultless
+      (accepts-walk (tokens a) (count (tokens a)) (bare-walk fresh (tokens a) (operatorNext 0 (count (tokens a))) (w ∙ ap (λ (i : ℕ). reached (operatorNext 0 i)) (bare-count (tokens a)))))
+
+-- the brackets of an accepted question match
+pub accepted-matched : (rule : Rule) (a : List ℕ) (t : Tree) (n : ℕ) → asked rule a ≡ asks t n → Matched a
+accepted-matched rule a t n h =
+    let kept = walk-kept fresh (tokens a) (operatorNext 0 n) (accepted-walk rule a t n h) in record { above = kept .above; ends = kept .brackets }
+
+-- ---- the second question
 
 module _ (rule : Rule) (respects : Respects rule) (has : List ℕ → ℕ → Bool)
     (before a b behind : List ℕ)
@@ -33,74 +84,42 @@ module _ (rule : Rule) (respects : Respects rule) (has : List ℕ → ℕ → Bo
   abbrev second : List ℕ
   second = around before b behind
 
-  -- an accepted question, read by its tokens without their places
-  by-bares : (s : List ℕ) (u : Tree) (k : ℕ) → asked rule s ≡ asks u k → question rule (2 * length s + 2) 8 0 (bares (tokens s)) ≡ good u [] k
-  by-bares s u k h = bare-question rule (2 * length s + 2) 8 0 (tokens s) ∙ ap bareOut (asked-accepts rule s u k h .reads)
-
-  abbrev fuel : ℕ
-  fuel = 2 * length second + 2
-
-  abbrev reading : Out Tree
-  reading = question rule fuel 8 0 (tokens second)
-
-  -- the second question, by its tokens without their places
-  bare-reading : question rule fuel 8 0 (bares (tokens before) ++ openT 0 ∷ (bares (tokens b) ++ closeT 0 ∷ bares (tokens behind))) ≡ bareOut reading
-  bare-reading = rw (tokens-around before b behind) at (bare-question rule fuel 8 0 (tokens second))
-
-  first-reading : question rule (2 * length (around before a behind) + 2) 8 0 (bares (tokens before) ++ openT 0 ∷ (bares (tokens a) ++ closeT 0 ∷ bares (tokens behind))) ≡ good t [] n
-  first-reading = rw (tokens-around before a behind) at (by-bares (around before a behind) t n accepted)
-
-  means : (m : ℕ) (u : Tree) (r : List Tok) → bareOut reading ≡ good u r m → Same has t u
-  means m u r h =
-      lock.step-means rule respects has (bares (tokens a)) (bares (tokens b)) (bares (tokens behind)) ta tb a-b (2 * length a + 2) (2 * length b + 2) na nb
-      (by-bares a ta na a-accepted) (by-bares b tb nb b-accepted)
-      (2 * length (around before a behind) + 2) fuel n (bares (tokens before)) t first-reading m u r (bare-reading ∙ h)
-
-  ends : (m : ℕ) (u : Tree) (r : List Tok) → bareOut reading ≡ good u r m → r ≡ []
-  ends m u r h =
-      lock.step-ends rule respects has (bares (tokens a)) (bares (tokens b)) (bares (tokens behind)) ta tb a-b (2 * length a + 2) (2 * length b + 2) na nb
-      (by-bares a ta na a-accepted) (by-bares b tb nb b-accepted)
-      (2 * length (around before a behind) + 2) fuel n (bares (tokens before)) t first-reading m u r (bare-reading ∙ h)
-
-  no-grammar : (c : ℕ) (r : List Tok) → bareOut reading ≡ bad c r → c ≡ 9 → ⊥
-  no-grammar c r h =
-      lock.step-grammar rule respects has (bares (tokens a)) (bares (tokens b)) (bares (tokens behind)) ta tb a-b (2 * length a + 2) (2 * length b + 2) na nb
-      (by-bares a ta na a-accepted) (by-bares b tb nb b-accepted)
-      (2 * length (around before a behind) + 2) fuel n (bares (tokens before)) t first-reading c r (bare-reading ∙ h)
-
   pub exchange-fits : (u : Tree) (m : ℕ) → asked rule (around before b behind) ≡ asks u m → Same has t u
-  exchange-fits u m h = means m u [] (ap bareOut (asked-accepts rule second u m h .reads))
+  exchange-fits u m h =
+      lock.step-means rule respects has (bares (tokens a)) (bares (tokens b)) (bares (tokens behind)) ta tb a-b (2 * length a + 2) (2 * length b + 2) na nb
+      (bares-read rule a ta na a-accepted) (bares-read rule b tb nb b-accepted)
+      (2 * length (around before a behind) + 2) (2 * length second + 2) n m (bares (tokens before)) t u []
+      (parts-read rule before a behind t n accepted) (parts-read rule before b behind u m h)
 
-  not-refused : (c : ℕ) (r : List Tok) → reading ≡ bad c r → WithinLimits second → Why 0 0 (tokens second) c → ⊥
-  not-refused c r e limits (grammar h) = no-grammar c (bares r) (ap bareOut e) h
-  not-refused c r e limits (words h) = let w = limits .words in omega arith
-  not-refused c r e limits (brackets h) = let w = limits .brackets in omega arith
-
-  by-reading : WithinLimits second → (o : Out Tree) → reading ≡ o → B 0 0 (tokens second) o → AcceptedToo rule has second t
-  by-reading limits (good u [] m) e w =
+  second-faultless : WithinLimits second → Faultless second
+  second-faultless limits =
+      let one = faultless rule before a behind t n accepted in
+      let alone = asked-accepts rule b tb nb b-accepted .faultless in
       record {
-        tree = u;
-        count = m;
-        accepted =
-            accepts-asked rule second u m
-            record {
-              short = limits .bytes;
-              proper =
-                  proper-none second
-                  (proper-around before a b behind (none-proper (around before a behind) (asked-accepts rule (around before a behind) t n accepted .proper)) (none-proper b (asked-accepts rule b tb nb b-accepted .proper)));
-              words =
-                  short-none second
-                  (short-around before a b behind (none-short (around before a behind) (asked-accepts rule (around before a behind) t n accepted .words)) (none-short b (asked-accepts rule b tb nb b-accepted .words)));
-              reads = e;
-            };
-        fits-same = means m u [] (ap bareOut e);
+        bytes = limits .bytes;
+        proper = proper-none second (proper-around before a b behind (none-proper (around before a behind) (one .proper)) (none-proper b (alone .proper)));
+        short = short-none second (short-around before a b behind (none-short (around before a behind) (one .short)) (none-short b (alone .short)));
       }
-  by-reading limits (good u (x ∷ r) m) e w = absurd (cons-nil (bare x) (bares r) (ends m u (bares (x ∷ r)) (ap bareOut e)))
-  by-reading limits (bad c r) e w = absurd (not-refused c r e limits w)
+
+  second-taken : WithinLimits second → Taken (parts before b behind)
+  second-taken limits =
+      let m = accepted-matched rule a ta na a-accepted in
+      let deep : deepest 0 (bares (tokens second)) ≤ 8 = omega (arith, bare-deepest 0 (tokens second), limits .brackets) in
+      let words : count (bares (tokens second)) ≤ 16 = omega (arith, bare-count (tokens second), limits .words) in
+      exchange-walk (bares (tokens before)) (bares (tokens a)) (bares (tokens b)) (bares (tokens behind)) n nb (parts-walked rule before a behind t n accepted)
+      (bare-below 0 (tokens a) (m .above)) (bare-open 0 (tokens a) ∙ m .ends) (bares-walked rule b tb nb b-accepted)
+      (rw (tokens-around before b behind) at deep) (rw (tokens-around before b behind) at words)
+
+  second-accepted : WithinLimits second → (w : Taken (parts before b behind)) → AcceptedBy rule second (w .words)
+  second-accepted limits w =
+      let walks : walk fresh (bares (tokens second)) ≡ reached (operatorNext 0 (w .words)) = rw (tokens-around before b behind) (w .walks) in
+      walk-accepted rule second (w .words) (second-faultless limits) (accepts-walk (tokens second) (w .words) (bare-walk fresh (tokens second) (operatorNext 0 (w .words)) walks))
 
   pub exchange-accepted : WithinLimits (around before b behind) → AcceptedToo rule has (around before b behind) t
   exchange-accepted limits =
-      by-reading limits reading refl (bounds-question rule fuel 8 0 0 (tokens second) refl (omega (arith, tokens-length second)))
+      let w = second-taken limits in
+      let by = second-accepted limits w in
+      record { tree = by .tree; count = w .words; accepted = by .accepted; fits-same = exchange-fits (by .tree) (w .words) (by .accepted) }
 
 -- ---- both in one statement
 
@@ -112,7 +131,13 @@ exchange rule respects has a b e before behind t n h =
       accepted = exchange-accepted rule respects has before a b behind (e .tree-a) (e .tree-b) (e .words-a) (e .words-b) (e .a-accepted) (e .b-accepted) (e .same) t n h;
     }
 
--- the rule of document 01
+-- the published rule
 pub exchange-from-left : (has : List ℕ → ℕ → Bool) (a b : List ℕ) → Exchangeable fromLeft has a b →
     (before behind : List ℕ) (t : Tree) (n : ℕ) → asked fromLeft (around before a behind) ≡ asks t n → Exchanged fromLeft has t (around before b behind)
 exchange-from-left = exchange fromLeft from-left-respects
+
+pub inside-accepted-from-left : (before a behind : List ℕ) (t : Tree) (n : ℕ) → asked fromLeft (around before a behind) ≡ asks t n → Matched a → AcceptedBy fromLeft a (count (tokens a))
+inside-accepted-from-left = inside-accepted fromLeft
+
+pub accepted-within-from-left : (s : List ℕ) (t : Tree) (n : ℕ) → asked fromLeft s ≡ asks t n → WithinLimits s
+accepted-within-from-left = accepted-within fromLeft

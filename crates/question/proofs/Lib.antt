@@ -4,7 +4,10 @@ pub mod TokenLaws
 pub mod ReaderLaws
 pub mod FaultLaws
 pub mod Lockstep
+pub mod WalkLaws
 pub mod LimitLaws
+pub mod StopLaws
+pub mod PartLaws
 pub mod AskedLaws
 pub mod SplitLaws
 pub mod RuleLaws

@@ -1,7 +1,6 @@
 -- Two readings in step: a question by itself and the same in brackets; and a question before and after a part in brackets is exchanged.
 -- The places of the tokens play no part, and stand at 0.
 use Prim.Native.Nat.{ℕ, zero, suc, _+_, _-_}
-use native.Mathlib.Omega.{arith}
 use mathlib.Core.Path.{_≡_, refl, sym, ap, _∙_, subst}
 use mathlib.Core.List.{List, [], _∷_, _++_}
 use mathlib.Core.Bool.{Bool, true, false}
@@ -10,16 +9,6 @@ use Rattle.question.specs.declared.token.Op.{Op}
 use Rattle.question.specs.Token.{choose, Tok, wordT, opT, openT, closeT, otherT}
 use Rattle.question.specs.Grammar.{Tree, word, part, Link, link, Rule, Out, good, bad, bind, closed, question, operand, links}
 use Rattle.question.specs.Meaning.{fits, Same, SameLinks, none, more, Respects}
-use Rattle.question.proofs.Apart.{cons-nil}
-
-no-0 : _≡_ {A = ℕ} 0 9 → ⊥
-no-0 e = omega arith
-
-no-10 : _≡_ {A = ℕ} 10 9 → ⊥
-no-10 e = omega arith
-
-no-11 : _≡_ {A = ℕ} 11 9 → ⊥
-no-11 e = omega arith
 
 -- ---- a question by itself, and with a closing bracket and more behind it
 
@@ -27,33 +16,33 @@ module _ (rule : Rule) (post : List Tok) where
   abbrev u : List Tok
   u = closeT 0 ∷ post
 
-  -- where the first is read, the second is too, up to the bracket, or is refused by a limit
+  -- where both are read, they read the same, the second up to the bracket
   abbrev W : {A : Type 0} → Out A → Out A → Type 0
   W (good e r j) (good e′ r′ j′) = (e ≡ e′) × (r ++ u ≡ r′)
-  W (good e r j) (bad c r′) = c ≡ 9 → ⊥
+  W (good e r j) (bad c r′) = Unit {0}
   W (bad c r) o = Unit {0}
 
-  w-bad : {A : Type 0} (o : Out A) (c : ℕ) (r : List Tok) → (c ≡ 9 → ⊥) → W o (bad c r)
-  w-bad (good e s j) c r h = h
-  w-bad (bad d s) c r h = tt
+  w-bad : {A : Type 0} (o : Out A) (c : ℕ) (r : List Tok) → W o (bad c r)
+  w-bad (good e s j) c r = tt
+  w-bad (bad d s) c r = tt
 
   w-bind : {A B : Type 0} (o o′ : Out A) (h h′ : A → List Tok → ℕ → Out B) → W o o′ → ((e : A) (r : List Tok) (j j′ : ℕ) → W (h e r j) (h′ e (r ++ u) j′)) → W (bind o h) (bind o′ h′)
   w-bind {A} (good e r j) (good e′ r′ j′) h h′ w k =
       subst (λ (y : List Tok). W (h e r j) (h′ e′ y j′)) (w .1) (subst (λ (y : A). W (h e r j) (h′ y (r ++ u) j′)) (w .0) (k e r j j′))
-  w-bind (good e r j) (bad c r′) h h′ w k = w-bad (h e r j) c r′ w
+  w-bind (good e r j) (bad c r′) h h′ w k = w-bad (h e r j) c r′
   w-bind (bad c r) (good e′ r′ j′) h h′ w k = tt
   w-bind (bad c r) (bad c′ r′) h h′ w k = tt
 
   w-word : (a b : Bool) (w : List ℕ) (r s s′ : List Tok) (k k′ : ℕ) → W (choose a (λ _. good (word w) r k) (λ _. bad 10 s)) (choose b (λ _. good (word w) (r ++ u) k′) (λ _. bad 10 s′))
   w-word true true w r s s′ k k′ = (refl, refl)
-  w-word true false w r s s′ k k′ = no-10
+  w-word true false w r s s′ k k′ = tt
   w-word false true w r s s′ k k′ = tt
   w-word false false w r s s′ k k′ = tt
 
   w-open : (a b : Bool) (o o′ : Out Tree) (r r′ : List Tok) → W o o′ → W (choose a (λ _. bad 11 r) (λ _. o)) (choose b (λ _. bad 11 r′) (λ _. o′))
   w-open true true o o′ r r′ w = tt
   w-open true false o o′ r r′ w = tt
-  w-open false true o o′ r r′ w = w-bad o 11 r′ no-11
+  w-open false true o o′ r r′ w = w-bad o 11 r′
   w-open false false o o′ r r′ w = w
 
   w-closed : (e : Tree) (r : List Tok) (j j′ : ℕ) → W (closed e r j) (closed e (r ++ u) j′)
@@ -69,7 +58,7 @@ module _ (rule : Rule) (post : List Tok) where
 
     pub in-question : (f g d D k K : ℕ) (ts : List Tok) → W (question rule f d k ts) (question rule g D K (ts ++ u))
     in-question zero g d D k K ts = tt
-    in-question (suc f) zero d D k K ts = w-bad (question rule (suc f) d k ts) 0 (ts ++ u) no-0
+    in-question (suc f) zero d D k K ts = w-bad (question rule (suc f) d k ts) 0 (ts ++ u)
     in-question (suc f) (suc g) d D k K ts =
         w-bind (operand rule f d k ts) (operand rule g D K (ts ++ u)) (λ e r j. bind (links rule f d j r) (λ ls z i. good (rule e ls) z i)) (λ e r j. bind (links rule g D j r) (λ ls z i. good (rule e ls) z i))
         (in-operand f g d D k K ts)
@@ -77,7 +66,7 @@ module _ (rule : Rule) (post : List Tok) where
 
     in-operand : (f g d D k K : ℕ) (ts : List Tok) → W (operand rule f d k ts) (operand rule g D K (ts ++ u))
     in-operand zero g d D k K ts = tt
-    in-operand (suc f) zero d D k K ts = w-bad (operand rule (suc f) d k ts) 0 (ts ++ u) no-0
+    in-operand (suc f) zero d D k K ts = w-bad (operand rule (suc f) d k ts) 0 (ts ++ u)
     in-operand (suc f) (suc g) d D k K [] = tt
     in-operand (suc f) (suc g) d D k K (wordT w p ∷ r) = w-word (ltb k 16) (ltb K 16) w r (wordT w p ∷ r) (wordT w p ∷ (r ++ u)) (k + 1) (K + 1)
     in-operand (suc f) (suc g) d D k K (opT o p ∷ r) = tt
@@ -89,7 +78,7 @@ module _ (rule : Rule) (post : List Tok) where
 
     in-links : (f g d D k K : ℕ) (ts : List Tok) → W (links rule f d k ts) (links rule g D K (ts ++ u))
     in-links zero g d D k K ts = tt
-    in-links (suc f) zero d D k K ts = w-bad (links rule (suc f) d k ts) 0 (ts ++ u) no-0
+    in-links (suc f) zero d D k K ts = w-bad (links rule (suc f) d k ts) 0 (ts ++ u)
     in-links (suc f) (suc g) d D k K [] = (refl, refl)
     in-links (suc f) (suc g) d D k K (wordT w p ∷ r) = (refl, refl)
     in-links (suc f) (suc g) d D k K (opT o p ∷ r) =
@@ -114,10 +103,10 @@ module _ (rule : Rule) (respects : Respects rule) (has : List ℕ → ℕ → Bo
     same : r ≡ r′ → Rests r r′
     later : (pre : List Tok) → pre ++ X ≡ r → pre ++ X′ ≡ r′ → Rests r r′
 
-  -- where the first is read, the second is too and means the same, or is refused by a limit
+  -- where both are read, they mean the same
   abbrev R : {A : Type 0} → (A → A → Type 0) → Out A → Out A → Type 0
   R S (good e r j) (good e′ r′ j′) = S e e′ × Rests r r′
-  R S (good e r j) (bad c r′) = c ≡ 9 → ⊥
+  R S (good e r j) (bad c r′) = Unit {0}
   R S (bad c r) o = Unit {0}
 
   abbrev T : Out Tree → Out Tree → Type 0
@@ -130,27 +119,27 @@ module _ (rule : Rule) (respects : Respects rule) (has : List ℕ → ℕ → Bo
   unfolding fits
   same-part a b p x = p x
 
-  r-bad : {A : Type 0} (S : A → A → Type 0) (o : Out A) (c : ℕ) (r : List Tok) → (c ≡ 9 → ⊥) → R S o (bad c r)
-  r-bad S (good e s j) c r h = h
-  r-bad S (bad d s) c r h = tt
+  r-bad : {A : Type 0} (S : A → A → Type 0) (o : Out A) (c : ℕ) (r : List Tok) → R S o (bad c r)
+  r-bad S (good e s j) c r = tt
+  r-bad S (bad d s) c r = tt
 
   r-bind : {A B : Type 0} (S : A → A → Type 0) (S′ : B → B → Type 0) (o o′ : Out A) (h h′ : A → List Tok → ℕ → Out B) → R S o o′ →
       ((e : A) (r : List Tok) (j : ℕ) (e′ : A) (r′ : List Tok) (j′ : ℕ) → S e e′ → Rests r r′ → R S′ (h e r j) (h′ e′ r′ j′)) → R S′ (bind o h) (bind o′ h′)
   r-bind S S′ (good e r j) (good e′ r′ j′) h h′ w k = k e r j e′ r′ j′ (w .0) (w .1)
-  r-bind S S′ (good e r j) (bad c r′) h h′ w k = r-bad S′ (h e r j) c r′ w
+  r-bind S S′ (good e r j) (bad c r′) h h′ w k = r-bad S′ (h e r j) c r′
   r-bind S S′ (bad c r) (good e′ r′ j′) h h′ w k = tt
   r-bind S S′ (bad c r) (bad c′ r′) h h′ w k = tt
 
   r-word : (a b : Bool) (w : List ℕ) (r r′ s s′ : List Tok) (k k′ : ℕ) → Rests r r′ → T (choose a (λ _. good (word w) r k) (λ _. bad 10 s)) (choose b (λ _. good (word w) r′ k′) (λ _. bad 10 s′))
   r-word true true w r r′ s s′ k k′ p = (λ x. refl, p)
-  r-word true false w r r′ s s′ k k′ p = no-10
+  r-word true false w r r′ s s′ k k′ p = tt
   r-word false true w r r′ s s′ k k′ p = tt
   r-word false false w r r′ s s′ k k′ p = tt
 
   r-open : (a b : Bool) (o o′ : Out Tree) (r r′ : List Tok) → T o o′ → T (choose a (λ _. bad 11 r) (λ _. o)) (choose b (λ _. bad 11 r′) (λ _. o′))
   r-open true true o o′ r r′ w = tt
   r-open true false o o′ r r′ w = tt
-  r-open false true o o′ r r′ w = r-bad (Same has) o 11 r′ no-11
+  r-open false true o o′ r r′ w = r-bad (Same has) o 11 r′
   r-open false false o o′ r r′ w = w
 
   closed-same : (e e′ : Tree) (r : List Tok) (j j′ : ℕ) → Same has e e′ → T (closed e r j) (closed e′ r j′)
@@ -180,7 +169,7 @@ module _ (rule : Rule) (respects : Respects rule) (has : List ℕ → ℕ → Bo
     at-part (good e r j) (good e′ r′ j′) w w′ =
         subst (λ (y : List Tok). T (closed e y j) (closed e′ r′ j′)) (w .1) (subst (λ (y : List Tok). T (closed e (closeT 0 ∷ post) j) (closed e′ y j′)) (w′ .1)
         (same-part e e′ (λ x. ap (λ (y : Tree). fits has y x) (sym (w .0)) ∙ ab x ∙ ap (λ (y : Tree). fits has y x) (w′ .0)), same refl))
-    at-part (good e r j) (bad c r′) w w′ = r-bad (Same has) (closed e r j) c r′ w′
+    at-part (good e r j) (bad c r′) w w′ = r-bad (Same has) (closed e r j) c r′
     at-part (bad c r) (good e′ r′ j′) w w′ = tt
     at-part (bad c r) (bad c′ r′) w w′ = tt
 
@@ -232,17 +221,17 @@ module _ (rule : Rule) (respects : Respects rule) (has : List ℕ → ℕ → Bo
 
       q-same : (f g d D k K : ℕ) (ts : List Tok) → T (question rule f d k ts) (question rule g D K ts)
       q-same zero g d D k K ts = tt
-      q-same (suc f) zero d D k K ts = r-bad (Same has) (question rule (suc f) d k ts) 0 ts no-0
+      q-same (suc f) zero d D k K ts = r-bad (Same has) (question rule (suc f) d k ts) 0 ts
       q-same (suc f) (suc g) d D k K ts = level f g d D k K (operand rule f d k ts) (operand rule g D K ts) (o-same f g d D k K ts) (λ j j′ r r′ t. l-both f g d D j j′ r r′ t)
 
       q-later : (f g d D k K : ℕ) (pre : List Tok) → T (question rule f d k (pre ++ X)) (question rule g D K (pre ++ X′))
       q-later zero g d D k K pre = tt
-      q-later (suc f) zero d D k K pre = r-bad (Same has) (question rule (suc f) d k (pre ++ X)) 0 (pre ++ X′) no-0
+      q-later (suc f) zero d D k K pre = r-bad (Same has) (question rule (suc f) d k (pre ++ X)) 0 (pre ++ X′)
       q-later (suc f) (suc g) d D k K pre = level f g d D k K (operand rule f d k (pre ++ X)) (operand rule g D K (pre ++ X′)) (o-later f g d D k K pre) (λ j j′ r r′ t. l-both f g d D j j′ r r′ t)
 
       o-same : (f g d D k K : ℕ) (ts : List Tok) → T (operand rule f d k ts) (operand rule g D K ts)
       o-same zero g d D k K ts = tt
-      o-same (suc f) zero d D k K ts = r-bad (Same has) (operand rule (suc f) d k ts) 0 ts no-0
+      o-same (suc f) zero d D k K ts = r-bad (Same has) (operand rule (suc f) d k ts) 0 ts
       o-same (suc f) (suc g) d D k K [] = tt
       o-same (suc f) (suc g) d D k K (wordT w pl ∷ r) = r-word (ltb k 16) (ltb K 16) w r r (wordT w pl ∷ r) (wordT w pl ∷ r) (k + 1) (K + 1) (same refl)
       o-same (suc f) (suc g) d D k K (opT o pl ∷ r) = tt
@@ -254,7 +243,7 @@ module _ (rule : Rule) (respects : Respects rule) (has : List ℕ → ℕ → Bo
 
       o-later : (f g d D k K : ℕ) (pre : List Tok) → T (operand rule f d k (pre ++ X)) (operand rule g D K (pre ++ X′))
       o-later zero g d D k K pre = tt
-      o-later (suc f) zero d D k K pre = r-bad (Same has) (operand rule (suc f) d k (pre ++ X)) 0 (pre ++ X′) no-0
+      o-later (suc f) zero d D k K pre = r-bad (Same has) (operand rule (suc f) d k (pre ++ X)) 0 (pre ++ X′)
       o-later (suc f) (suc g) d D k K [] =
           r-open (eqb d 0) (eqb D 0) (bind (question rule f (d - 1) k (q ++ closeT 0 ∷ post)) closed) (bind (question rule g (D - 1) K (q′ ++ closeT 0 ∷ post)) closed) X X′
           (at-part (question rule f (d - 1) k (q ++ closeT 0 ∷ post)) (question rule g (D - 1) K (q′ ++ closeT 0 ∷ post)) (inner f (d - 1) k) (inner′ g (D - 1) K))
@@ -268,7 +257,7 @@ module _ (rule : Rule) (respects : Respects rule) (has : List ℕ → ℕ → Bo
 
       l-both : (f g d D k K : ℕ) (r r′ : List Tok) → Rests r r′ → L (links rule f d k r) (links rule g D K r′)
       l-both zero g d D k K r r′ h = tt
-      l-both (suc f) zero d D k K r r′ h = r-bad (SameLinks has) (links rule (suc f) d k r) 0 r′ no-0
+      l-both (suc f) zero d D k K r r′ h = r-bad (SameLinks has) (links rule (suc f) d k r) 0 r′
       l-both (suc f) (suc g) d D k K r r′ (same h) =
           subst (λ (y : List Tok). L (links rule (suc f) d k r) (links rule (suc g) D K y)) h
           (links-same f g d D k K r (λ o s. behind f g d D o (operand rule f d k s) (operand rule g D K s) (o-same f g d D k K s) (λ j j′ z z′ t. l-both f g d D j j′ z z′ t)))
@@ -277,23 +266,7 @@ module _ (rule : Rule) (respects : Respects rule) (has : List ℕ → ℕ → Bo
           (subst (λ (y : List Tok). L (links rule (suc f) d k y) (links rule (suc g) D K (pre ++ X′))) h
           (links-later f g d D k K pre (λ o s. behind f g d D o (operand rule f d k (s ++ X)) (operand rule g D K (s ++ X′)) (o-later f g d D k K s) (λ j j′ z z′ t. l-both f g d D j j′ z z′ t))))
 
-    module _ (f g i : ℕ) (pre : List Tok) (t : Tree) (h : question rule f 8 0 (pre ++ X) ≡ good t [] i) where
-      in-step : (o : Out Tree) → question rule g 8 0 (pre ++ X′) ≡ o → T (good t [] i) o
-      in-step o h′ = subst (λ (o : Out Tree). T (good t [] i) o) h′ (subst (λ (o : Out Tree). T o (question rule g 8 0 (pre ++ X′))) h (q-later f g 8 8 0 0 pre))
-
-      rests-nil : (r : List Tok) → Rests [] r → r ≡ []
-      rests-nil r (same e) = sym e
-      rests-nil r (later [] e e′) = absurd (cons-nil (openT 0) (q ++ closeT 0 ∷ post) e)
-      rests-nil r (later (y ∷ ys) e e′) = absurd (cons-nil y (ys ++ X) e)
-
-      -- both are read: they mean the same
-      pub step-means : (i′ : ℕ) (t′ : Tree) (r : List Tok) → question rule g 8 0 (pre ++ X′) ≡ good t′ r i′ → Same has t t′
-      step-means i′ t′ r h′ = in-step (good t′ r i′) h′ .0
-
-      -- and nothing is left of the second
-      pub step-ends : (i′ : ℕ) (t′ : Tree) (r : List Tok) → question rule g 8 0 (pre ++ X′) ≡ good t′ r i′ → r ≡ []
-      step-ends i′ t′ r h′ = rests-nil r (in-step (good t′ r i′) h′ .1)
-
-      -- the second is refused by no rule of the grammar
-      pub step-grammar : (c : ℕ) (r : List Tok) → question rule g 8 0 (pre ++ X′) ≡ bad c r → c ≡ 9 → ⊥
-      step-grammar c r h′ = in-step (bad c r) h′
+    -- both are read: they mean the same
+    pub step-means : (f g i i′ : ℕ) (pre : List Tok) (t t′ : Tree) (r : List Tok) → question rule f 8 0 (pre ++ X) ≡ good t [] i → question rule g 8 0 (pre ++ X′) ≡ good t′ r i′ → Same has t t′
+    step-means f g i i′ pre t t′ r h h′ =
+        subst (λ (o : Out Tree). T (good t [] i) o) h′ (subst (λ (o : Out Tree). T o (question rule g 8 0 (pre ++ X′))) h (q-later f g 8 8 0 0 pre)) .0

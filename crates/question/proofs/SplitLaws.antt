@@ -272,3 +272,10 @@ pub short-around : (p a b t : List ℕ) → Short (around p a t) → Short b →
 short-around p a b t h k =
     short-join 40 no-word-40 p (b ++ 41 ∷ t) (short-front 40 no-word-40 p (a ++ 41 ∷ t) h)
     (short-join 41 no-word-41 b t k (short-behind 41 no-word-41 a t (short-behind 40 no-word-40 p (a ++ 41 ∷ t) h)))
+
+-- the part by itself
+pub proper-inside : (p a t : List ℕ) → Proper (around p a t) → Proper a
+proper-inside p a t h = proper-front a 41 t (proper-behind p 40 (a ++ 41 ∷ t) h)
+
+pub short-inside : (p a t : List ℕ) → Short (around p a t) → Short a
+short-inside p a t h = short-front 41 no-word-41 a t (short-behind 40 no-word-40 p (a ++ 41 ∷ t) h)

@@ -20,8 +20,7 @@ use Rattle.question.specs.Reading.{asks, asked}
 use Rattle.question.specs.Limits.{wordsIn}
 use Rattle.question.specs.Words.{startsIn, endsIn, zeros, placed, Places}
 use Rattle.question.proofs.RuleLaws.{linkWords, Keeps}
-use Rattle.question.proofs.LimitLaws.{B, bounds-question, tokens-length}
-use Rattle.question.proofs.AskedLaws.{asked-accepts}
+use Rattle.question.proofs.AskedLaws.{asked-accepts, accepted-within}
 
 -- ---- the words of what is read, and those left, are the words of the tokens
 
@@ -97,8 +96,8 @@ module _ (rule : Rule) (keeps : Keeps rule) where
   accepted-words s t n h =
       let e : question rule (2 * length s + 2) 8 0 (tokens s) ≡ good t [] n = asked-accepts rule s t n h .reads in
       let w : Words wordsOf 0 (tokens s) (good t [] n) = subst (Words wordsOf 0 (tokens s)) e (question-words (2 * length s + 2) 8 0 (tokens s)) in
-      let b : B 0 0 (tokens s) (good t [] n) = subst (B 0 0 (tokens s)) e (bounds-question rule (2 * length s + 2) 8 0 0 (tokens s) refl (omega (arith, tokens-length s))) in
-      (w .0 ∙ append-nil (wordsOf t), omega (arith, w .1), b .1 (omega arith))
+      let words : wordsIn (tokens s) ≡ wordsOf t = w .0 ∙ append-nil (wordsOf t) in
+      (words, omega (arith, w .1), omega (arith, w .1, ap length words, accepted-within rule s t n h .words))
 
 -- ---- each word of the tokens is cut out of the bytes
 

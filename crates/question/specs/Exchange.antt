@@ -1,16 +1,36 @@
 -- "Any part in brackets may be exchanged for another in brackets that fits the same records": what the exchange says.
-use Prim.Native.Nat.{ℕ}
+use Prim.Native.Nat.{ℕ, _+_, _-_, _≤_}
 use mathlib.Core.Path.{_≡_}
-use mathlib.Core.List.{List, _∷_, _++_}
+use mathlib.Core.List.{List, [], _∷_, _++_}
 use mathlib.Core.Bool.{Bool}
+use Rattle.question.specs.Token.{Tok, wordT, opT, openT, closeT, otherT, tokens}
 use Rattle.question.specs.Grammar.{Tree, Rule}
 use Rattle.question.specs.Meaning.{Same}
 use Rattle.question.specs.Reading.{asks, asked}
-use Rattle.question.specs.Limits.{WithinLimits}
+use Rattle.question.specs.Limits.{openAfter, WithinLimits}
 
 -- the bytes `before ( a ) behind`
 abbrev pub around : List ℕ → List ℕ → List ℕ → List ℕ
 around before a behind = before ++ 40 ∷ (a ++ 41 ∷ behind)
+
+-- each bracket that closes among the tokens closes one that is open, where n are open before them
+abbrev pub NeverBelow : ℕ → List Tok → Type 0
+NeverBelow n [] = Unit {0}
+NeverBelow n (wordT w p ∷ r) = NeverBelow n r
+NeverBelow n (opT o p ∷ r) = NeverBelow n r
+NeverBelow n (openT p ∷ r) = NeverBelow (n + 1) r
+NeverBelow n (closeT p ∷ r) = (1 ≤ n) × NeverBelow (n - 1) r
+NeverBelow n (otherT p ∷ r) = NeverBelow n r
+
+-- the brackets of a match, so that those around it match too: from none open, none closes that is not open, and none is left open
+pub record Matched (a : List ℕ) : Type 0 where
+  pub above : NeverBelow 0 (tokens a)
+  pub ends : openAfter 0 (tokens a) ≡ 0
+
+-- s is accepted, with n words
+pub record AcceptedBy (rule : Rule) (s : List ℕ) (n : ℕ) : Type 0 where
+  pub tree : Tree
+  pub accepted : asked rule s ≡ asks tree n
 
 -- a and b are accepted by themselves, and the same records fit them
 pub record Exchangeable (rule : Rule) (has : List ℕ → ℕ → Bool) (a b : List ℕ) : Type 0 where

@@ -43,7 +43,7 @@ closed t (openT p ∷ r) k = bad 9 (openT p ∷ r)
 closed t (closeT p ∷ r) k = good (part t) r k
 closed t (otherT p ∷ r) k = bad 9 (otherT p ∷ r)
 
--- f bounds the calls, and is never used up where it is above twice the tokens (0 is no refusal's number);
+-- f bounds the calls; `whole` gives enough of them, so that none is refused by 0 (`never-used-up` in proofs/StopLaws.antt);
 -- d brackets may still open; k words have been read
 unfoldable mutual
   -- "A question is an operand, then any number of (operator, operand)."

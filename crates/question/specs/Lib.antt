@@ -3,6 +3,8 @@ pub mod Grammar
 pub mod Meaning
 pub mod Reading
 pub mod Limits
+pub mod Walk
+pub mod Stops
 pub mod Words
 pub mod Next
 pub mod Readers

@@ -22,6 +22,15 @@ deepest n (openT p ∷ r) = deepest (n + 1) r
 deepest n (closeT p ∷ r) = max n (deepest (n - 1) r)
 deepest n (otherT p ∷ r) = deepest n r
 
+-- how many brackets are open behind the tokens, where n were open before them
+unfoldable pub openAfter : ℕ → List Tok → ℕ
+openAfter n [] = n
+openAfter n (wordT w p ∷ r) = openAfter n r
+openAfter n (opT o p ∷ r) = openAfter n r
+openAfter n (openT p ∷ r) = openAfter (n + 1) r
+openAfter n (closeT p ∷ r) = openAfter (n - 1) r
+openAfter n (otherT p ∷ r) = openAfter n r
+
 -- "question, bytes: 256; words in a question, repeats counted: 16; brackets open at once: 8"
 pub record WithinLimits (s : List ℕ) : Type 0 where
   pub bytes : length s ≤ 256

@@ -40,7 +40,8 @@ placeOf len (openT p ∷ r) = p
 placeOf len (closeT p ∷ r) = p
 placeOf len (otherT p ∷ r) = p
 
--- The bound on the calls, 0, is never used up by a whole question: its bytes twice are enough (`bounds-question` in proofs/LimitLaws.antt).
+-- What is neither 10 nor 11 is 9: a reading is refused by no other number, since the bound on its calls is never used up
+-- (`refused-number` and `never-used-up` in proofs/StopLaws.antt).
 unfoldable pub refusalOf : ℕ → ℕ → Refusal
 refusalOf number place = cond (eqb number 10) (WordLimit place) (cond (eqb number 11) (BracketLimit place) (Grammar place))
 

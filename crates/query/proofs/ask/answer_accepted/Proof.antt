@@ -14,7 +14,7 @@ write-codes-requires : tie.Need-write-codes-requires
 write-codes-requires c κs =
     let start = c .before .before .before .before in
     let is = start .pre .1 in
-    let short = asked-accepts fromLeft (start .args .question .now) (is .tree) (is .words) (is .is) .short in
+    let short = asked-accepts fromLeft (start .args .question .now) (is .tree) (is .words) (is .is) .faultless .bytes in
     omega arith
 
 slice-aggregate-find-slots : tie.Need-slice-aggregate-find-slots
