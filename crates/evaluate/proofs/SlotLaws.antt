@@ -1,10 +1,13 @@
 -- Laws of slots: the list of a slot's word, and what fits a tree by what its slots have.
 use mathlib.Core.Path.{_≡_, refl}
-use Prim.Native.Nat.{ℕ, _+_, _≤_, _<_}
+use Prim.Native.Nat.{ℕ, _+_, _*_, _≤_, _<_}
+use native.Mathlib.Omega.{arith}
 use mathlib.Core.Bool.{Bool, false}
 use mathlib.Core.List.{List}
-use lib.ListN.{length, getD}
+use lib.ListN.{length, getD, set, length-set}
+use lib.Seq.{getD-set-same, getD-set-other}
 use borrow.Author.Tests.{lt-ltb, le-ltb}
+use Rattle.list.specs.declared.Place.{Place}
 use Rattle.list.specs.Interval.{names}
 use Rattle.list.specs.Reading.{listIn}
 use Rattle.index.specs.Format.{wordCount, singlesOf, lowerOf, upperOf, listOf}
@@ -12,7 +15,7 @@ use Rattle.question.specs.declared.token.Op.{Op}
 use Rattle.question.specs.declared.token.Op.the-variants.{And, Or, Not}
 use Rattle.question.specs.Grammar.{Tree, word, pair, part, wordsOf}
 use Rattle.question.specs.Meaning.{combine}
-use Rattle.evaluate.specs.Slots.{slotHas, slotFits}
+use Rattle.evaluate.specs.Slots.{slotHas, hintAt, withHint, slotFits}
 
 -- ---- the list of a slot
 
@@ -25,6 +28,17 @@ module _ (index entries : List ℕ) (k : ℕ) where
   pub slot-lacks : wordCount index ≤ getD entries k 0 → (x : ℕ) → slotHas index entries k x ≡ false
   unfolding slotHas
   slot-lacks h x = rw (le-ltb (getD entries k 0) (wordCount index) h)
+
+-- ---- the hint of a slot
+
+-- what is kept for a slot is what is read for it: neither position can take the other's place
+pub hint-kept : (hints : List ℕ) (k : ℕ) (place : Place) → 2 * k + 1 < length hints → hintAt (withHint hints k place) k ≡ place
+hint-kept hints k place h =
+    rw (
+      getD-set-other (set hints (2 * k) (place .p .0)) (2 * k + 1) (2 * k) (place .q .0) 0 (λ e. let w : 2 * k ≡ 2 * k + 1 = e in omega arith),
+      getD-set-same hints (2 * k) (place .p .0) 0 (omega arith),
+      getD-set-same (set hints (2 * k) (place .p .0)) (2 * k + 1) (place .q .0) 0 (simp length-set (omega arith)),
+    )
 
 -- ---- what fits a tree
 

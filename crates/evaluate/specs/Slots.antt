@@ -1,10 +1,11 @@
 -- Each word of a question has a slot, its place in reading order; a slot keeps the word's entry number.
-use Prim.Native.Nat.{ℕ, _+_, _≤_}
+use Prim.Native.Nat.{ℕ, _+_, _*_, _≤_}
 use mathlib.Core.Path.{_≡_}
 use mathlib.Core.Bool.{Bool, false, cond}
 use mathlib.Core.List.{List}
 use lib.Dec.{ltb}
-use lib.ListN.{length, getD, drop}
+use lib.ListN.{length, getD, set, drop}
+use Rattle.list.specs.declared.Place.{Place}
 use Rattle.list.specs.Interval.{names}
 use Rattle.index.specs.Format.{wordCount, listOf}
 use Rattle.index.specs.Sound.{Sound}
@@ -16,6 +17,14 @@ use Rattle.evaluate.specs.Code.{codesOf}
 -- whether the word of slot k stands in record x: an entry number that is no entry's has none
 unfoldable pub slotHas : List ℕ → List ℕ → ℕ → ℕ → Bool
 slotHas index entries k x = cond (ltb (getD entries k 0) (wordCount index)) (names (listOf index (getD entries k 0)) x) false
+
+-- the hint of slot k: a place, which stands as two numbers, since no row of places can be lent on without a proof by hand at each call
+abbrev pub hintAt : List ℕ → ℕ → Place
+hintAt hints k = record { p = record { 0 = getD hints (2 * k) 0 }; q = record { 0 = getD hints (2 * k + 1) 0 } }
+
+-- the hints with another one for slot k
+abbrev pub withHint : List ℕ → ℕ → Place → List ℕ
+withHint hints k place = set (set hints (2 * k) (place .p .0)) (2 * k + 1) (place .q .0)
 
 -- what slots are read by: a sound index, the entries of 16 slots, and a hint of two numbers for each
 pub record ReadBy (index entries hints : List ℕ) : Type 0 where

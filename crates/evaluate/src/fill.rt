@@ -19,22 +19,22 @@ use list::SingleAt;
 use list::cell::number_at;
 
 // Sets the bits of the singles from place `from` on, before which all lie below base. The answer is the first single behind the window.
-fn fill_singles(singles: &[u8], from: usize, base: u32, ws: &mut [u64]) -> usize
-    requires { ⌜ Ascends (numbersIn (now singles)) × (from ≡ countBelow base (numbersIn (now singles))) × (length (now ws) ≤ 128) × (base ≤ 16777216) ⌝ }
+fn fill_singles(singles: &[u8], from: SingleAt, base: u32, ws: &mut [u64]) -> SingleAt
+    requires { ⌜ Ascends (numbersIn (now singles)) × (from .0 ≡ countBelow base (numbersIn (now singles))) × (length (now ws) ≤ 128) × (base ≤ 16777216) ⌝ }
     ensures { λ r. ⌜ Added (among (numbersIn (now (singles .entry)))) base (now (ws .entry)) (now (ws .exit)) ⌝ }
 {
     let end = base + 64 * ws.len() as u32;
     let count = singles.len() / 4;
-    let mut i = from;
-    while i < count {
-        let s = number_at(singles, i);
+    let mut p = from;
+    while p.0 < count {
+        let s = number_at(singles, p.0);
         if end <= s {
-            return i;
+            return p;
         }
         window::fill::set_bit(ws, s - base);
-        i += 1;
+        p = SingleAt(p.0 + 1);
     }
-    i
+    p
 }
 
 // How far l lies above base, and 0 where it does not.
@@ -45,8 +45,8 @@ fn above(l: u32, base: u32) -> u32
 }
 
 // Sets the bits of the pairs from place `from` on, before which all end before base. The answer is the first pair that does not end in the window.
-fn fill_pairs(lower: &[u8], upper: &[u8], from: usize, base: u32, ws: &mut [u64]) -> usize
-    requires { ⌜ Apart (numbersIn (now lower)) (numbersIn (now upper)) × (from ≡ countBelow base (numbersIn (now upper))) × (length (now ws) ≤ 128) × (base ≤ 16777216) ⌝ }
+fn fill_pairs(lower: &[u8], upper: &[u8], from: PairAt, base: u32, ws: &mut [u64]) -> PairAt
+    requires { ⌜ Apart (numbersIn (now lower)) (numbersIn (now upper)) × (from .0 ≡ countBelow base (numbersIn (now upper))) × (length (now ws) ≤ 128) × (base ≤ 16777216) ⌝ }
     ensures { λ r. ⌜ Added (names (walked [] (numbersIn (now (lower .entry))) (numbersIn (now (upper .entry))))) base (now (ws .entry)) (now (ws .exit)) ⌝ }
 {
     let size = 64 * ws.len() as u32;
@@ -56,19 +56,19 @@ fn fill_pairs(lower: &[u8], upper: &[u8], from: usize, base: u32, ws: &mut [u64]
     let end = base + size;
     let count = lower.len() / 4;
     let mut q = from;
-    while q < count {
-        let l = number_at(lower, q);
+    while q.0 < count {
+        let l = number_at(lower, q.0);
         if end <= l {
             return q;
         }
-        let u = number_at(upper, q);
+        let u = number_at(upper, q.0);
         let a = above(l, base);
         if end <= u {
             window::fill::fill_range(ws, a, size - 1);
             return q;
         }
         window::fill::fill_range(ws, a, u - base);
-        q += 1;
+        q = PairAt(q.0 + 1);
     }
     q
 }
@@ -85,14 +85,9 @@ fn fill_list(
     requires { ⌜ KeptIn top (now singles) (now lower) (now upper) × (at ≡ placeOf base (numbersIn (now singles)) (numbersIn (now upper))) × (length (now ws) ≤ 128) × (base ≤ 16777216) ⌝ }
     ensures { λ r. ⌜ Added (names (listIn (now (singles .entry)) (now (lower .entry)) (now (upper .entry)))) base (now (ws .entry)) (now (ws .exit)) ⌝ }
 {
-    let p = at.p;
-    let q = at.q;
-    let single = fill_singles(singles, p.0, base, ws);
-    let pair = fill_pairs(lower, upper, q.0, base, ws);
-    Place {
-        p: SingleAt(single),
-        q: PairAt(pair),
-    }
+    let p = fill_singles(singles, at.p, base, ws);
+    let q = fill_pairs(lower, upper, at.q, base, ws);
+    Place { p, q }
 }
 
 // Sets the bits of the records that have the word of slot k, and moves its hint on.

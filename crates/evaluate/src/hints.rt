@@ -1,15 +1,16 @@
-// The reading hints of the slots, two numbers each: where a slot's list was read last. A hint is tested when it is used, and its numbers are
-// touched here alone.
+// The reading hints of the slots: where a slot's list was read last, a `Place` each. They are lent from call to call as plain numbers, two for a
+// slot, which are made and taken apart here alone. A hint is tested when it is used.
 ghost use mathlib.Core.Path.{_≡_};
-ghost use Prim.Native.Nat.{_+_, _*_, _<_};
-ghost use lib.ListN.{length, getD};
+ghost use Prim.Native.Nat.{_<_};
+ghost use lib.ListN.{length};
+ghost use Rattle.evaluate.specs.Slots.{hintAt, withHint};
 use list::PairAt;
 use list::Place;
 use list::SingleAt;
 
 pub fn hint_of(hints: &[usize], k: usize) -> Place
     requires { ⌜ (k < 16) × (length (now hints) ≡ 32) ⌝ }
-    ensures { λ r. ⌜ (r .p .0 ≡ getD (now (hints .entry)) (2 * k) 0) × (r .q .0 ≡ getD (now (hints .entry)) (2 * k + 1) 0) ⌝ }
+    ensures { λ r. ⌜ r ≡ hintAt (now (hints .entry)) k ⌝ }
 {
     Place {
         p: SingleAt(hints[2 * k]),
@@ -19,7 +20,8 @@ pub fn hint_of(hints: &[usize], k: usize) -> Place
 
 pub fn keep_hint(hints: &mut [usize], k: usize, place: Place)
     requires { ⌜ (k < 16) × (length (now hints) ≡ 32) ⌝ }
-    ensures { λ _. ⌜ length (now (hints .exit)) ≡ length (now (hints .entry)) ⌝ }
+    ensures keeps { λ _. ⌜ length (now (hints .exit)) ≡ length (now (hints .entry)) ⌝ }
+    ensures hint { λ _. ⌜ now (hints .exit) ≡ withHint (now (hints .entry)) k place ⌝ }
 {
     let p = place.p;
     let q = place.q;

@@ -2,7 +2,7 @@
 use mathlib.Core.Path.{_≡_, refl}
 use Prim.Native.Nat.{ℕ, _≤_, _<_}
 use mathlib.Core.Bool.{Bool, true, false, _||_}
-use mathlib.Core.List.{List, []}
+use mathlib.Core.List.{List}
 use lib.Dec.{eqb, ltb}
 use borrow.Author.Tests.{ltb-true, ltb-false, lt-ltb, le-ltb}
 use Rattle.laws.proofs.Tests.{or-neither}
@@ -21,10 +21,10 @@ use Rattle.index.specs.declared.Checked.{Checked}
 use Rattle.index.specs.declared.Checked.the-variants.{Good, Refused}
 use Rattle.index.specs.declared.Lookup.the-variants.{Entry, NoEntry}
 use Rattle.index.specs.declared.Probed.the-variants.{Counted, NoCount}
-use Rattle.index.specs.Format.{wordCount, highest, wordOf, singlesOf, lowerOf, upperOf, listOf}
+use Rattle.index.specs.Format.{wordCount, highest, wordStart, wordLength, wordOf, singlesOf, lowerOf, upperOf, listOf}
 use Rattle.index.specs.Sound.{Sound}
 use Rattle.index.specs.Check.{checkOf}
-use Rattle.index.specs.Entry.{lookupOf, entryAfter, entryOf, entryWord, badRange, rangeAnswer, probeOf}
+use Rattle.index.specs.Entry.{lookupOf, entryAfter, entryOf, entryStart, entryLength, badRange, rangeAnswer, probeOf}
 use Rattle.index.proofs.CheckLaws.{not-good, good-sound}
 use Rattle.index.proofs.SoundLaws.{sound-trailer, sound-list}
 
@@ -71,13 +71,21 @@ entry-good index i e =
     (good-sound index (w .0), ltb-true i (wordCount index) (w .1))
 
 module _ (index : List ℕ) (i : ℕ) where
-  pub word-answered : entryOf index i ≡ Good → entryWord index i ≡ wordOf index i
-  unfolding entryWord
-  word-answered e = rw e
+  pub start-answered : entryOf index i ≡ Good → entryStart index i ≡ wordStart index i
+  unfolding entryStart
+  start-answered e = rw e
 
-  pub word-refused : (r : Refusal) → entryOf index i ≡ Refused r → entryWord index i ≡ []
-  unfolding entryWord
-  word-refused r e = rw e
+  pub start-refused : (r : Refusal) → entryOf index i ≡ Refused r → entryStart index i ≡ 0
+  unfolding entryStart
+  start-refused r e = rw e
+
+  pub length-answered : entryOf index i ≡ Good → entryLength index i ≡ wordLength index i
+  unfolding entryLength
+  length-answered e = rw e
+
+  pub length-refused : (r : Refusal) → entryOf index i ≡ Refused r → entryLength index i ≡ 0
+  unfolding entryLength
+  length-refused r e = rw e
 
 -- ---- a probe
 

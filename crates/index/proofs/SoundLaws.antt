@@ -6,7 +6,7 @@ use native.Mathlib.Numerals.{add-one}
 use native.Mathlib.Nat.{lt-of-not-le}
 use native.Mathlib.Decide.{decLe}
 use mathlib.Core.Bool.{true, false, not, _||_}
-use mathlib.Core.List.{List}
+use mathlib.Core.List.{List, []}
 use lib.Dec.{eqb, ltb}
 use lib.ListN.{length, take, drop, length-drop, length-take}
 use borrow.Author.Tests.{ltb-false, eqb-true, eqb-false, not-false}
@@ -17,6 +17,7 @@ use Rattle.list.specs.Interval.{top}
 use Rattle.list.specs.Cell.{numbersIn}
 use Rattle.list.specs.Kept.{isKept}
 use Rattle.index.specs.Format.{wordsStart, directoryStart, wordCount, highest, edition, entryAt, wordStart, wordLength, listStart, singleCount, pairCount, listLength, wordsEnd, listsEnd, part, wordOf, singlesOf, lowerOf, upperOf}
+use Rattle.index.specs.Part.{Slice, partOf}
 use Rattle.index.specs.Sound.{badLength, badEdition, badTrailer, badDirectory, badWord, badEntry, badEnd, badList, wordBefore, Sound}
 
 -- ---- the trailer
@@ -148,6 +149,15 @@ part-length start size bytes h = simp (length-take, length-drop) (omega arith)
 -- the code's form of a part: from start to its end
 pub part-is : (bytes : List ℕ) (a n start size : ℕ) → a ≡ start → n ≡ size → take (a + n - a) (drop a bytes) ≡ part start size bytes
 part-is bytes a n start size e f = let g : a + n - a ≡ n = omega arith in rw (g, e, f)
+
+-- and where it stands
+pub slice-part : (s : Slice) (place a n start size : ℕ) → place ≡ s .place + a → a ≡ start → n ≡ size →
+    record { memory = s .memory; place = place; bytes = take (a + n - a) (drop a (s .bytes)) } ≡ partOf start size s
+slice-part s place a n start size p e f = rw (p, part-is (s .bytes) a n start size e f, e)
+
+-- the empty part at the start
+pub slice-none : (s : Slice) (start size : ℕ) → start ≡ 0 → size ≡ 0 → record { memory = s .memory; place = s .place; bytes = [] } ≡ partOf start size s
+slice-none s start size e f = let z : s .place + 0 ≡ s .place = omega arith in rw (e, f, z)
 
 -- the word and the list stand below the directory, and so in the index
 pub sound-word-room : (index : List ℕ) → Sound index → (i : ℕ) → i < wordCount index → wordStart index i + wordLength index i ≤ length index

@@ -1,7 +1,7 @@
 -- The calls that read one entry: each checks the index first, then asks what it is asked. Reference 8.2 to 8.4.
 use Prim.Native.Nat.{ℕ}
 use mathlib.Core.Bool.{Bool, cond, _||_}
-use mathlib.Core.List.{List, []}
+use mathlib.Core.List.{List}
 use lib.Dec.{eqb, ltb}
 use Rattle.refusal.specs.declared.Found.{Found}
 use Rattle.refusal.specs.declared.Found.the-variants.{At, Nowhere}
@@ -16,7 +16,8 @@ use Rattle.index.specs.declared.Lookup.{Lookup}
 use Rattle.index.specs.declared.Lookup.the-variants.{Entry, NoEntry}
 use Rattle.index.specs.declared.Probed.{Probed}
 use Rattle.index.specs.declared.Probed.the-variants.{Counted, NoCount}
-use Rattle.index.specs.Format.{wordCount, wordOf, listOf}
+use Rattle.index.specs.Format.{wordCount, wordStart, wordLength, wordOf, listOf}
+use Rattle.index.specs.Part.{Slice, partOf}
 use Rattle.index.specs.Check.{checkOf}
 
 -- Reference 8.2: the entry, or 21 behind the check
@@ -41,14 +42,20 @@ entryAfter Good below = cond below Good (Refused (EntryNumber 0))
 unfoldable pub entryOf : List ℕ → ℕ → Checked
 entryOf index i = entryAfter (checkOf index) (ltb i (wordCount index))
 
--- Reference 8.3: the word, nothing where it is refused
-abbrev pub wordAfter : Checked → List ℕ → List ℕ
-wordAfter Good word = word
-wordAfter (Refused r) word = []
+-- Reference 8.3: where the part starts and how long it is; both 0 where the call is refused
+abbrev pub numberAfter : Checked → ℕ → ℕ
+numberAfter Good n = n
+numberAfter (Refused r) n = 0
 
--- Reference 8.3: the whole call
-unfoldable pub entryWord : List ℕ → ℕ → List ℕ
-entryWord index i = wordAfter (entryOf index i) (wordOf index i)
+unfoldable pub entryStart : List ℕ → ℕ → ℕ
+entryStart index i = numberAfter (entryOf index i) (wordStart index i)
+
+unfoldable pub entryLength : List ℕ → ℕ → ℕ
+entryLength index i = numberAfter (entryOf index i) (wordLength index i)
+
+-- Reference 8.3: the part itself, of the index's own memory
+abbrev pub entryWord : Slice → ℕ → Slice
+entryWord index i = partOf (entryStart (index .bytes) i) (entryLength (index .bytes) i) index
 
 -- Reference 9.1, row 20
 unfoldable pub badRange : ℕ → ℕ → Bool

@@ -3,7 +3,8 @@ ghost use mathlib.Core.Path.{_≡_};
 ghost use Prim.Native.Nat.{_+_, _*_, _≤_, _<_};
 ghost use lib.ListN.{length};
 ghost use Rattle.list.specs.Interval.{intervals};
-ghost use Rattle.index.specs.Format.{wordCount, wordOf, singlesOf, lowerOf, upperOf, listOf};
+ghost use Rattle.index.specs.Format.{wordCount, wordStart, wordLength, singlesOf, lowerOf, upperOf, listOf};
+ghost use Rattle.index.specs.Part.{sliceOf, partOf};
 ghost use Rattle.index.specs.Read.{EntryOf};
 ghost use Rattle.index.specs.Sound.{Sound};
 use crate::entry::Entry;
@@ -19,9 +20,10 @@ pub fn sound_entry(index: &[u8], i: usize) -> Entry
     crate::entry::entry_at(index, trailer, i)
 }
 
+// The word itself, and no copy of it.
 pub fn word_of<'a>(index: &'a [u8], i: usize) -> &'a [u8]
     requires { ⌜ Sound (now index) × (i < wordCount (now index)) ⌝ }
-    ensures { λ r. ⌜ now r ≡ wordOf (now (index .entry)) i ⌝ }
+    ensures { λ r. ⌜ sliceOf r ≡ partOf (wordStart (now (index .entry)) i) (wordLength (now (index .entry)) i) (sliceOf (index .entry)) ⌝ }
 {
     let entry = sound_entry(index, i);
     let start = entry.word_start;

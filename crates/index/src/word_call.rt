@@ -1,5 +1,6 @@
 // Reference 8.3: an entry's word, by two calls, of which the first says whether there is one.
 ghost use mathlib.Core.Path.{_≡_};
+ghost use Rattle.index.specs.Part.{sliceOf};
 ghost use Rattle.index.specs.Entry.{entryOf, entryWord};
 use crate::Checked;
 use refusal::Refusal;
@@ -22,7 +23,7 @@ pub fn entry_refusal(index: &[u8], entry: u32) -> Checked
 
 // The word, where it stands in the index; an empty part where the first call refuses.
 pub fn entry_word<'a>(index: &'a [u8], entry: u32) -> &'a [u8]
-    ensures { λ r. ⌜ now r ≡ entryWord (now (index .entry)) entry ⌝ }
+    ensures { λ r. ⌜ sliceOf r ≡ entryWord (sliceOf (index .entry)) entry ⌝ }
 {
     match entry_refusal(index, entry) {
         Checked::Good => crate::parts::word_of(index, entry as usize),

@@ -7,6 +7,7 @@ ghost use Rattle.list.specs.Cell.{numbersIn};
 ghost use Rattle.list.specs.Kept.{isKept};
 ghost use Rattle.list.specs.Passed.{passed};
 use crate::END;
+use crate::PairAt;
 use crate::SingleAt;
 use crate::cell::number_at;
 
@@ -22,29 +23,20 @@ fn pass_singles(singles: &[u8], from: SingleAt, bound: u32, least0: u32) -> Pass
     ensures { λ r. ⌜ r ≡ passed bound least0 (from .0) (drop (from .0) (numbersIn (now (singles .entry)))) ⌝ }
 {
     let count = singles.len() / 4;
-    let mut i = from.0;
+    let mut p = from;
     let mut least = least0;
-    while i < count {
-        let s = number_at(singles, i);
+    while p.0 < count {
+        let s = number_at(singles, p.0);
         if bound <= s {
-            return Pass {
-                p: SingleAt(i),
-                least,
-            };
+            return Pass { p, least };
         }
         if s < least {
-            return Pass {
-                p: SingleAt(i),
-                least: END,
-            };
+            return Pass { p, least: END };
         }
         least = s + 2;
-        i += 1;
+        p = SingleAt(p.0 + 1);
     }
-    Pass {
-        p: SingleAt(i),
-        least,
-    }
+    Pass { p, least }
 }
 
 // Whether the three regions are a list within 1 to n that keeps the list rule: by the pairs, with the singles before each passed on the way.
@@ -54,11 +46,11 @@ pub fn is_kept(singles: &[u8], lower: &[u8], upper: &[u8], n: u32) -> bool
 {
     let count = lower.len() / 4;
     let mut p = SingleAt(0);
-    let mut q = 0;
+    let mut q = PairAt(0);
     let mut least: u32 = 1;
-    while q < count {
-        let l = number_at(lower, q);
-        let u = number_at(upper, q);
+    while q.0 < count {
+        let l = number_at(lower, q.0);
+        let u = number_at(upper, q.0);
         if u <= l {
             return false;
         }
@@ -71,7 +63,7 @@ pub fn is_kept(singles: &[u8], lower: &[u8], upper: &[u8], n: u32) -> bool
         }
         p = pass.p;
         least = u + 2;
-        q += 1;
+        q = PairAt(q.0 + 1);
     }
     let rest = pass_singles(singles, p, n + 1, least);
     let end = rest.p;

@@ -4,6 +4,8 @@ ghost use Prim.Native.Nat.{_≤_};
 ghost use Rattle.list.specs.Interval.{top};
 ghost use Rattle.list.specs.Reading.{KeptIn, listIn};
 ghost use Rattle.list.specs.Ginix.{belowCount, overlapCount};
+use crate::PairAt;
+use crate::SingleAt;
 use crate::seek::count_below;
 
 pub struct Probe {
@@ -17,13 +19,13 @@ pub fn probe_list(singles: &[u8], lower: &[u8], upper: &[u8], a: u32, b: u32) ->
     ensures below { λ r. ⌜ r .below ≡ belowCount a (listIn (now (singles .entry)) (now (lower .entry)) (now (upper .entry))) ⌝ }
     ensures overlapping { λ r. ⌜ r .overlapping ≡ overlapCount a b (listIn (now (singles .entry)) (now (lower .entry)) (now (upper .entry))) ⌝ }
 {
-    let singles_ended = count_below(singles, 0, a);
-    let pairs_ended = count_below(upper, 0, a);
-    let singles_begun = count_below(singles, singles_ended, b + 1);
-    let pairs_begun = count_below(lower, pairs_ended, b + 1);
-    let below = singles_ended + pairs_ended;
+    let p = SingleAt(count_below(singles, 0, a));
+    let q = PairAt(count_below(upper, 0, a));
+    let p_end = SingleAt(count_below(singles, p.0, b + 1));
+    let q_end = PairAt(count_below(lower, q.0, b + 1));
+    let below = p.0 + q.0;
     Probe {
         below,
-        overlapping: singles_begun + pairs_begun - below,
+        overlapping: p_end.0 + q_end.0 - below,
     }
 }

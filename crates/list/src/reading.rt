@@ -20,11 +20,9 @@ pub struct Interval {
 pub fn single_next(singles: &[u8], lower: &[u8], p: SingleAt, q: PairAt) -> bool
     ensures { λ r. ⌜ r ≡ singleNext (numbersIn (now (singles .entry))) (numbersIn (now (lower .entry))) (p .0) (q .0) ⌝ }
 {
-    let i = p.0;
-    let k = q.0;
-    if i < singles.len() / 4 {
-        if k < lower.len() / 4 {
-            number_at(singles, i) < number_at(lower, k)
+    if p.0 < singles.len() / 4 {
+        if q.0 < lower.len() / 4 {
+            number_at(singles, p.0) < number_at(lower, q.0)
         } else {
             true
         }

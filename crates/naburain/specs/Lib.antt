@@ -1,2 +1,3 @@
 pub mod Result
 pub mod Exported
+pub mod Agree

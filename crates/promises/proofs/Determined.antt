@@ -4,6 +4,7 @@ use mathlib.Core.Path.{_≡_, sym, ap, _∙_}
 use mathlib.Core.List.{List}
 use Rattle.convert.specs.Convert.{ToIntervals, ToNumbers}
 use Rattle.index.specs.Format.{wordStart, wordLength}
+use Rattle.index.specs.Part.{Slice}
 use Rattle.index.specs.Check.{checkOf}
 use Rattle.index.specs.Entry.{lookupOf, entryOf, entryWord, probeOf}
 use Rattle.join.specs.Join.{Joins}
@@ -31,7 +32,7 @@ lookup-determined index word = one-value (lookupOf index word)
 pub entry-determined : (index : List ℕ) (i : ℕ) → OneReturn (λ r. r ≡ entryOf index i)
 entry-determined index i = one-value (entryOf index i)
 
-pub word-determined : (index : List ℕ) (i : ℕ) → OneReturn (λ r. r ≡ entryWord index i)
+pub word-determined : (index : Slice) (i : ℕ) → OneReturn (λ r. r ≡ entryWord index i)
 word-determined index i = one-value (entryWord index i)
 
 pub probe-determined : (index : List ℕ) (i a b : ℕ) → OneReturn (λ r. r ≡ probeOf index i a b)

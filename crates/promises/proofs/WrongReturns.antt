@@ -4,9 +4,9 @@ use mathlib.Core.Bool.{true, false}
 use Rattle.word.specs.Word.{isWordByte, same, isAnd, isOr, isNot, operatorOf}
 use Rattle.refusal.specs.First.{firstFrom, first}
 use Rattle.list.specs.Ginix.{belowCount, overlapCount}
-use Rattle.index.specs.Format.{entryAt, wordStart, wordLength, wordOf, listOf, wordCount}
+use Rattle.index.specs.Format.{entryAt, wordStart, wordLength, part, wordOf, listOf, wordCount}
 use Rattle.index.specs.Check.{checkOf}
-use Rattle.index.specs.Entry.{lookupAfter, lookupOf, entryAfter, entryOf, wordAfter, entryWord, badRange, rangeAnswer, probeAfter, probeOf}
+use Rattle.index.specs.Entry.{lookupAfter, lookupOf, entryAfter, entryOf, numberAfter, entryStart, entryLength, badRange, rangeAnswer, probeAfter, probeOf}
 use Rattle.index.specs.declared.Checked.the-variants.{Good}
 use Rattle.question.specs.Token.{run, gather, tokensAt, tokens}
 use Rattle.question.specs.Grammar.{fromLeft, question, operand, links, whole}
@@ -44,9 +44,11 @@ entry-good = ap (λ g. entryAfter g true) example-good
 pub entry-refusing : FailsToBe entry (RefusingAll checkRefused)
 entry-refusing = refusing-all-fails entry checkRefused (example, 0) (ap checkRefused entry-good)
 
-pub word-refusing : FailsToBe word (RefusingAll wordRefused)
-unfolding entryAt wordStart wordLength wordOf entryWord
-word-refusing = refusing-all-fails word wordRefused (example, 0) (ap (λ g. wordRefused (wordAfter g boats)) entry-good)
+pub word-refusing : FailsToBe word (RefusingAll (λ s. wordRefused (s .bytes)))
+unfolding entryAt wordStart wordLength entryStart entryLength
+word-refusing =
+    refusing-all-fails word (λ s. wordRefused (s .bytes)) (record { memory = 0; place = 0; bytes = example }, 0)
+    (ap (λ g. wordRefused (part (numberAfter g (wordStart example 0)) (numberAfter g (wordLength example 0)) example)) entry-good)
 
 pub probe-refusing : FailsToBe probe (RefusingAll probeRefused)
 unfolding badRange probeOf

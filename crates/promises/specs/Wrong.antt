@@ -16,6 +16,7 @@ use Rattle.index.specs.declared.Lookup.{Lookup}
 use Rattle.index.specs.declared.Lookup.the-variants.{Entry, NoEntry}
 use Rattle.index.specs.declared.Probed.{Probed}
 use Rattle.index.specs.declared.Probed.the-variants.{Counted, NoCount}
+use Rattle.index.specs.Part.{Slice}
 use Rattle.index.specs.Entry.{lookupOf, entryOf, entryWord, probeOf}
 use Rattle.join.specs.Join.{Joins}
 use Rattle.question.specs.declared.reader.Reading.{Reading}
@@ -75,7 +76,7 @@ lookup a = lookupOf (a .0) (a .1)
 abbrev pub entry : List ℕ × ℕ → Checked
 entry a = entryOf (a .0) (a .1)
 
-abbrev pub word : List ℕ × ℕ → List ℕ
+abbrev pub word : Slice × ℕ → Slice
 word a = entryWord (a .0) (a .1)
 
 abbrev pub probe : List ℕ × ℕ × ℕ × ℕ → Probed

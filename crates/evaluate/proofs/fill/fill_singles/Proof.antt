@@ -1,7 +1,8 @@
 -- Each turn adds one single; they ascend, so all before `from` lie below the window and all from the first behind it on lie behind it.
-use Prim.Native.Nat.{_-_, _≤_}
+use Prim.Native.Nat.{ℕ, _-_, _≤_, _<_}
 use native.Mathlib.Omega.{arith}
-use lib.ListN.{length}
+use mathlib.Core.List.{List}
+use lib.ListN.{length, getD}
 use borrow.Author.Needs.{needs}
 use Rattle.list.specs.Cell.{numbersIn}
 use Rattle.list.specs.Seek.{countBelow}
@@ -12,95 +13,79 @@ use Rattle.evaluate.proofs.fill.fill_singles.Statement.{statement}
 use Rattle.evaluate.proofs.fill.fill_singles.Tie as tie
 
 abbrev Inv-loop : tie.InvT-loop
-Inv-loop singles from base ws₀ end count i₀ ws i =
-    (i ≤ length (numbersIn singles)) × (countBelow base (numbersIn singles) ≤ i) × SinglesFilling (numbersIn singles) base ws₀ i ws
+Inv-loop singles base ws₀ end count p₀ ws p =
+    (p .0 ≤ length (numbersIn singles)) × (countBelow base (numbersIn singles) ≤ p .0) × SinglesFilling (numbersIn singles) base ws₀ (p .0) ws
 
 abbrev μ-loop : tie.MeasureT-loop
-μ-loop singles from base ws₀ end count i₀ ws i = count - i
-
-cast-end : tie.Need-cast-end Inv-loop μ-loop
-cast-end c = search needs
-
-mul-end : tie.Need-mul-end Inv-loop μ-loop
-mul-end c = search needs
-
-add-end : tie.Need-add-end Inv-loop μ-loop
-add-end c = search needs
+μ-loop singles base ws₀ end count p₀ ws p = count - p .0
 
 loop-holds : tie.Need-loop-holds Inv-loop μ-loop
 loop-holds c =
     let st = c .before .before in
     let S = numbersIn (st .args .singles .now) in
-    (omega (arith, count-length (st .args .base) S), omega arith, singles-start S (st .pre .0) (st .args .base) (st .args .ws .now) (st .args .ws .now) (st .args .from) (st .pre .1))
+    let from = st .pre .1 in
+    (omega (arith, count-length (st .args .base) S), omega arith, singles-start S (st .pre .0) (st .args .base) (st .args .ws .now) (st .args .ws .now) (st .args .from .0) from)
 
 number-at-requires : tie.Need-number-at-requires Inv-loop μ-loop
 number-at-requires c κs =
-    let long = numbersIn-length (c .before .before .before .before .args .singles .now) in
+    let long = numbersIn-length (c .before .before .before .before .before .args .singles .now) in
+    let test = c .if1 .taken in
     omega arith
 
-same-length : tie.Need-same-length Inv-loop μ-loop
-same-length c =
-    c .before .before .before .loop .inv .2 .long
+-- the single of a turn is one of the singles, and does not lie below base
+abbrev Ahead : List ℕ → ℕ → ℕ → ℕ → Type 0
+Ahead S p base s = (p < length S) × (base ≤ s)
+
+ahead : (c : tie.After-number-at Inv-loop μ-loop) →
+    Ahead (numbersIn (c .before .before .before .before .before .before .args .singles .now)) (c .before .before .before .loop .p .0) (c .before .before .before .before .before .before .args .base) (c .number-at .result)
+ahead c =
+    let at = c .before .before .before in
+    let l = at .loop in
+    let st = at .before .before .before in
+    let S = numbersIn (st .args .singles .now) in
+    let long = numbersIn-length (st .args .singles .now) in
+    let test = c .before .if1 .taken in
+    let read = c .number-at .ensures in
+    let w = count-ahead 0 (st .args .base) S (st .pre .0) (l .p .0) (omega arith) (l .inv .1) in
+    (omega arith, omega arith)
 
 returns : tie.Need-returns Inv-loop μ-loop
 returns c =
-    let at = c .before .before .before in
-    let l = at .loop in
-    let a = at .before .before .before .args in
-    let S = numbersIn (a .singles .now) in
-    let long = numbersIn-length (a .singles .now) in
-    singles-past S (at .before .before .before .pre .0) (a .base) (a .ws .now) (l .ws) (l .i) (c .before .number-at .result) (omega arith) (c .before .number-at .ensures) (omega arith) (l .inv .2)
-
-sub-set-bit : tie.Need-sub-set-bit Inv-loop μ-loop
-sub-set-bit c =
     let at = c .before .before .before .before in
     let l = at .loop in
-    let a = at .before .before .before .args in
-    let S = numbersIn (a .singles .now) in
-    let long = numbersIn-length (a .singles .now) in
-    let w = count-ahead 0 (a .base) S (at .before .before .before .pre .0) (l .i) (omega arith) (l .inv .1) in
-    omega arith
+    let st = at .before .before .before in
+    let a = st .args in
+    let r = c .before .number-at in
+    let test = c .if2 .taken in
+    singles-past (numbersIn (a .singles .now)) (st .pre .0) (a .base) (a .ws .now) (l .ws) (l .p .0) (r .result) (ahead (c .before) .0) (r .ensures) (omega arith) (l .inv .2)
 
 set-bit-requires : tie.Need-set-bit-requires Inv-loop μ-loop
 set-bit-requires c κs =
-    let at = c .before .before .before .before in
-    let l = at .loop in
-    let a = at .before .before .before .args in
-    let S = numbersIn (a .singles .now) in
-    let long = numbersIn-length (a .singles .now) in
-    let w = count-ahead 0 (a .base) S (at .before .before .before .pre .0) (l .i) (omega arith) (l .inv .1) in
-    let f = l .inv .2 .long in
+    let read = c .before .before in
+    let w = ahead read in
+    let f = read .before .before .before .loop .inv .2 .long in
     omega arith
-
-add-i : tie.Need-add-i Inv-loop μ-loop
-add-i c = search needs
-
-loop-less : tie.Need-loop-less Inv-loop μ-loop
-loop-less c = search needs
 
 loop-again : tie.Need-loop-again Inv-loop μ-loop
 loop-again c =
-    let at = c .before .before .before .before .before .before .before in
+    let read = c .before .before .before .before .before .before in
+    let at = read .before .before .before in
     let l = at .loop in
-    let a = at .before .before .before .args in
-    let S = numbersIn (a .singles .now) in
-    let long = numbersIn-length (a .singles .now) in
-    let r = c .before .before .before .before .before .number-at in
-    let w = count-ahead 0 (a .base) S (at .before .before .before .pre .0) (l .i) (omega arith) (l .inv .1) in
-    (omega arith, omega arith, singles-step S (at .before .before .before .pre .0) (a .base) (a .ws .now) (l .ws) (l .i) (r .result) _ (omega arith) (r .ensures) (omega arith) (l .inv .2) (c .before .before .set-bit .ensures))
-
-same-length-2 : tie.Need-same-length-2 Inv-loop μ-loop
-same-length-2 c =
-    c .before .loop .inv .2 .long
+    let st = at .before .before .before in
+    let a = st .args in
+    let r = read .number-at in
+    let w = ahead read in
+    (omega arith, omega arith, singles-step (numbersIn (a .singles .now)) (st .pre .0) (a .base) (a .ws .now) (l .ws) (l .p .0) (r .result) _ (w .0) (r .ensures) (w .1) (l .inv .2) (c .before .before .before .set-bit .ensures))
 
 returns-2 : tie.Need-returns-2 Inv-loop μ-loop
 returns-2 c =
-    let at = c .before in
+    let at = c .before .before in
     let l = at .loop in
-    let a = at .before .before .before .args in
-    let S = numbersIn (a .singles .now) in
+    let st = at .before .before .before in
+    let a = st .args in
     let long = numbersIn-length (a .singles .now) in
-    singles-done S (at .before .before .before .pre .0) (a .base) (a .ws .now) (l .ws) (l .i) (omega arith) (l .inv .2)
+    let test = c .if1 .left in
+    singles-done (numbersIn (a .singles .now)) (st .pre .0) (a .base) (a .ws .now) (l .ws) (l .p .0) (omega arith) (l .inv .2)
 
 pub fill-singles-spec : {M : Type 1} → statement M
 fill-singles-spec =
@@ -108,17 +93,17 @@ fill-singles-spec =
     (tie.spec
     Inv-loop
     μ-loop
-    cast-end
-    mul-end
-    add-end
+    (λ c. search needs)
+    (λ c. search needs)
+    (λ c. search needs)
     loop-holds
     number-at-requires
-    same-length
+    (λ c. c .before .before .before .before .loop .inv .2 .long)
     returns
-    sub-set-bit
+    (λ c. let w = ahead (c .before .before) in omega arith)
     set-bit-requires
-    add-i
-    loop-less
+    (λ c. search needs)
+    (λ c. search needs)
     loop-again
-    same-length-2
+    (λ c. c .before .before .loop .inv .2 .long)
     returns-2)

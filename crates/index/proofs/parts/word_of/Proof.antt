@@ -1,6 +1,8 @@
 -- What the entry says of its place, in the code's form of a part.
-use Rattle.index.specs.Format.{wordStart, wordLength, wordOf}
-use Rattle.index.proofs.SoundLaws.{part-is}
+use native.Mathlib.Omega.{arith}
+use Rattle.index.specs.Format.{wordStart, wordLength}
+use Rattle.index.specs.Part.{sliceOf}
+use Rattle.index.proofs.SoundLaws.{slice-part}
 use borrow.Author.Needs.{needs}
 use Rattle.index.proofs.parts.word_of.Statement.{statement}
 use Rattle.index.proofs.parts.word_of.Tie as tie
@@ -21,14 +23,12 @@ part-result-end : tie.Need-part-result-end
 part-result-end c = search needs
 
 returns : tie.Need-returns
-unfolding wordOf
 returns c =
-    let start = c .before .before .before .before in
-    let index = start .args .index .now in
-    let i = start .args .i in
+    let a = c .before .before .before .before .args in
+    let index = a .index .now in
     let r = c .before .before .sound-entry .result in
     let e = c .before .before .sound-entry .ensures .0 in
-    part-is index (r .«word_start») (r .«word_length») (wordStart index i) (wordLength index i) (e .word-start) (e .word-length)
+    slice-part (sliceOf (a .index)) _ (r .«word_start») (r .«word_length») (wordStart index (a .i)) (wordLength index (a .i)) (omega arith) (e .word-start) (e .word-length)
 
 pub word-of-spec : {M : Type 1} → statement M
 word-of-spec =

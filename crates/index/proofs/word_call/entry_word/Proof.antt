@@ -1,6 +1,8 @@
--- What the other call answers decides: the entry's word, or nothing.
+-- What the other call answers decides: the entry's word, or an empty part.
 use mathlib.Core.Path.{sym, _∙_}
-use Rattle.index.proofs.AnswerLaws.{entry-good, word-answered, word-refused}
+use Rattle.index.specs.Part.{sliceOf}
+use Rattle.index.proofs.SoundLaws.{slice-none}
+use Rattle.index.proofs.AnswerLaws.{entry-good, start-answered, start-refused, length-answered, length-refused}
 use borrow.Author.Needs.{needs}
 use Rattle.index.proofs.word_call.entry_word.Statement.{statement}
 use Rattle.index.proofs.word_call.entry_word.Tie as tie
@@ -25,12 +27,15 @@ slice-aggregate-result c = search needs
 returns : tie.Need-returns
 returns c =
     let a = c .before .before .before .before .before .args in
-    c .word-of .ensures ∙ sym (word-answered (a .index .now) (a .entry) (sym (c .before .before .before .entry-refusal .ensures) ∙ c .before .enum-told .given .1))
+    let good = sym (c .before .before .before .entry-refusal .ensures) ∙ c .before .enum-told .given .1 in
+    rw (start-answered (a .index .now) (a .entry) good, length-answered (a .index .now) (a .entry) good) (c .word-of .ensures)
 
 returns-2 : tie.Need-returns-2
 returns-2 c =
     let a = c .before .before .before .before .before .args in
-    sym (word-refused (a .index .now) (a .entry) (c .before .enum-told2 .given .0 .0) (sym (c .before .before .before .entry-refusal .ensures) ∙ c .before .enum-told2 .given .1))
+    let r = c .before .enum-told2 .given .0 .0 in
+    let bad = sym (c .before .before .before .entry-refusal .ensures) ∙ c .before .enum-told2 .given .1 in
+    slice-none (sliceOf (a .index)) _ _ (start-refused (a .index .now) (a .entry) r bad) (length-refused (a .index .now) (a .entry) r bad)
 
 pub entry-word-spec : {M : Type 1} → statement M
 entry-word-spec =

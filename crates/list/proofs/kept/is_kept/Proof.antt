@@ -18,11 +18,12 @@ Inv-loop singles lower upper n count p₀ q₀ least₀ p q least =
     × (count ≡ length (numbersIn lower))
     × (count ≡ length (numbersIn upper))
     × (p .0 ≤ length (numbersIn singles))
-    × (q ≤ count)
-    × (isKept n (numbersIn singles) (numbersIn lower) (numbersIn upper) ≡ keptFrom n (numbersIn singles) (numbersIn lower) (numbersIn upper) least (p .0) q)
+    × (q .0 ≤ count)
+    × (isKept n (numbersIn singles) (numbersIn lower) (numbersIn upper)
+    ≡ keptFrom n (numbersIn singles) (numbersIn lower) (numbersIn upper) least (p .0) (q .0))
 
 abbrev μ-loop : tie.MeasureT-loop
-μ-loop singles lower upper n count p₀ q₀ least₀ p q least = count - q
+μ-loop singles lower upper n count p₀ q₀ least₀ p q least = count - q .0
 
 loop-holds : tie.Need-loop-holds Inv-loop μ-loop
 loop-holds c =
@@ -32,119 +33,97 @@ loop-holds c =
     let long = start .pre .0 in
     (refl, omega arith, omega arith, omega arith, omega arith, kept-start _ _ _ _)
 
-number-at-requires : tie.Need-number-at-requires Inv-loop μ-loop
-number-at-requires c κs = search needs
-
-number-at-requires-2 : tie.Need-number-at-requires-2 Inv-loop μ-loop
-number-at-requires-2 c κs = search needs
-
 returns : tie.Need-returns Inv-loop μ-loop
 returns c =
-    let at = c .before .before .before .before in
+    let read = c .before in
+    let at = read .before .before .before .before in
     let l = at .loop in
     let inv = l .inv in
-    let test = c .before .before .before .loop-test in
+    let test = read .before .before .if1 .taken in
     let a = at .before .before .before .before .args in
     let S = numbersIn (now (a .singles)) in
     let L = numbersIn (now (a .lower)) in
     let U = numbersIn (now (a .upper)) in
-    let el = c .before .before .number-at .ensures in
-    let eu = c .before .number-at2 .ensures in
-    sym (inv .5 ∙ kept-pair-short (a .n) S L U (l .least) (l .p .0) (l .q) (omega arith) (inv .3) (omega arith) (omega (arith, c .if1 .taken)))
+    let el = read .before .number-at .ensures in
+    let eu = read .number-at2 .ensures in
+    sym (inv .5 ∙ kept-pair-short (a .n) S L U (l .least) (l .p .0) (l .q .0) (omega arith) (inv .3) (omega arith) (omega (arith, c .if2 .taken)))
 
 returns-2 : tie.Need-returns-2 Inv-loop μ-loop
 returns-2 c =
-    let at = c .before .before .before .before .before in
+    let read = c .before .before in
+    let at = read .before .before .before .before in
     let l = at .loop in
     let inv = l .inv in
-    let test = c .before .before .before .before .loop-test in
+    let test = read .before .before .if1 .taken in
     let a = at .before .before .before .before .args in
     let S = numbersIn (now (a .singles)) in
     let L = numbersIn (now (a .lower)) in
     let U = numbersIn (now (a .upper)) in
-    let el = c .before .before .before .number-at .ensures in
-    let eu = c .before .before .number-at2 .ensures in
-    sym (inv .5 ∙ kept-pair-over (a .n) S L U (l .least) (l .p .0) (l .q) (omega arith) (inv .3) (omega arith) (omega (arith, c .if2 .taken)))
-
-pass-singles-requires : tie.Need-pass-singles-requires Inv-loop μ-loop
-pass-singles-requires c κs = search needs
+    let el = read .before .number-at .ensures in
+    let eu = read .number-at2 .ensures in
+    sym (inv .5 ∙ kept-pair-over (a .n) S L U (l .least) (l .p .0) (l .q .0) (omega arith) (inv .3) (omega arith) (omega (arith, c .if3 .taken)))
 
 returns-3 : tie.Need-returns-3 Inv-loop μ-loop
 returns-3 c =
-    let at = c .before .before .before .before .before .before .before .before in
+    let read = c .before .before .before .before .before in
+    let at = read .before .before .before .before in
     let l = at .loop in
     let inv = l .inv in
-    let test = c .before .before .before .before .before .before .before .loop-test in
-    let a = at .before .before .before .before .args in
+    let test = read .before .before .if1 .taken in
+    let start = at .before .before .before .before in
+    let a = start .args in
     let S = numbersIn (now (a .singles)) in
     let L = numbersIn (now (a .lower)) in
     let U = numbersIn (now (a .upper)) in
-    let el = c .before .before .before .before .before .before .number-at .ensures in
-    let eu = c .before .before .before .before .before .number-at2 .ensures in
-    let high = at .before .before .before .before .pre .1 in
+    let low = read .before .number-at in
+    let high = read .number-at2 in
     let pass = c .before .before .pass-singles in
-    let lower = c .before .before .before .before .before .before .number-at .result in
-    let upper = c .before .before .before .before .before .number-at2 .result in
-    let lu = c .before .before .before .before .if1 .left in
-    let un = c .before .before .before .if2 .left in
+    let lu = c .before .before .before .before .if2 .left in
+    let un = c .before .before .before .if3 .left in
     sym
     (inv .5
-    ∙ turn-near (a .n) S L U high (omega arith) (l .least) (l .p .0) (l .q) (inv .3)
-    lower upper (pass .result) (omega arith) el eu (omega arith) (omega arith) (pass .ensures) (c .if3 .taken))
-
-add-least : tie.Need-add-least Inv-loop μ-loop
-add-least c = search needs
-
-add-q : tie.Need-add-q Inv-loop μ-loop
-add-q c = search needs
-
-loop-less : tie.Need-loop-less Inv-loop μ-loop
-loop-less c = search needs
+    ∙ turn-near (a .n) S L U (start .pre .1) (omega arith) (l .least) (l .p .0) (l .q .0) (inv .3)
+    (low .result) (high .result) (pass .result) (omega arith) (low .ensures) (high .ensures) (omega arith) (omega arith) (pass .ensures) (c .if4 .taken))
 
 loop-again : tie.Need-loop-again Inv-loop μ-loop
 loop-again c =
-    let at = c .before .before .before .before .before .before .before .before .before in
+    let passed = c .before .before .before .before in
+    let read = passed .before .before .before in
+    let at = read .before .before .before .before in
     let l = at .loop in
     let inv = l .inv in
-    let test = c .before .before .before .before .before .before .before .before .loop-test in
-    let a = at .before .before .before .before .args in
+    let test = read .before .before .if1 .taken in
+    let start = at .before .before .before .before in
+    let a = start .args in
     let S = numbersIn (now (a .singles)) in
     let L = numbersIn (now (a .lower)) in
     let U = numbersIn (now (a .upper)) in
-    let el = c .before .before .before .before .before .before .before .number-at .ensures in
-    let eu = c .before .before .before .before .before .before .number-at2 .ensures in
-    let high = at .before .before .before .before .pre .1 in
-    let pass = c .before .before .before .pass-singles in
-    let lower = c .before .before .before .before .before .before .before .number-at .result in
-    let upper = c .before .before .before .before .before .before .number-at2 .result in
-    let lu = c .before .before .before .before .before .if1 .left in
-    let un = c .before .before .before .before .if2 .left in
+    let low = read .before .number-at in
+    let high = read .number-at2 in
+    let pass = passed .pass-singles in
+    let lu = passed .before .before .if2 .left in
+    let un = passed .before .if3 .left in
     let t =
-    turn-on (a .n) S L U high (omega arith) (l .least) (l .p .0) (l .q) (inv .3)
-    lower upper (pass .result) (omega arith) el eu (omega arith) (omega arith) (pass .ensures) (c .before .if3 .left) in
+    turn-on (a .n) S L U (start .pre .1) (omega arith) (l .least) (l .p .0) (l .q .0) (inv .3)
+    (low .result) (high .result) (pass .result) (omega arith) (low .ensures) (high .ensures) (omega arith) (omega arith) (pass .ensures) (c .before .before .if4 .left) in
     (inv .0, inv .1, inv .2, t .0, omega arith, inv .5 ∙ t .1)
-
-add-pass-singles : tie.Need-add-pass-singles Inv-loop μ-loop
-add-pass-singles c = search needs
-
-pass-singles-requires-2 : tie.Need-pass-singles-requires-2 Inv-loop μ-loop
-pass-singles-requires-2 c κs = search needs
 
 returns-4 : tie.Need-returns-4 Inv-loop μ-loop
 returns-4 c =
-    let at = c .before .before .before .before in
+    let rest = c .before .before .pass-singles2 in
+    let at = c .before .before .before .before .before in
     let l = at .loop in
     let inv = l .inv in
-    let test = c .before .before .before .loop-test in
-    let a = at .before .before .before .before .args in
+    let test = c .before .before .before .if1 .left in
+    let start = at .before .before .before .before in
+    let a = start .args in
     let S = numbersIn (now (a .singles)) in
     let L = numbersIn (now (a .lower)) in
     let U = numbersIn (now (a .upper)) in
-    let rest = c .before .before .pass-singles2 in
     let ns = numbersIn-length (now (a .singles)) in
     sym
     (inv .5
-    ∙ end-decides (a .n) S L U (at .before .before .before .before .pre .1) (omega arith) (l .least) (l .p .0) (l .q) (inv .3) (rest .result) (omega arith) (rest .ensures)
+    ∙ end-decides (a .n) S L U (start .pre .1) (omega arith) (l .least) (l .p .0) (l .q .0) (inv .3) (rest .result) (omega arith) (rest .ensures)
     ∙ rw ns)
 
 pub is-kept-spec : {M : Type 1} → statement M
@@ -154,16 +133,16 @@ is-kept-spec =
     Inv-loop
     μ-loop
     loop-holds
-    number-at-requires
-    number-at-requires-2
+    (λ c κs. search needs)
+    (λ c κs. search needs)
     returns
     returns-2
-    pass-singles-requires
+    (λ c κs. search needs)
     returns-3
-    add-least
-    add-q
-    loop-less
+    (λ c. search needs)
+    (λ c. search needs)
+    (λ c. search needs)
     loop-again
-    add-pass-singles
-    pass-singles-requires-2
+    (λ c. search needs)
+    (λ c κs. search needs)
     returns-4)

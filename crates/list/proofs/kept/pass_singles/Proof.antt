@@ -13,69 +13,58 @@ use Rattle.list.proofs.kept.pass_singles.Statement.{statement}
 use Rattle.list.proofs.kept.pass_singles.Tie as tie
 
 abbrev Inv-loop : tie.InvT-loop
-Inv-loop singles bound least0 count i₀ least₀ i least =
-    (count ≡ length singles / 4) × (passed bound least₀ i₀ (drop i₀ (numbersIn singles)) ≡ passed bound least i (drop i (numbersIn singles)))
+Inv-loop singles bound least0 count p₀ least₀ p least =
+    (count ≡ length singles / 4)
+    × (passed bound least₀ (p₀ .0) (drop (p₀ .0) (numbersIn singles)) ≡ passed bound least (p .0) (drop (p .0) (numbersIn singles)))
 
 abbrev μ-loop : tie.MeasureT-loop
-μ-loop singles bound least0 count i₀ least₀ i least = count - i
-
-loop-holds : tie.Need-loop-holds Inv-loop μ-loop
-loop-holds c = (refl, refl)
-
-number-at-requires : tie.Need-number-at-requires Inv-loop μ-loop
-number-at-requires c κs = search needs
+μ-loop singles bound least0 count p₀ least₀ p least = count - p .0
 
 returns : tie.Need-returns Inv-loop μ-loop
 returns c =
-    let at = c .before .before .before in
+    let at = c .before .before .before .before in
     let l = at .loop in
     let a = at .before .before .args in
     let xs = numbersIn (now (a .singles)) in
     let n = numbersIn-length (now (a .singles)) in
     let e = c .before .number-at .ensures in
-    sym (l .inv .1 ∙ passed-stop (a .bound) (l .least) xs (l .i) (omega arith) (omega (arith, c .if1 .taken)))
+    sym (l .inv .1 ∙ passed-stop (a .bound) (l .least) xs (l .p .0) (omega (arith, c .before .before .if1 .taken)) (omega (arith, c .if2 .taken)))
 
 returns-2 : tie.Need-returns-2 Inv-loop μ-loop
 returns-2 c =
-    let at = c .before .before .before .before in
+    let at = c .before .before .before .before .before in
     let l = at .loop in
     let a = at .before .before .args in
     let xs = numbersIn (now (a .singles)) in
     let n = numbersIn-length (now (a .singles)) in
     let e = c .before .before .number-at .ensures in
-    sym (l .inv .1 ∙ passed-bad (a .bound) (l .least) xs (l .i) (omega arith) (omega (arith, c .before .if1 .left)) (omega (arith, c .if2 .taken)))
-
-add-least : tie.Need-add-least Inv-loop μ-loop
-add-least c = search needs
-
-add-i : tie.Need-add-i Inv-loop μ-loop
-add-i c = search needs
-
-loop-less : tie.Need-loop-less Inv-loop μ-loop
-loop-less c = search needs
+    sym
+    (l .inv .1
+    ∙ passed-bad (a .bound) (l .least) xs (l .p .0) (omega (arith, c .before .before .before .if1 .taken)) (omega (arith, c .before .if2 .left)) (omega (arith, c .if3 .taken)))
 
 loop-again : tie.Need-loop-again Inv-loop μ-loop
 loop-again c =
-    let at = c .before .before .before .before in
+    let read = c .before .before .before in
+    let at = read .before .before .before in
     let l = at .loop in
     let a = at .before .before .args in
     let xs = numbersIn (now (a .singles)) in
     let n = numbersIn-length (now (a .singles)) in
-    let e = c .before .before .number-at .ensures in (
+    let e = read .number-at .ensures in (
       refl,
       l .inv .1
-          ∙ passed-on (a .bound) (l .least) xs (l .i) (omega arith) (omega (arith, c .before .if1 .left)) (omega (arith, c .if2 .left))
+          ∙ passed-on (a .bound) (l .least) xs (l .p .0) (omega (arith, read .before .if1 .taken)) (omega (arith, c .before .before .if2 .left)) (omega (arith, c .before .if3 .left))
           ∙ rw e,
     )
 
 returns-3 : tie.Need-returns-3 Inv-loop μ-loop
 returns-3 c =
-    let at = c .before in
+    let at = c .before .before in
     let l = at .loop in
     let a = at .before .before .args in
     let xs = numbersIn (now (a .singles)) in
     let n = numbersIn-length (now (a .singles)) in
-    sym (l .inv .1 ∙ passed-end (a .bound) (l .least) xs (l .i) (omega arith))
+    sym (l .inv .1 ∙ passed-end (a .bound) (l .least) xs (l .p .0) (omega (arith, c .if1 .left)))
 
 pub pass-singles-spec : {M : Type 1} → statement M
 pass-singles-spec =
@@ -83,12 +72,12 @@ pass-singles-spec =
     (tie.spec
     Inv-loop
     μ-loop
-    loop-holds
-    number-at-requires
+    (λ c. (refl, refl))
+    (λ c κs. search needs)
     returns
     returns-2
-    add-least
-    add-i
-    loop-less
+    (λ c. search needs)
+    (λ c. search needs)
+    (λ c. search needs)
     loop-again
     returns-3)

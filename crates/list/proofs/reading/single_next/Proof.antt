@@ -12,40 +12,33 @@ use borrow.Author.Needs.{needs}
 use Rattle.list.proofs.reading.single_next.Statement.{statement}
 use Rattle.list.proofs.reading.single_next.Tie as tie
 
-number-at-requires : tie.Need-number-at-requires
-number-at-requires c κs = search needs
-
-number-at-requires-2 : tie.Need-number-at-requires-2
-number-at-requires-2 c κs = search needs
-
 returns : tie.Need-returns
 returns c =
+    let both = c .before .before in
+    let a = both .before .before .before .before .before .before .args in
+    let S = numbersIn (now (a .singles)) in
+    let L = numbersIn (now (a .lower)) in
+    let ns = numbersIn-length (now (a .singles)) in
+    let nl = numbersIn-length (now (a .lower)) in
+    rw (lt-ltb (a .p .0) (length S) (omega (arith, both .before .before .if1 .taken)), lt-ltb (a .q .0) (length L) (omega (arith, both .if2 .taken)))
+    (ap₂ ltb (c .before .number-at .ensures) (c .number-at2 .ensures))
+
+returns-2 : tie.Need-returns-2
+returns-2 c =
     let a = c .before .before .before .before .before .before .args in
     let S = numbersIn (now (a .singles)) in
     let L = numbersIn (now (a .lower)) in
     let ns = numbersIn-length (now (a .singles)) in
     let nl = numbersIn-length (now (a .lower)) in
-    rw (lt-ltb (a .p .0) (length S) (omega (arith, c .before .before .before .if1 .taken)), lt-ltb (a .q .0) (length L) (omega (arith, c .before .before .if2 .taken)))
-    (ap₂ ltb (c .before .number-at .ensures) (c .number-at2 .ensures))
-
-returns-2 : tie.Need-returns-2
-returns-2 c =
-    let a = c .before .before .before .before .args in
-    let S = numbersIn (now (a .singles)) in
-    let L = numbersIn (now (a .lower)) in
-    let ns = numbersIn-length (now (a .singles)) in
-    let nl = numbersIn-length (now (a .lower)) in
-    rw (lt-ltb (a .p .0) (length S) (omega (arith, c .before .if1 .taken)), le-ltb (a .q .0) (length L) (omega (arith, c .if2 .left)))
+    rw (lt-ltb (a .p .0) (length S) (omega (arith, c .before .before .if1 .taken)), le-ltb (a .q .0) (length L) (omega (arith, c .if2 .left)))
 
 returns-3 : tie.Need-returns-3
 returns-3 c =
-    let a = c .before .before .before .args in
+    let a = c .before .before .before .before .args in
     let S = numbersIn (now (a .singles)) in
-    let L = numbersIn (now (a .lower)) in
     let ns = numbersIn-length (now (a .singles)) in
-    let nl = numbersIn-length (now (a .lower)) in
     rw (le-ltb (a .p .0) (length S) (omega (arith, c .if1 .left)))
 
 pub single-next-spec : {M : Type 1} → statement M
 single-next-spec =
-    tie.close (tie.spec number-at-requires number-at-requires-2 returns returns-2 returns-3)
+    tie.close (tie.spec (λ c κs. search needs) (λ c κs. search needs) returns returns-2 returns-3)

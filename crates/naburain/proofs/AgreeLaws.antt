@@ -1,0 +1,99 @@
+-- The two calls for an entry's word agree, whatever the index and the number.
+use Prim.Native.Nat.{ℕ, _+_, _≤_, _<_}
+use mathlib.Core.Path.{_≡_, refl, sym, _∙_}
+use mathlib.Core.List.{[]}
+use native.Mathlib.Omega.{arith}
+use lib.ListN.{length}
+use Rattle.refusal.specs.declared.Refusal.{Refusal}
+use Rattle.refusal.specs.declared.Refusal.the-variants.{
+  IndexLength,
+  Edition,
+  Trailer,
+  Directory,
+  KeptList,
+  QuestionLength,
+  QuestionByte,
+  LongWord,
+  Grammar,
+  WordLimit,
+  BracketLimit,
+  Room,
+  ListCount,
+  EntryNumber,
+  Number,
+  Interval,
+  BuildWord,
+  BuildCount,
+  BuildLimit,
+  ProbeRange,
+  Missing,
+}
+use Rattle.refusal.specs.Refusal.{numberOf}
+use Rattle.index.specs.declared.Checked.{Checked}
+use Rattle.index.specs.declared.Checked.the-variants.{Good, Refused}
+use Rattle.index.specs.Format.{wordStart, wordLength, wordOf}
+use Rattle.index.specs.Part.{Slice, partOf}
+use Rattle.index.specs.Entry.{entryOf, entryWord}
+use Rattle.index.proofs.SoundLaws.{part-length, sound-word-room}
+use Rattle.index.proofs.AnswerLaws.{entry-good, start-answered, start-refused, length-answered, length-refused}
+use Rattle.naburain.specs.declared.WordResult.{WordResult}
+use Rattle.naburain.specs.Result.{wordResult}
+use Rattle.naburain.specs.Agree.{Reported}
+
+-- 0 is the number of no refusal, so that a caller tells an answer by it
+pub number-above-zero : (r : Refusal) → 0 < numberOf r
+number-above-zero (IndexLength n) = omega arith
+number-above-zero (Edition e) = omega arith
+number-above-zero Trailer = omega arith
+number-above-zero (Directory i) = omega arith
+number-above-zero (KeptList i) = omega arith
+number-above-zero (QuestionLength n) = omega arith
+number-above-zero (QuestionByte i) = omega arith
+number-above-zero (LongWord i) = omega arith
+number-above-zero (Grammar i) = omega arith
+number-above-zero (WordLimit i) = omega arith
+number-above-zero (BracketLimit i) = omega arith
+number-above-zero (Room n) = omega arith
+number-above-zero (ListCount n) = omega arith
+number-above-zero (EntryNumber i) = omega arith
+number-above-zero (Number i) = omega arith
+number-above-zero (Interval i) = omega arith
+number-above-zero (BuildWord i) = omega arith
+number-above-zero (BuildCount i) = omega arith
+number-above-zero (BuildLimit i) = omega arith
+number-above-zero ProbeRange = omega arith
+number-above-zero Missing = omega arith
+
+-- by what the index and the number are refused by, if anything
+agree-at : (index : Slice) (i : ℕ) (k : Checked) → entryOf (index .bytes) i ≡ k →
+    Reported index i (entryWord index i) (wordResult k (wordStart (index .bytes) i) (wordLength (index .bytes) i))
+unfolding wordOf
+agree-at index i Good e =
+    let s = start-answered (index .bytes) i e in
+    let n = length-answered (index .bytes) i e in
+    let g = entry-good (index .bytes) i e in
+    let room = sound-word-room (index .bytes) (g .0) i (g .1) in
+    record {
+      part = rw (s, n);
+      within = room;
+      long = rw (s, n) (part-length (wordStart (index .bytes) i) (wordLength (index .bytes) i) (index .bytes) room);
+      word = λ z. rw (s, n);
+      empty = λ z. absurd (z refl);
+    }
+agree-at index i (Refused x) e =
+    let s = start-refused (index .bytes) i x e in
+    let n = length-refused (index .bytes) i x e in
+    let above = number-above-zero x in
+    record {
+      part = rw (s, n);
+      within = omega arith;
+      long = rw (s, n);
+      word = λ (z : numberOf x ≡ 0). absurd (omega arith);
+      empty = λ z. rw (s, n);
+    }
+
+-- any return that the contract of the one call allows, and any that the other's does
+pub word-parts-agree : (index : Slice) (i : ℕ) (r : Slice) (w : WordResult) →
+    r ≡ entryWord index i → w ≡ wordResult (entryOf (index .bytes) i) (wordStart (index .bytes) i) (wordLength (index .bytes) i) →
+    Reported index i r w
+word-parts-agree index i r w p q = rw (p, q) (agree-at index i (entryOf (index .bytes) i) refl)
