@@ -13,3 +13,4 @@ pub mod PlaceLaws
 pub mod TreeWords
 pub mod MeaningLaws
 pub mod LevelLaws
+pub mod ResultLaws
