@@ -482,52 +482,122 @@ static void bench_build(void)
     free(bytes);
 }
 
-int main(void)
+/* What every table is made from: the corpora, and room for the cells of two engines. */
+struct bench {
+    struct corpus *corpora;
+    size_t count;
+    uint32_t *ours, *theirs;
+    size_t room;
+};
+
+static void table_check(const struct bench *b)
 {
-    enum { COUNT = sizeof KINDS / sizeof KINDS[0] };
+    bench_check(b->corpora, b->count);
+}
+
+static void table_questions(const struct bench *b)
+{
+    printf("\nQuestions (microseconds; best of 12): both sides check the whole index, read the question and answer it; `answer` is without the check\n");
+    printf("%-10s %-22s %9s %9s %9s %6s %9s %9s %6s %9s %7s\n", "corpus", "question", "intervals", "naburain", "C engine", "ratio", "answer",
+           "C answer", "ratio", "list sum", "ans/sum");
+    for (size_t i = 0; i < b->count; i++) {
+        bench_questions(&b->corpora[i], b->ours, b->theirs, b->room);
+    }
+}
+
+static void table_joins(const struct bench *b)
+{
+    printf("\nJoins (as questions; the C engine's union and intersection are its windows)\n");
+    printf("%-10s %-22s %-12s %9s %9s %9s %6s %9s %9s %6s\n", "corpus", "method", "lists", "intervals", "naburain", "C engine", "ratio", "answer",
+           "C answer", "ratio");
+    for (size_t i = 0; i < b->count; i++) {
+        bench_joins(&b->corpora[i], 0, b->ours, b->theirs, b->room);
+    }
+}
+
+static void table_methods(const struct bench *b)
+{
+    printf("\nJoins by the same method in C: places moved on in one array, and, `by value`, all 16 handed on at each step\n");
+    printf("%-10s %-22s %-12s %9s %9s %9s %6s %9s %9s %6s\n", "corpus", "method", "lists", "intervals", "naburain", "C", "ratio", "answer", "C answer",
+           "ratio");
+    for (size_t i = 0; i < b->count; i++) {
+        bench_methods(&b->corpora[i], b->ours, b->theirs, b->room);
+    }
+}
+
+static void table_growth(const struct bench *b)
+{
+    bench_growth(b->ours, b->room);
+}
+
+static void table_rust(const struct bench *b)
+{
+    printf("\nThe independent Rust implementation (microseconds; best of 12): both sides check the whole index and answer; `answer` is without the check\n");
+    printf("%-10s %-22s %-12s %9s %9s %9s %6s %9s %9s %6s\n", "corpus", "question or method", "lists", "intervals", "naburain", "Rust", "ratio",
+           "answer", "Rust ans.", "ratio");
+    for (size_t i = 0; i < b->count; i++) {
+        bench_reference(&b->corpora[i], b->ours, b->theirs, b->room);
+    }
+}
+
+static void table_others(const struct bench *b)
+{
+    printf("\nOther engines, where their libraries are here (microseconds; `answer` is naburain's without the check, which the others do not make)\n");
+    printf("%-10s %-22s %-8s %10s %10s %8s\n", "corpus", "question", "engine", "answer", "engine", "ratio");
+    for (size_t i = 0; i < b->count; i++) {
+        bench_others(&b->corpora[i], b->ours, b->room);
+    }
+}
+
+static void table_build(const struct bench *b)
+{
+    (void)b;
+    bench_build();
+}
+
+static const struct {
+    const char *name;
+    void (*print)(const struct bench *b);
+} TABLES[] = {{"check", table_check},   {"questions", table_questions}, {"joins", table_joins},   {"methods", table_methods},
+              {"growth", table_growth}, {"rust", table_rust},           {"others", table_others}, {"build", table_build}};
+
+/* Prints all tables, or those whose name is given. */
+static int print_tables(const struct bench *b, const char *name)
+{
+    int printed = 0;
+    for (size_t i = 0; i < sizeof TABLES / sizeof TABLES[0]; i++) {
+        if (name == NULL || strcmp(name, TABLES[i].name) == 0) {
+            TABLES[i].print(b);
+            printed = 1;
+        }
+    }
+    return printed;
+}
+
+static int usage(void)
+{
+    fprintf(stderr, "bench [TABLE]: all tables, or one of");
+    for (size_t i = 0; i < sizeof TABLES / sizeof TABLES[0]; i++) {
+        fprintf(stderr, " %s", TABLES[i].name);
+    }
+    fprintf(stderr, "\n");
+    return 2;
+}
+
+int main(int count, char **words)
+{
+    enum { COUNT = sizeof KINDS / sizeof KINDS[0], ROOM = 8 << 20 };
     struct corpus corpora[COUNT];
-    size_t room = 8u << 20;
-    uint32_t *ours = must(malloc(room * sizeof *ours)), *theirs = must(malloc(room * sizeof *theirs));
+    struct bench b = {corpora, COUNT, must(malloc(ROOM * sizeof *b.ours)), must(malloc(ROOM * sizeof *b.theirs)), ROOM};
     printf("Corpora\n%-10s %10s %10s %12s\n", "corpus", "N", "bytes", "records");
     for (size_t i = 0; i < COUNT; i++) {
         corpora[i] = make_corpus(&KINDS[i]);
         printf("%-10s %10u %10zu %12zu\n", corpora[i].name, corpora[i].highest, corpora[i].length, corpora[i].numbers);
     }
-    bench_check(corpora, COUNT);
-    printf("\nQuestions (microseconds; best of 12): both sides check the whole index, read the question and answer it; `answer` is without the check\n");
-    printf("%-10s %-22s %9s %9s %9s %6s %9s %9s %6s %9s %7s\n", "corpus", "question", "intervals", "naburain", "C engine", "ratio", "answer",
-           "C answer", "ratio", "list sum", "ans/sum");
-    for (size_t i = 0; i < COUNT; i++) {
-        bench_questions(&corpora[i], ours, theirs, room);
-    }
-    printf("\nJoins (as questions; the C engine's union and intersection are its windows)\n");
-    printf("%-10s %-22s %-12s %9s %9s %9s %6s %9s %9s %6s\n", "corpus", "method", "lists", "intervals", "naburain", "C engine", "ratio", "answer",
-           "C answer", "ratio");
-    for (size_t i = 0; i < COUNT; i++) {
-        bench_joins(&corpora[i], 0, ours, theirs, room);
-    }
-    printf("\nJoins by the same method in C: places moved on in one array, and, `by value`, all 16 handed on at each step\n");
-    printf("%-10s %-22s %-12s %9s %9s %9s %6s %9s %9s %6s\n", "corpus", "method", "lists", "intervals", "naburain", "C", "ratio", "answer", "C answer",
-           "ratio");
-    for (size_t i = 0; i < COUNT; i++) {
-        bench_methods(&corpora[i], ours, theirs, room);
-    }
-    bench_growth(ours, room);
-    printf("\nThe independent Rust implementation (microseconds; best of 12): both sides check the whole index and answer; `answer` is without the check\n");
-    printf("%-10s %-22s %-12s %9s %9s %9s %6s %9s %9s %6s\n", "corpus", "question or method", "lists", "intervals", "naburain", "Rust", "ratio",
-           "answer", "Rust ans.", "ratio");
-    for (size_t i = 0; i < COUNT; i++) {
-        bench_reference(&corpora[i], ours, theirs, room);
-    }
-    printf("\nOther engines, where their libraries are here (microseconds; `answer` is naburain's without the check, which the others do not make)\n");
-    printf("%-10s %-22s %-8s %10s %10s %8s\n", "corpus", "question", "engine", "answer", "engine", "ratio");
-    for (size_t i = 0; i < COUNT; i++) {
-        bench_others(&corpora[i], ours, room);
-    }
-    bench_build();
+    int status = print_tables(&b, count > 1 ? words[1] : NULL) ? 0 : usage();
     for (size_t i = 0; i < COUNT; i++) {
         free_corpus(&corpora[i]);
     }
-    free(ours), free(theirs);
-    return 0;
+    free(b.ours), free(b.theirs);
+    return status;
 }

@@ -212,11 +212,12 @@ static enum ended build(const struct catalogue *catalogue, const struct lent *le
     uint8_t *bytes = grown(NULL, length, 1);
     built = naburain_build(highest, lent->words, lent->words_length, lent->counts, catalogue->count, lent->numbers, lent->numbers_length,
                            bytes, length);
-    enum ended ended = built.refusal == 0 && write_file(path, bytes, length) ? ANSWERED : UNUSABLE;
-    if (ended == ANSWERED) {
+    enum ended ended = UNUSABLE;
+    if (built.refusal != 0) {
+        explain(built.refusal, built.value);
+    } else if (write_file(path, bytes, length)) {
         printf("%s: %zu words, records 1 to %" PRIu32 ", %zu bytes\n", path, catalogue->count, highest, length);
-    } else {
-        fprintf(stderr, "desk: cannot write %s\n", path);
+        ended = ANSWERED;
     }
     free(bytes);
     return ended;

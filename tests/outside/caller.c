@@ -1,5 +1,5 @@
 /* Calls every exported function through the header, each slice in an allocation of exactly its size, so that a memory checker sees every
- * element read or written too far: document 01's example, then the same calls over that index with each byte changed in turn. */
+ * element read or written too far: the example of Reference 4.4, then the same calls over that index with each byte changed in turn. */
 #include "naburain.h"
 
 #include <stdio.h>

@@ -16,3 +16,4 @@ pub mod PlaceLaws
 pub mod TreeWords
 pub mod MeaningLaws
 pub mod LevelLaws
+pub mod ResultLaws

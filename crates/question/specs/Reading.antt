@@ -6,6 +6,7 @@ use lib.ListN.{length, getD, drop}
 use lib.Dec.{ltb, eqb}
 use Rattle.word.specs.Word.{isWordByte}
 use Rattle.refusal.specs.First.{first}
+use Rattle.refusal.specs.Refusal.{numberOf, valueOf}
 use Rattle.refusal.specs.declared.Found.{Found}
 use Rattle.refusal.specs.declared.Found.the-variants.{At, Nowhere}
 use Rattle.refusal.specs.declared.Refusal.{Refusal}
@@ -69,3 +70,8 @@ answer (refuses refusal) = Refused refusal
 
 unfoldable pub readingOf : List ℕ → Reading
 readingOf s = answer (asked fromLeft s)
+
+-- the answer as two numbers: 0 and how many words, or the refusal's number and value
+abbrev pub readingResult : Reading → ℕ × ℕ
+readingResult (Accepted words) = (0, words)
+readingResult (Refused refusal) = (numberOf refusal, valueOf refusal)

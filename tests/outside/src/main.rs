@@ -5,7 +5,7 @@
 
 mod archive;
 mod calls;
-mod document;
+mod example;
 mod families;
 mod fence;
 mod make;
@@ -81,7 +81,7 @@ fn run(family: &'static Family, caller: &mut Caller, options: &Options) -> bool 
 
 fn main() {
     let options = options();
-    println!("reference      {:>8} facts of document 01", document::run());
+    println!("reference      {:>8} facts of the example and of sets", example::run());
     if options.reference {
         return;
     }

@@ -1,7 +1,7 @@
-//! Document 01's "To be run", the ends of every range, and the borders of windows of 8,192 records.
+//! The ends of every range, each limit and one more, and the borders of windows of 8,192 records.
 
 use crate::calls::{Caller, Outcome};
-use crate::document;
+use crate::example::example;
 use crate::random::Random;
 use crate::reference::build::encode;
 use crate::reference::join::{join, Join};
@@ -40,7 +40,7 @@ fn joined(caller: &mut Caller, index: &[u8], entries: &[u32]) -> Outcome {
 }
 
 fn questions(caller: &mut Caller) -> Outcome {
-    let index = document::example();
+    let index = example();
     let words = |n: usize| vec!["boats"; n].join(" or ");
     let nested = |n: usize| format!("{}maps{}", "(".repeat(n), ")".repeat(n));
     let table = [
@@ -82,7 +82,7 @@ fn questions(caller: &mut Caller) -> Outcome {
 }
 
 fn twice(caller: &mut Caller) -> Outcome {
-    let index = document::example();
+    let index = example();
     for entries in [&[0][..], &[2, 2], &[1, 3, 1], &[0; 16], &[0; 17], &[9; 17], &[], &[0, 4], &[u32::MAX, 4], &[3, 2, 1, 0]] {
         joined(caller, &index, entries)?;
     }

@@ -8,7 +8,7 @@ pub mod join;
 pub mod limits;
 
 use crate::calls::{Caller, Outcome};
-use crate::document;
+use crate::example::example;
 use crate::make;
 use crate::random::Random;
 
@@ -52,7 +52,7 @@ fn check(caller: &mut Caller, random: &mut Random) -> Outcome {
 
 /// Each bit of a small sound index flipped, one at a time, each byte set to its ends, each length cut: all calls over an index.
 fn damage(caller: &mut Caller, random: &mut Random) -> Outcome {
-    let mut bytes = if random.one_in(10) { document::example() } else { small(random) };
+    let mut bytes = if random.one_in(10) { example() } else { small(random) };
     caller.check(&bytes)?;
     for place in 0..bytes.len() {
         let old = bytes[place];

@@ -1,4 +1,4 @@
-//! "The index and its trailer": the check, lookup, an entry's word, and probing.
+//! The index (Reference 4, 5): the check, lookup, an entry's word, and probing.
 
 use super::set::{Interval, Set};
 use super::{is_word, refuse, Answer, INDEX_MAX, INDEX_MIN, RECORD_MAX, WORDS_MAX};
@@ -108,7 +108,7 @@ fn read_list(bytes: &[u8], line: &Line, highest: u32) -> Option<Set> {
     Some(Set::of(walked))
 }
 
-/// "A lookup answers the word's entry number": refusal 21 for all else, any bytes.
+/// The number of the entry with these bytes; refusal 21 for all else, whatever the bytes.
 pub fn lookup(bytes: &[u8], word: &[u8]) -> Answer<u64> {
     let index = read(bytes)?;
     match index.entries.iter().position(|entry| entry.word == word) {

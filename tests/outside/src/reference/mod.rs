@@ -1,4 +1,4 @@
-//! Document 01 once more, written from the document alone: plain, slow where that is shorter, and knowing nothing of the library.
+//! docs/REFERENCE.md once more: plain, slow where that is shorter, and knowing nothing of the library.
 
 pub mod build;
 pub mod convert;
@@ -31,12 +31,12 @@ pub fn refuse<T>(number: u64, value: u64) -> Answer<T> {
     Err(Refusal { number, value })
 }
 
-/// "A word consists of A-Z, a-z and 0-9."
+/// A digit or a letter of ASCII (Reference 2).
 pub fn is_word_byte(byte: u8) -> bool {
     byte.is_ascii_alphanumeric()
 }
 
-/// "Operators are `and`, `or`, `not`, in small letters only."
+/// The three operators; in capitals they are words.
 pub fn is_operator(word: &[u8]) -> bool {
     matches!(word, b"and" | b"or" | b"not")
 }

@@ -1,4 +1,4 @@
-//! "Questions": tokens, grammar and answers, by one stack and no recursion.
+//! Questions (Reference 6): tokens, grammar and answers, by one stack and no recursion.
 
 use super::index::{read, Index};
 use super::set::Set;

@@ -1,4 +1,4 @@
-//! The reference against document 01's own example and P1 to P12, and its sets against plain tests on numbers.
+//! The reference against the example (Reference 4.4) and P1 to P12 (Reference 12), and its sets against plain tests on numbers.
 
 use crate::random::Random;
 use crate::reference::build::{build, encode};
@@ -13,7 +13,7 @@ const WORDS: &[u8] = b"boats\nharbour\nmaps\ntide\n";
 const COUNTS: [u32; 4] = [4, 5, 4, 3];
 const NUMBERS: [u32; 16] = [2, 3, 4, 8, 1, 2, 3, 6, 7, 5, 6, 7, 9, 3, 8, 9];
 
-/// Document 01's index: N = 9.
+/// The example's index: N = 9.
 pub fn example() -> Vec<u8> {
     build(9, WORDS, &COUNTS, &NUMBERS).unwrap()
 }

@@ -1,0 +1,15 @@
+-- The two numbers of an answer are pinned: at a word, at no question, and at two words with nothing between.
+use mathlib.Core.Path.{_≡_, refl}
+use mathlib.Core.List.{[], _∷_}
+use Rattle.word.specs.Word.{isWordByte, same, isAnd, isOr, isNot, operatorOf}
+use Rattle.refusal.specs.First.{firstFrom, first}
+use Rattle.question.specs.Token.{run, gather, tokensAt, tokens}
+use Rattle.question.specs.Grammar.{fromLeft, question, operand, links, whole}
+use Rattle.question.specs.Reading.{isForeign, refusalOf, asked, readingOf, readingResult}
+
+pub results-pinned :
+    (readingResult (readingOf (97 ∷ [])) ≡ (0, 1))
+    × (readingResult (readingOf []) ≡ (9, 0))
+    × (readingResult (readingOf (97 ∷ 32 ∷ 98 ∷ [])) ≡ (9, 2))
+unfolding isWordByte same isAnd isOr isNot operatorOf firstFrom first run gather tokensAt tokens fromLeft question operand links whole isForeign refusalOf asked readingOf
+results-pinned = (refl, refl, refl)
