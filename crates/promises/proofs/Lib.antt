@@ -1,7 +1,9 @@
 pub mod Determined
 pub mod ExampleLaws
 pub mod Table
+pub mod Numbers
 pub mod WrongLaws
+pub mod Made
 pub mod WrongConversions
 pub mod WrongReturns
 pub mod WrongAsk
