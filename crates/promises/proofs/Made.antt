@@ -12,6 +12,8 @@ use Rattle.list.specs.declared.Written.{Written}
 use Rattle.list.specs.declared.Written.the-variants as written
 use Rattle.list.specs.declared.answer.Answer.{Answer}
 use Rattle.list.specs.declared.answer.Answer.the-variants as answer
+use Rattle.index.specs.declared.Probed.{Probed}
+use Rattle.index.specs.declared.Probed.the-variants.{Counted, NoCount}
 use Rattle.promises.specs.Wrong.{
   Writer,
   Promise,
@@ -28,14 +30,14 @@ use Rattle.promises.specs.Wrong.{
   Inventing,
   InventingAll,
   Misreporting,
-  answerRefused,
-  writtenRefused,
   intervalsIn,
   recordsIn,
   neededOf,
   neededIn,
   writtenIn,
   neededBy,
+  belowIn,
+  overlappingIn,
 }
 use Rattle.promises.specs.Made.{
   leaving,
@@ -50,6 +52,10 @@ use Rattle.promises.specs.Made.{
   WrongFirst,
   WrongCounts,
   WrongWritten,
+  withBelow,
+  withOverlapping,
+  WrongRefusal,
+  WrongProbe,
 }
 
 -- ---- what `Meets` and `Fails` say: some implementation meets a promise, and then not all fail it
@@ -115,22 +121,25 @@ abbrev isTold : Option ℕ → Bool
 isTold none = false
 isTold (some n) = true
 
+pub some-is : (m n : ℕ) → some m ≡ some n → m ≡ n
+some-is m n e = ap told e
+
 untold : {A : Type 0} (m : ℕ) → none ≡ some m → A
 untold m e = true-false (sym (ap isTold e))
 
 one-intervals : (n : ℕ) (r : Answer) (m : ℕ) → intervalsIn (withIntervals n r) ≡ some m → m ≡ n
-one-intervals n (answer.Listed t) m e = sym (ap told e)
+one-intervals n (answer.Listed t) m e = sym (some-is n m e)
 one-intervals n (answer.Refused r) m e = untold m e
 
 one-records : (n : ℕ) (r : Answer) (m : ℕ) → recordsIn (withRecords n r) ≡ some m → m ≡ n
-one-records n (answer.Listed t) m e = sym (ap told e)
+one-records n (answer.Listed t) m e = sym (some-is n m e)
 one-records n (answer.Refused r) m e = untold m e
 
 one-room : (n : ℕ) (r : Refusal) (m : ℕ) → neededOf (withRoom n r) ≡ some m → m ≡ n
 one-room n r m = go (eqb (numberOf r) 12) refl
   where
     go : (t : Bool) → eqb (numberOf r) 12 ≡ t → neededOf (withRoom n r) ≡ some m → m ≡ n
-    go true e h = sym (ap told (rw e at h))
+    go true e h = sym (some-is n m (rw e at h))
     go false e h =
         let kept : neededOf r ≡ some m = rw e at h in
         untold m (rw e at kept)
@@ -140,12 +149,20 @@ one-needed n (answer.Listed t) m e = untold m e
 one-needed n (answer.Refused r) m e = one-room n r m e
 
 one-written : (n : ℕ) (r : Written) (m : ℕ) → writtenIn (withWritten n r) ≡ some m → m ≡ n
-one-written n (written.Wrote k) m e = sym (ap told e)
+one-written n (written.Wrote k) m e = sym (some-is n m e)
 one-written n (written.Refused r) m e = untold m e
 
 one-needed-by : (n : ℕ) (r : Written) (m : ℕ) → neededBy (withNeededBy n r) ≡ some m → m ≡ n
 one-needed-by n (written.Wrote k) m e = untold m e
 one-needed-by n (written.Refused r) m e = one-room n r m e
+
+one-below : (n : ℕ) (r : Probed) (m : ℕ) → belowIn (withBelow n r) ≡ some m → m ≡ n
+one-below n (Counted p) m e = sym (some-is n m e)
+one-below n (NoCount r) m e = untold m e
+
+one-overlapping : (n : ℕ) (r : Probed) (m : ℕ) → overlappingIn (withOverlapping n r) ≡ some m → m ≡ n
+one-overlapping n (Counted p) m e = sym (some-is n m e)
+one-overlapping n (NoCount r) m e = untold m e
 
 -- ---- what the theorems of a promise say of them
 
@@ -179,4 +196,14 @@ wrong-written f count room =
     record {
       written = λ n. count (returning (withWritten n) f) (inventing-kind f writtenIn (withWritten n) n (one-written n));
       room = λ n. room (returning (withNeededBy n) f) (inventing-kind f neededBy (withNeededBy n) n (one-needed-by n));
+    }
+
+pub wrong-refusal : {A R : Type 0} (value : A → R) (refused : R → Bool) → FailsToBe value (RefusingAll refused) → WrongRefusal value refused
+wrong-refusal value refused fails r e = fails (λ a. r) (refusing-all-kind refused r e)
+
+pub wrong-probe : {A : Type 0} (value : A → Probed) → FailsToBe value (InventingAll belowIn) → FailsToBe value (InventingAll overlappingIn) → WrongProbe value
+wrong-probe value below overlapping =
+    record {
+      below = λ n. below (λ a. withBelow n (value a)) (inventing-all-kind value belowIn (withBelow n) n (one-below n));
+      overlapping = λ n. overlapping (λ a. withOverlapping n (value a)) (inventing-all-kind value overlappingIn (withOverlapping n) n (one-overlapping n));
     }

@@ -1,6 +1,6 @@
 -- The table of refusals, by computing.
 use mathlib.Core.Path.{_≡_, refl, sym, ap, _∙_}
-use Prim.Native.Nat.{ℕ, _-_}
+use Prim.Native.Nat.{_-_}
 use lib.ListN.{getD}
 use Rattle.refusal.specs.declared.Refusal.{Refusal}
 use Rattle.refusal.specs.declared.Refusal.the-variants.{
@@ -27,7 +27,8 @@ use Rattle.refusal.specs.declared.Refusal.the-variants.{
   Missing,
 }
 use Rattle.refusal.specs.Refusal.{numberOf, valueOf}
-use Rattle.promises.specs.Numbers.{Numbered, zeroed, refusals, made, AllNumbered}
+use Rattle.promises.proofs.Rows.{_&_}
+use Rattle.promises.specs.Numbers.{zeroed, refusals, RowsRight, made, AllNumbered}
 
 given-back : (r : Refusal) → made (getD refusals (numberOf r - 1) (zeroed 0 Missing)) (valueOf r) ≡ r
 given-back (IndexLength v) = refl
@@ -52,9 +53,34 @@ given-back (BuildLimit v) = refl
 given-back ProbeRange = refl
 given-back Missing = refl
 
+rows-right : RowsRight refusals
+rows-right =
+    (λ v. (refl, refl))
+    & (λ v. (refl, refl))
+    & (refl, refl)
+    & (λ v. (refl, refl))
+    & (λ v. (refl, refl))
+    & (λ v. (refl, refl))
+    & (λ v. (refl, refl))
+    & (λ v. (refl, refl))
+    & (λ v. (refl, refl))
+    & (λ v. (refl, refl))
+    & (λ v. (refl, refl))
+    & (λ v. (refl, refl))
+    & (λ v. (refl, refl))
+    & (λ v. (refl, refl))
+    & (λ v. (refl, refl))
+    & (λ v. (refl, refl))
+    & (λ v. (refl, refl))
+    & (λ v. (refl, refl))
+    & (λ v. (refl, refl))
+    & (refl, refl)
+    & (refl, refl)
+    & tt
+
 pub refusals-numbered : AllNumbered refusals
 refusals-numbered = record {
-  right = (λ value. (refl, refl), (λ value. (refl, refl), ((refl, refl), (λ value. (refl, refl), (λ value. (refl, refl), (λ value. (refl, refl), (λ value. (refl, refl), (λ value. (refl, refl), (λ value. (refl, refl), (λ value. (refl, refl), (λ value. (refl, refl), (λ value. (refl, refl), (λ value. (refl, refl), (λ value. (refl, refl), (λ value. (refl, refl), (λ value. (refl, refl), (λ value. (refl, refl), (λ value. (refl, refl), (λ value. (refl, refl), ((refl, refl), ((refl, refl), tt)))))))))))))))))))));
+  right = rows-right;
   ordered = refl;
   complete = given-back;
 }

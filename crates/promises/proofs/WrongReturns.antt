@@ -46,7 +46,7 @@ lookup-refusing =
     refusing-all-fails lookup lookupRefused (example, boats)
     (ap (λ g. lookupRefused (lookupAfter g (first (λ i. same (wordOf example i) boats) (wordCount example)))) example-good)
 
-abbrev counted : ℕ → ℕ → Probed
+abbrev pub counted : ℕ → ℕ → Probed
 counted below overlapping = Counted (record { below = below; overlapping = overlapping })
 
 entry-good : entryOf example 0 ≡ Good

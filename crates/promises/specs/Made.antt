@@ -15,6 +15,8 @@ use Rattle.list.specs.declared.answer.Answer.{Answer}
 use Rattle.list.specs.declared.answer.Answer.the-variants as answer
 use Rattle.list.specs.Interval.{intervals, records}
 use Rattle.convert.specs.Convert.{answerOf, leftOf, badNumberOf, intervalsOf, badIntervalOf, numbersOf}
+use Rattle.index.specs.declared.Probed.{Probed}
+use Rattle.index.specs.declared.Probed.the-variants.{Counted, NoCount}
 use Rattle.index.specs.Check.{checkOf}
 use Rattle.merge.specs.Asked.{listsOf}
 use Rattle.join.specs.Join.{requestOf, joinAnswer, joinCells}
@@ -22,7 +24,7 @@ use Rattle.question.specs.Grammar.{fromLeft}
 use Rattle.question.specs.Reading.{asked}
 use Rattle.query.specs.Ask.{askAnswer, askCells}
 use Rattle.build.specs.Build.{buildOf, indexFrom, bytesAfter}
-use Rattle.promises.specs.Wrong.{Writer, Promise, Meets, answerRefused, writtenRefused}
+use Rattle.promises.specs.Wrong.{Writer, Promise, Meets, Is}
 
 -- ---- right ones
 
@@ -111,3 +113,20 @@ pub record WrongCounts {A : Type 0} (promise : Promise A Answer) (f : Writer A A
 pub record WrongWritten {A : Type 0} (promise : Promise A Written) (f : Writer A Written) : Type 0 where
   pub written : (n : ℕ) → Meets promise (returning (withWritten n) f) → ⊥
   pub room : (n : ℕ) → Meets promise (returning (withNeededBy n) f) → ⊥
+
+-- ---- the same of the calls that write nothing
+
+abbrev pub withBelow : ℕ → Probed → Probed
+withBelow n (Counted p) = Counted (record { below = n; overlapping = p .overlapping })
+withBelow n (NoCount r) = NoCount r
+
+abbrev pub withOverlapping : ℕ → Probed → Probed
+withOverlapping n (Counted p) = Counted (record { below = p .below; overlapping = n })
+withOverlapping n (NoCount r) = NoCount r
+
+abbrev pub WrongRefusal : {A R : Type 0} → (A → R) → (R → Bool) → Type 0
+WrongRefusal {A} {R} value refused = (r : R) → refused r ≡ true → Is value (λ a. r) → ⊥
+
+pub record WrongProbe {A : Type 0} (value : A → Probed) : Type 0 where
+  pub below : (n : ℕ) → Is value (λ a. withBelow n (value a)) → ⊥
+  pub overlapping : (n : ℕ) → Is value (λ a. withOverlapping n (value a)) → ⊥
