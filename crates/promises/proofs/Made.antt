@@ -1,13 +1,13 @@
 -- No kind is empty, and none is narrower than its words: what is made of any implementation, its refusals as they are, is of the kind.
 use Prim.Native.Nat.{ℕ}
 use mathlib.Core.Path.{_≡_, refl, sym, ap, _∙_}
-use mathlib.Core.Bool.{Bool, true, false, cond}
+use mathlib.Core.Bool.{Bool, true, false}
 use mathlib.Core.List.{List}
 use mathlib.Core.Option.{Option, none, some}
 use lib.Dec.{eqb}
 use Rattle.laws.proofs.Tests.{true-false}
 use Rattle.refusal.specs.declared.Refusal.{Refusal}
-use Rattle.refusal.specs.Refusal.{numberOf, valueOf}
+use Rattle.refusal.specs.Refusal.{numberOf}
 use Rattle.list.specs.declared.Written.{Written}
 use Rattle.list.specs.declared.Written.the-variants as written
 use Rattle.list.specs.declared.answer.Answer.{Answer}
@@ -79,8 +79,8 @@ module _ {A R : Type 0} (refused : R → Bool) (f : Writer A R) where
   pub leaving-accepted : (left : A → List ℕ → List ℕ) (a : A) (out : List ℕ) → Accepts refused f a out → leaving refused left f a out .1 ≡ left a out
   leaving-accepted left a out e = rw e
 
-  pub refusing-kind : (r : R) → refused r ≡ true → Refusing refused (returning (λ _. r) f)
-  refusing-kind r e a out = e
+  pub refusing-kind : (refusal : A → List ℕ → R) → ((a : A) (out : List ℕ) → refused (refusal a out) ≡ true) → Refusing refused (returning (λ a out r. refusal a out) f)
+  refusing-kind refusal e a out = e a out
 
   pub fixed-kind : (cells : List ℕ → List ℕ) → Fixed refused (leaving refused (λ a out. cells out) f)
   fixed-kind cells a b out p q = leaving-accepted (λ a out. cells out) a out p ∙ sym (leaving-accepted (λ a out. cells out) b out q)
@@ -94,22 +94,22 @@ module _ {A R : Type 0} (refused : R → Bool) (f : Writer A R) where
       let left : A → List ℕ → List ℕ = λ a out. f (first a) out .1 in
       leaving-accepted left a out p ∙ sym (ap (λ b. f b out .1) (twice a)) ∙ sym (leaving-accepted left (first a) out q)
 
-pub inventing-kind : {A R : Type 0} (f : Writer A R) (number : R → Option ℕ) (change : R → R) (n : ℕ) →
-    ((r : R) (m : ℕ) → number (change r) ≡ some m → m ≡ n) → Inventing number (returning change f)
-inventing-kind f number change n same a b out i j p q = same (f a out .0) i p ∙ sym (same (f b out .0) j q)
+pub inventing-kind : {A R : Type 0} (f : Writer A R) (number : R → Option ℕ) (change : ℕ → R → R) → ((n : ℕ) (r : R) (m : ℕ) → number (change n r) ≡ some m → m ≡ n) →
+    (n : List ℕ → ℕ) → Inventing number (returning (λ a out. change (n out)) f)
+inventing-kind f number change same n a b out i j p q = same (n out) (f a out .0) i p ∙ sym (same (n out) (f b out .0) j q)
 
-pub misreporting-kind : {A R : Type 0} {promise : Promise A R} (f : Writer A R) → Meets promise f → (number : R → Option ℕ) (change : R → R) (a : A) (out : List ℕ) →
-    (number (change (f a out .0)) ≡ number (f a out .0) → ⊥) → Misreporting promise number (returning change f)
+pub misreporting-kind : {A R : Type 0} {promise : Promise A R} (f : Writer A R) → Meets promise f → (number : R → Option ℕ) (change : A → List ℕ → R → R) (a : A) (out : List ℕ) →
+    (number (change a out (f a out .0)) ≡ number (f a out .0) → ⊥) → Misreporting promise number (returning change f)
 misreporting-kind f m number change a out differ =
     record { asked = a; lent = out; after = f a out .1; answer = f a out .0; promised = m a out; other = differ }
 
 -- a call that writes nothing
-pub refusing-all-kind : {A R : Type 0} (refused : R → Bool) (r : R) → refused r ≡ true → RefusingAll {A = A} refused (λ a. r)
-refusing-all-kind refused r e a = e
+pub refusing-all-kind : {A R : Type 0} (refused : R → Bool) (refusal : A → R) → ((a : A) → refused (refusal a) ≡ true) → RefusingAll refused refusal
+refusing-all-kind refused refusal e = e
 
-pub inventing-all-kind : {A R : Type 0} (f : A → R) (number : R → Option ℕ) (change : R → R) (n : ℕ) → ((r : R) (m : ℕ) → number (change r) ≡ some m → m ≡ n) →
-    InventingAll number (λ a. change (f a))
-inventing-all-kind f number change n same a b i j p q = same (f a) i p ∙ sym (same (f b) j q)
+pub inventing-all-kind : {A R : Type 0} (f : A → R) (number : R → Option ℕ) (change : ℕ → R → R) → ((n : ℕ) (r : R) (m : ℕ) → number (change n r) ≡ some m → m ≡ n) →
+    (n : ℕ) → InventingAll number (λ a. change n (f a))
+inventing-all-kind f number change same n a b i j p q = same n (f a) i p ∙ sym (same n (f b) j q)
 
 -- ---- one number, wherever it is reported
 
@@ -172,7 +172,7 @@ module _ {A R : Type 0} (promise : Promise A R) (refused : R → Bool) (f : Writ
   wrong-ways m refusing fixed silent misreporting =
       record {
         meets = m;
-        refusing = λ r e. refusing (returning (λ _. r) f) (refusing-kind refused f r e);
+        refusing = λ refusal e. refusing (returning (λ a out r. refusal a out) f) (refusing-kind refused f refusal e);
         fixed = λ cells. fixed (leaving refused (λ a out. cells out) f) (fixed-kind refused f cells);
         silent = silent (leaving refused (λ a out. out) f) (silent-kind refused f);
         misreporting = λ number change a out differ. misreporting number (returning change f) (misreporting-kind f m number change a out differ);
@@ -185,25 +185,25 @@ pub wrong-counts : {A : Type 0} {promise : Promise A Answer} (f : Writer A Answe
     Fails promise (Inventing neededIn) → WrongCounts promise f
 wrong-counts f intervals records room =
     record {
-      intervals = λ n. intervals (returning (withIntervals n) f) (inventing-kind f intervalsIn (withIntervals n) n (one-intervals n));
-      records = λ n. records (returning (withRecords n) f) (inventing-kind f recordsIn (withRecords n) n (one-records n));
-      room = λ n. room (returning (withNeeded n) f) (inventing-kind f neededIn (withNeeded n) n (one-needed n));
+      intervals = λ n. intervals (returning (λ a out. withIntervals (n out)) f) (inventing-kind f intervalsIn withIntervals one-intervals n);
+      records = λ n. records (returning (λ a out. withRecords (n out)) f) (inventing-kind f recordsIn withRecords one-records n);
+      room = λ n. room (returning (λ a out. withNeeded (n out)) f) (inventing-kind f neededIn withNeeded one-needed n);
     }
 
 pub wrong-written : {A : Type 0} {promise : Promise A Written} (f : Writer A Written) → Fails promise (Inventing writtenIn) → Fails promise (Inventing neededBy) →
     WrongWritten promise f
 wrong-written f count room =
     record {
-      written = λ n. count (returning (withWritten n) f) (inventing-kind f writtenIn (withWritten n) n (one-written n));
-      room = λ n. room (returning (withNeededBy n) f) (inventing-kind f neededBy (withNeededBy n) n (one-needed-by n));
+      written = λ n. count (returning (λ a out. withWritten (n out)) f) (inventing-kind f writtenIn withWritten one-written n);
+      room = λ n. room (returning (λ a out. withNeededBy (n out)) f) (inventing-kind f neededBy withNeededBy one-needed-by n);
     }
 
 pub wrong-refusal : {A R : Type 0} (value : A → R) (refused : R → Bool) → FailsToBe value (RefusingAll refused) → WrongRefusal value refused
-wrong-refusal value refused fails r e = fails (λ a. r) (refusing-all-kind refused r e)
+wrong-refusal value refused fails refusal e = fails refusal (refusing-all-kind refused refusal e)
 
 pub wrong-probe : {A : Type 0} (value : A → Probed) → FailsToBe value (InventingAll belowIn) → FailsToBe value (InventingAll overlappingIn) → WrongProbe value
 wrong-probe value below overlapping =
     record {
-      below = λ n. below (λ a. withBelow n (value a)) (inventing-all-kind value belowIn (withBelow n) n (one-below n));
-      overlapping = λ n. overlapping (λ a. withOverlapping n (value a)) (inventing-all-kind value overlappingIn (withOverlapping n) n (one-overlapping n));
+      below = λ n. below (λ a. withBelow n (value a)) (inventing-all-kind value belowIn withBelow one-below n);
+      overlapping = λ n. overlapping (λ a. withOverlapping n (value a)) (inventing-all-kind value overlappingIn withOverlapping one-overlapping n);
     }

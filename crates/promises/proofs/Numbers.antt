@@ -95,6 +95,9 @@ numbers-tell rows all r s e f =
     sym (all .complete r) ∙ ap (λ n. made (getD rows (n - 1) (zeroed 0 Missing)) (valueOf r)) e
     ∙ ap (λ v. made (getD rows (numberOf s - 1) (zeroed 0 Missing)) v) f ∙ all .complete s
 
+pub refusals-tell : (r s : Refusal) → numberOf r ≡ numberOf s → valueOf r ≡ valueOf s → r ≡ s
+refusals-tell = numbers-tell refusals refusals-numbered
+
 pub numbers-many : (rows : List Numbered) → AllNumbered rows → length (numbersIn rows) ≡ 21
 numbers-many rows all = ap length (all .ordered)
 

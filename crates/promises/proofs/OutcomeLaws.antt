@@ -2,7 +2,7 @@
 use Prim.Native.Nat.{ℕ}
 use native.Mathlib.Omega.{arith}
 use mathlib.Core.Path.{_≡_, refl}
-use mathlib.Core.List.{List, [], _∷_}
+use mathlib.Core.List.{[], _∷_}
 use Rattle.promises.specs.Outcome.{OneReturn, OneOutcome}
 use Rattle.promises.proofs.WrongLaws.{differ-at}
 

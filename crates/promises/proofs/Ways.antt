@@ -1,12 +1,16 @@
 -- For each call: one implementation meets its promise, and made wrong in any of the ways none does.
 use Prim.Native.Nat.{ℕ}
-use mathlib.Core.Path.{refl}
-use mathlib.Core.List.{List}
+use native.Mathlib.Omega.{arith}
+use mathlib.Core.Path.{_≡_, refl, sym, ap, _∙_}
+use mathlib.Core.List.{List, _++_}
 use Rattle.list.specs.Ginix.{unionOf, intersectionOf}
 use Rattle.index.specs.Check.{checkOf}
 use Rattle.question.specs.Reading.{readingOf}
+use Rattle.promises.specs.Example.{boats, tide, or′, example}
+use Rattle.promises.specs.Table.{lent, listed, table}
 use Rattle.promises.specs.Wrong.{
   Meets,
+  Misreporting,
   toIntervals,
   toNumbers,
   joins,
@@ -26,6 +30,7 @@ use Rattle.promises.specs.Wrong.{
   firstEntry,
   firstWord,
   firstBuilt,
+  intervalsIn,
 }
 use Rattle.promises.specs.Made.{
   rightIntervals,
@@ -33,6 +38,8 @@ use Rattle.promises.specs.Made.{
   rightJoin,
   rightAsk,
   rightBuild,
+  returning,
+  withIntervals,
   WrongWays,
   WrongFirst,
   WrongCounts,
@@ -40,7 +47,9 @@ use Rattle.promises.specs.Made.{
   WrongRefusal,
   WrongProbe,
 }
-use Rattle.promises.proofs.Made.{wrong-ways, wrong-first, wrong-counts, wrong-written, wrong-refusal, wrong-probe}
+use Rattle.promises.proofs.Made.{misreporting-kind, some-is, wrong-ways, wrong-first, wrong-counts, wrong-written, wrong-refusal, wrong-probe}
+use Rattle.promises.proofs.Table.{table-right}
+use Rattle.promises.proofs.TableLaws.{row-right}
 use Rattle.promises.proofs.FirstLaws.{first-entry-twice, first-word-twice, first-built-twice}
 use Rattle.promises.proofs.WrongConversions as conversions
 use Rattle.promises.proofs.WrongReturns as returns
@@ -113,6 +122,15 @@ ask-first-way = wrong-first asks answerRefused rightAsk firstWord first-word-twi
 
 pub ask-counts : WrongCounts asks rightAsk
 ask-counts = wrong-counts rightAsk ask.ask-inventing-intervals ask.ask-inventing-records ask.ask-inventing-room
+
+-- P1 with seven intervals for its two
+pub ask-misreports : Misreporting asks intervalsIn (returning (λ a out. withIntervals 7) rightAsk)
+ask-misreports =
+    misreporting-kind rightAsk ask-met intervalsIn (λ a out. withIntervals 7) (example, boats ++ or′ ++ tide) lent
+    (λ e. let z : _≡_ {A = ℕ} 7 2 = some-is 7 2 (sym (ap (λ r. intervalsIn (withIntervals 7 r)) answered) ∙ e ∙ ap intervalsIn answered) in omega arith)
+  where
+    answered : rightAsk (example, boats ++ or′ ++ tide) lent .0 ≡ listed 2 5
+    answered = sym (row-right table 0 (omega arith) table-right .answer)
 
 -- ---- a build
 

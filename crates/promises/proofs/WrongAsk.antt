@@ -1,7 +1,7 @@
 -- The wrong ways to answer a question, by `boats or tide`, `boats or maps` and `boats` over the example's index.
 use Prim.Native.Nat.{ℕ}
 use native.Mathlib.Omega.{arith}
-use mathlib.Core.Path.{_≡_, refl}
+use mathlib.Core.Path.{refl}
 use mathlib.Core.List.{List, [], _∷_, _++_}
 use mathlib.Core.Option.{Option}
 use Rattle.refusal.specs.First.{firstFrom, first}

@@ -65,8 +65,8 @@ abbrev pub leaving : {A R : Type 0} → (R → Bool) → (A → List ℕ → Lis
 leaving refused left f a out = (f a out .0, cond (refused (f a out .0)) (f a out .1) (left a out))
 
 -- something else is returned
-abbrev pub returning : {A R : Type 0} → (R → R) → Writer A R → Writer A R
-returning change f a out = (change (f a out .0), f a out .1)
+abbrev pub returning : {A R : Type 0} → (A → List ℕ → R → R) → Writer A R → Writer A R
+returning change f a out = (change a out (f a out .0), f a out .1)
 
 -- one number is n, wherever it is reported
 abbrev pub withIntervals : ℕ → Answer → Answer
@@ -96,23 +96,24 @@ withNeededBy n (written.Refused r) = written.Refused (withRoom n r)
 
 pub record WrongWays {A R : Type 0} (promise : Promise A R) (refused : R → Bool) (f : Writer A R) : Type 0 where
   pub meets : Meets promise f
-  pub refusing : (r : R) → refused r ≡ true → Meets promise (returning (λ _. r) f) → ⊥
+  pub refusing : (refusal : A → List ℕ → R) → ((a : A) (out : List ℕ) → refused (refusal a out) ≡ true) →
+      Meets promise (returning (λ a out r. refusal a out) f) → ⊥
   pub fixed : (cells : List ℕ → List ℕ) → Meets promise (leaving refused (λ a out. cells out) f) → ⊥
   pub silent : Meets promise (leaving refused (λ a out. out) f) → ⊥
-  pub misreporting : (number : R → Option ℕ) (change : R → R) (a : A) (out : List ℕ) → (number (change (f a out .0)) ≡ number (f a out .0) → ⊥) →
-      Meets promise (returning change f) → ⊥
+  pub misreporting : (number : R → Option ℕ) (change : A → List ℕ → R → R) (a : A) (out : List ℕ) →
+      (number (change a out (f a out .0)) ≡ number (f a out .0) → ⊥) → Meets promise (returning change f) → ⊥
 
 abbrev pub WrongFirst : {A R : Type 0} → Promise A R → (R → Bool) → (A → A) → Writer A R → Type 0
 WrongFirst promise refused first f = Meets promise (leaving refused (λ a out. f (first a) out .1) f) → ⊥
 
 pub record WrongCounts {A : Type 0} (promise : Promise A Answer) (f : Writer A Answer) : Type 0 where
-  pub intervals : (n : ℕ) → Meets promise (returning (withIntervals n) f) → ⊥
-  pub records : (n : ℕ) → Meets promise (returning (withRecords n) f) → ⊥
-  pub room : (n : ℕ) → Meets promise (returning (withNeeded n) f) → ⊥
+  pub intervals : (n : List ℕ → ℕ) → Meets promise (returning (λ a out. withIntervals (n out)) f) → ⊥
+  pub records : (n : List ℕ → ℕ) → Meets promise (returning (λ a out. withRecords (n out)) f) → ⊥
+  pub room : (n : List ℕ → ℕ) → Meets promise (returning (λ a out. withNeeded (n out)) f) → ⊥
 
 pub record WrongWritten {A : Type 0} (promise : Promise A Written) (f : Writer A Written) : Type 0 where
-  pub written : (n : ℕ) → Meets promise (returning (withWritten n) f) → ⊥
-  pub room : (n : ℕ) → Meets promise (returning (withNeededBy n) f) → ⊥
+  pub written : (n : List ℕ → ℕ) → Meets promise (returning (λ a out. withWritten (n out)) f) → ⊥
+  pub room : (n : List ℕ → ℕ) → Meets promise (returning (λ a out. withNeededBy (n out)) f) → ⊥
 
 -- ---- the same of the calls that write nothing
 
@@ -125,7 +126,7 @@ withOverlapping n (Counted p) = Counted (record { below = p .below; overlapping 
 withOverlapping n (NoCount r) = NoCount r
 
 abbrev pub WrongRefusal : {A R : Type 0} → (A → R) → (R → Bool) → Type 0
-WrongRefusal {A} {R} value refused = (r : R) → refused r ≡ true → Is value (λ a. r) → ⊥
+WrongRefusal {A} {R} value refused = (refusal : A → R) → ((a : A) → refused (refusal a) ≡ true) → Is value refusal → ⊥
 
 pub record WrongProbe {A : Type 0} (value : A → Probed) : Type 0 where
   pub below : (n : ℕ) → Is value (λ a. withBelow n (value a)) → ⊥
