@@ -1,4 +1,4 @@
--- No kind is empty, and none is narrower than its words: what is made of any implementation, its refusals as they are, is of the kind.
+-- No kind is empty, and none is narrower than its words: whatever implementation is made wrong in a way is then of that kind.
 use Prim.Native.Nat.{ℕ}
 use mathlib.Core.Path.{_≡_, refl, sym, ap, _∙_}
 use mathlib.Core.Bool.{Bool, true, false}

@@ -1,4 +1,4 @@
--- For each promise an implementation that meets it, and what is made of one to be wrong in one way only: its refusals stay as they are.
+-- For each promise an implementation that meets it, and what becomes of one that is made wrong in one way only.
 use Prim.Native.Nat.{ℕ, _/_}
 use mathlib.Core.Bool.{Bool, true, cond}
 use mathlib.Core.List.{List}
