@@ -1,4 +1,4 @@
--- "Prove that two outcomes allowed by it are equal": one theorem for each public call.
+-- Two outcomes that a contract allows are equal: one theorem for each public call.
 use Prim.Native.Nat.{ℕ}
 use mathlib.Core.Path.{_≡_, sym, ap, _∙_}
 use mathlib.Core.List.{List}

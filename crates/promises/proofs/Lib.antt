@@ -1,9 +1,17 @@
 pub mod Determined
 pub mod ExampleLaws
+pub mod Rows
 pub mod Table
+pub mod Numbers
+pub mod OutcomeLaws
+pub mod TableLaws
 pub mod WrongLaws
+pub mod Made
+pub mod FirstLaws
 pub mod WrongConversions
 pub mod WrongReturns
 pub mod WrongAsk
 pub mod WrongJoins
 pub mod WrongBuild
+pub mod Ways
+pub mod Values

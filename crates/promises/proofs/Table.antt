@@ -35,6 +35,7 @@ use Rattle.question.specs.Reading.{isForeign, refusalOf, asked}
 use Rattle.query.specs.Ask.{satisfying, treeAnswer, treeCells, askAnswer, askCells, Asks}
 use Rattle.promises.specs.Example.{example}
 use Rattle.promises.specs.Table.{AllRight, table}
+use Rattle.promises.proofs.Rows.{_&_}
 use Rattle.promises.proofs.ExampleLaws.{example-good}
 
 -- a question over the example's index: once that is good, what the question comes to
@@ -56,40 +57,17 @@ intersection-is l lists c p e = sym (intersection-limit 9 l lists (omega arith) 
 
 pub table-right : AllRight table
 unfolding firstFrom first isWordByte same isAnd isOr isNot operatorOf properFrom isProper names records stretches cellsOf inSome inEvery belowCount overlapCount numbersIn walkFrom walked entryAt wordStart wordLength listStart singleCount pairCount wordOf singlesOf lowerOf upperOf listOf hasWithin has run gather tokensAt tokens fromLeft question operand links whole fits isForeign refusalOf asked satisfying
-table-right = (
-  asks-example _ _ _ _ refl refl,
-  (
-    asks-example _ _ _ _ refl refl,
-    (
-      asks-example _ _ _ _ refl refl,
-      (
-        asks-example _ _ _ _ refl refl,
-        (
-          asks-example _ _ _ _ refl refl,
-          (
-            asks-example _ _ _ _ refl refl,
-            (
-              asks-example _ _ _ _ refl refl,
-              (
-                union-is _ _ (refl, (refl, tt)) refl,
-                (
-                  union-is _ _ (refl, (refl, tt)) refl,
-                  (
-                    intersection-is _ _ _ refl refl,
-                    (
-                      intersection-is _ _ _ refl refl,
-                      (
-                        (refl, refl),
-                        tt,
-                      ),
-                    ),
-                  ),
-                ),
-              ),
-            ),
-          ),
-        ),
-      ),
-    ),
-  ),
-)
+table-right =
+    asks-example _ _ _ _ refl refl
+    & asks-example _ _ _ _ refl refl
+    & asks-example _ _ _ _ refl refl
+    & asks-example _ _ _ _ refl refl
+    & asks-example _ _ _ _ refl refl
+    & asks-example _ _ _ _ refl refl
+    & asks-example _ _ _ _ refl refl
+    & union-is _ _ (refl, (refl, tt)) refl
+    & union-is _ _ (refl, (refl, tt)) refl
+    & intersection-is _ _ _ refl refl
+    & intersection-is _ _ _ refl refl
+    & (refl, refl)
+    & tt

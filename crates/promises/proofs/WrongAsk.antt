@@ -1,9 +1,9 @@
 -- The wrong ways to answer a question, by `boats or tide`, `boats or maps` and `boats` over the example's index.
-use Prim.Native.Nat.{ℕ, _/_}
+use Prim.Native.Nat.{ℕ}
 use native.Mathlib.Omega.{arith}
-use mathlib.Core.Path.{_≡_, refl}
+use mathlib.Core.Path.{refl}
 use mathlib.Core.List.{List, [], _∷_, _++_}
-use lib.ListN.{length}
+use mathlib.Core.Option.{Option}
 use Rattle.refusal.specs.First.{firstFrom, first}
 use Rattle.refusal.specs.declared.Refusal.the-variants.{Room}
 use Rattle.word.specs.Word.{isWordByte, same, isAnd, isOr, isNot, operatorOf}
@@ -31,8 +31,10 @@ use Rattle.question.specs.Token.{run, gather, tokensAt, tokens}
 use Rattle.question.specs.Grammar.{fromLeft, question, operand, links, whole}
 use Rattle.question.specs.Meaning.{fits}
 use Rattle.question.specs.Reading.{isForeign, refusalOf, asked}
-use Rattle.query.specs.Ask.{satisfying, treeAnswer, treeCells}
+use Rattle.question.specs.Limits.{wordsIn}
+use Rattle.query.specs.Ask.{satisfying, Asks}
 use Rattle.promises.specs.Example.{boats, maps, tide, or′, example}
+use Rattle.promises.specs.Outcome.{OneOutcome}
 use Rattle.promises.specs.Table.{lent, listed}
 use Rattle.promises.specs.Wrong.{
   Fails,
@@ -51,11 +53,7 @@ use Rattle.promises.specs.Wrong.{
 }
 use Rattle.promises.proofs.Determined.{asks-determined}
 use Rattle.promises.proofs.Table.{asks-example}
-use Rattle.promises.proofs.WrongLaws.{Known, refusing-fails, fixed-fails, silent-fails, first-fails, inventing-fails, misreporting-fails, differ-at}
-
-ask-known : (s out out′ : List ℕ) (r : Answer) → r ≡ treeAnswer example (asked fromLeft s) (length out / 2) →
-    out′ ≡ treeCells example (asked fromLeft s) (length out / 2) out → Known asks (example, s) out out′ r
-ask-known s out out′ r a c = record { allowed = asks-example s out out′ r a c; only = asks-determined fromLeft example s out }
+use Rattle.promises.proofs.WrongLaws.{refusing-fails, fixed-fails, silent-fails, first-fails, inventing-fails, misreporting-fails, differ-at}
 
 abbrev boats-or-tide : List ℕ
 boats-or-tide = boats ++ or′ ++ tide
@@ -66,45 +64,54 @@ boats-or-maps = boats ++ or′ ++ maps
 -- what each comes to, with four cells lent and with none
 abbrev Outcomes : Type 0
 Outcomes =
-    Known asks (example, boats-or-tide) lent (2 ∷ 4 ∷ 8 ∷ 9 ∷ []) (listed 2 5)
-    × Known asks (example, boats-or-maps) lent (2 ∷ 9 ∷ 0 ∷ 0 ∷ []) (listed 1 8)
-    × Known asks (example, boats) lent (2 ∷ 4 ∷ 8 ∷ 8 ∷ []) (listed 2 4)
-    × Known asks (example, boats-or-tide) [] [] (Refused (Room 2))
-    × Known asks (example, boats-or-maps) [] [] (Refused (Room 1))
+    Asks fromLeft example boats-or-tide lent (2 ∷ 4 ∷ 8 ∷ 9 ∷ []) (listed 2 5)
+    × Asks fromLeft example boats-or-maps lent (2 ∷ 9 ∷ 0 ∷ 0 ∷ []) (listed 1 8)
+    × Asks fromLeft example boats lent (2 ∷ 4 ∷ 8 ∷ 8 ∷ []) (listed 2 4)
+    × Asks fromLeft example boats-or-tide [] [] (Refused (Room 2))
+    × Asks fromLeft example boats-or-maps [] [] (Refused (Room 1))
 
 outcomes : Outcomes
 unfolding firstFrom first isWordByte same isAnd isOr isNot operatorOf names records stretches cellsOf numbersIn walkFrom walked entryAt wordStart wordLength listStart singleCount pairCount wordOf singlesOf lowerOf upperOf listOf hasWithin has run gather tokensAt tokens fromLeft question operand links whole fits isForeign refusalOf asked satisfying
 outcomes = (
-  ask-known boats-or-tide lent (2 ∷ 4 ∷ 8 ∷ 9 ∷ []) (listed 2 5) refl refl,
-  ask-known boats-or-maps lent (2 ∷ 9 ∷ 0 ∷ 0 ∷ []) (listed 1 8) refl refl,
-  ask-known boats lent (2 ∷ 4 ∷ 8 ∷ 8 ∷ []) (listed 2 4) refl refl,
-  ask-known boats-or-tide [] [] (Refused (Room 2)) refl refl,
-  ask-known boats-or-maps [] [] (Refused (Room 1)) refl refl,
+  asks-example _ _ _ _ refl refl,
+  asks-example _ _ _ _ refl refl,
+  asks-example _ _ _ _ refl refl,
+  asks-example _ _ _ _ refl refl,
+  asks-example _ _ _ _ refl refl,
 )
 
+one : (a : List ℕ × List ℕ) (out : List ℕ) → OneOutcome (asks a out)
+one a out = asks-determined fromLeft (a .0) (a .1) out
+
+abbrev tide-asked : List ℕ × List ℕ
+tide-asked = (example, boats-or-tide)
+
+abbrev maps-asked : List ℕ × List ℕ
+maps-asked = (example, boats-or-maps)
+
 pub ask-refusing : Fails asks (Refusing answerRefused)
-ask-refusing = refusing-fails answerRefused _ _ _ _ (outcomes .0) refl
+ask-refusing = refusing-fails one answerRefused tide-asked lent (outcomes .0) refl
 
-pub ask-fixed : Fails asks Fixed
-ask-fixed = fixed-fails _ _ _ _ _ _ _ (outcomes .0) (outcomes .1) (differ-at 1 (2 ∷ 4 ∷ 8 ∷ 9 ∷ []) (2 ∷ 9 ∷ 0 ∷ 0 ∷ []) (λ e. omega arith))
+pub ask-fixed : Fails asks (Fixed answerRefused)
+ask-fixed = fixed-fails one answerRefused tide-asked maps-asked lent (outcomes .0) (outcomes .1) refl refl (differ-at 1 (2 ∷ 4 ∷ 8 ∷ 9 ∷ []) (2 ∷ 9 ∷ 0 ∷ 0 ∷ []) (λ e. omega arith))
 
-pub ask-silent : Fails asks Silent
-ask-silent = silent-fails _ _ _ _ (outcomes .0) (differ-at 0 (2 ∷ 4 ∷ 8 ∷ 9 ∷ []) lent (λ e. omega arith))
+pub ask-silent : Fails asks (Silent answerRefused)
+ask-silent = silent-fails one answerRefused tide-asked lent (outcomes .0) refl (differ-at 0 (2 ∷ 4 ∷ 8 ∷ 9 ∷ []) lent (λ e. omega arith))
 
-pub ask-first : Fails asks (FirstOnly firstWord)
-unfolding isWordByte run
+pub ask-first : Fails asks (FirstOnly answerRefused firstWord)
+unfolding isWordByte same isAnd isOr isNot operatorOf gather tokensAt tokens wordsIn
 ask-first =
-    first-fails firstWord (example, boats-or-tide) lent _ _ _ _ (outcomes .0) (outcomes .2)
+    first-fails one answerRefused firstWord tide-asked lent (outcomes .0) (outcomes .2) refl refl
     (differ-at 3 (2 ∷ 4 ∷ 8 ∷ 9 ∷ []) (2 ∷ 4 ∷ 8 ∷ 8 ∷ []) (λ e. omega arith))
 
 pub ask-inventing-intervals : Fails asks (Inventing intervalsIn)
-ask-inventing-intervals = inventing-fails intervalsIn _ _ _ _ _ _ _ (outcomes .0) (outcomes .1) (λ e. omega arith)
+ask-inventing-intervals = inventing-fails one intervalsIn tide-asked maps-asked lent 2 1 (outcomes .0) (outcomes .1) refl refl (λ e. omega arith)
 
 pub ask-inventing-records : Fails asks (Inventing recordsIn)
-ask-inventing-records = inventing-fails recordsIn _ _ _ _ _ _ _ (outcomes .0) (outcomes .1) (λ e. omega arith)
+ask-inventing-records = inventing-fails one recordsIn tide-asked maps-asked lent 5 8 (outcomes .0) (outcomes .1) refl refl (λ e. omega arith)
 
 pub ask-inventing-room : Fails asks (Inventing neededIn)
-ask-inventing-room = inventing-fails neededIn _ _ _ _ _ _ _ (outcomes .3) (outcomes .4) (λ e. omega arith)
+ask-inventing-room = inventing-fails one neededIn tide-asked maps-asked [] 2 1 (outcomes .3) (outcomes .4) refl refl (λ e. omega arith)
 
-pub ask-misreporting : (number : Answer → ℕ) → Fails asks (Misreporting asks number)
-ask-misreporting = misreporting-fails asks (λ a out. asks-determined fromLeft (a .0) (a .1) out)
+pub ask-misreporting : (number : Answer → Option ℕ) → Fails asks (Misreporting asks number)
+ask-misreporting = misreporting-fails one

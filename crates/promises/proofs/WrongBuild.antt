@@ -2,7 +2,9 @@
 use Prim.Native.Nat.{ℕ}
 use native.Mathlib.Omega.{arith}
 use mathlib.Core.Path.{_≡_, refl, sym, ap, _∙_}
+use mathlib.Core.Bool.{false}
 use mathlib.Core.List.{List, [], _∷_}
+use mathlib.Core.Option.{Option}
 use lib.ListN.{length, getD, replicate}
 use Rattle.refusal.specs.First.{firstFrom, first}
 use Rattle.word.specs.Word.{isWordByte, allWordBytes, same, before, isAnd, isOr, isNot, isOperator, isWord}
@@ -15,6 +17,7 @@ use Rattle.refusal.specs.declared.Refusal.the-variants.{Room}
 use Rattle.build.specs.Lent.{wordsFrom, wordsOf, restFrom, restOf, wordTotal, badLent, sumTo, badCount, badRest, beginsList, badListed, listsFrom}
 use Rattle.build.specs.Written.{cellsBytes, singlesIn, lowersIn, uppersIn, keptBytes, listsBytes, wordsBytes, directoryBytes, indexOf}
 use Rattle.build.specs.Build.{lentOf, indexFrom, buildOf, bytesAfter}
+use Rattle.promises.specs.Outcome.{OneOutcome}
 use Rattle.promises.specs.Wrong.{
   Fails,
   builds,
@@ -30,7 +33,7 @@ use Rattle.promises.specs.Wrong.{
   neededBy,
 }
 use Rattle.promises.proofs.Determined.{builds-determined}
-use Rattle.promises.proofs.WrongLaws.{Known, refusing-fails, fixed-fails, silent-fails, first-fails, inventing-fails, misreporting-fails, differ-at}
+use Rattle.promises.proofs.WrongLaws.{refusing-fails, fixed-fails, silent-fails, first-fails, inventing-fails, misreporting-fails, differ-at}
 
 -- what a build answers, and the bytes afterwards
 abbrev Args : Type 0
@@ -42,8 +45,11 @@ answered a out = buildOf (a .0) (a .1) (a .2) (a .3) (length out)
 abbrev after : Args → List ℕ → List ℕ
 after a out = bytesAfter (answered a out) (indexFrom (a .0) (a .1) (a .2) (a .3)) out
 
-known : (a : Args) (out : List ℕ) → Known builds a out (after a out) (answered a out)
-known a out = record { allowed = record { answer = refl; bytes = refl }; only = builds-determined (a .0) (a .1) (a .2) (a .3) out }
+known : (a : Args) (out : List ℕ) → builds a out (after a out) (answered a out)
+known a out = record { answer = refl; bytes = refl }
+
+determined : (a : Args) (out : List ℕ) → OneOutcome (builds a out)
+determined a out = builds-determined (a .0) (a .1) (a .2) (a .3) out
 
 -- a 1, b 2, with N = 2
 abbrev two : Args
@@ -73,31 +79,36 @@ outcomes = (refl, refl, refl, refl, refl, refl, refl)
 differ : after two zeros ≡ after one zeros → ⊥
 differ = differ-at 4 (after two zeros) (after one zeros) (λ e. let z : _≡_ {A = ℕ} 2 97 = sym (outcomes .5) ∙ e ∙ outcomes .6 in omega arith)
 
+two-written : writtenRefused (answered two zeros) ≡ false
+two-written = ap writtenRefused (outcomes .0)
+
+one-written : writtenRefused (answered one zeros) ≡ false
+one-written = ap writtenRefused (outcomes .1)
+
 pub build-refusing : Fails builds (Refusing writtenRefused)
-build-refusing = refusing-fails writtenRefused two zeros _ _ (known two zeros) (ap writtenRefused (outcomes .0))
+build-refusing = refusing-fails determined writtenRefused two zeros (known two zeros) two-written
 
-pub build-fixed : Fails builds Fixed
-build-fixed = fixed-fails two one zeros _ _ _ _ (known two zeros) (known one zeros) differ
+pub build-fixed : Fails builds (Fixed writtenRefused)
+build-fixed = fixed-fails determined writtenRefused two one zeros (known two zeros) (known one zeros) two-written one-written differ
 
-pub build-silent : Fails builds Silent
+pub build-silent : Fails builds (Silent writtenRefused)
 build-silent =
-    silent-fails two zeros _ _ (known two zeros)
+    silent-fails determined writtenRefused two zeros (known two zeros) two-written
     (differ-at 0 (after two zeros) zeros (λ e. let z : _≡_ {A = ℕ} 1 0 = sym (outcomes .4) ∙ e in omega arith))
 
-pub build-first : Fails builds (FirstOnly firstBuilt)
+pub build-first : Fails builds (FirstOnly writtenRefused firstBuilt)
 unfolding isWordByte run
-build-first = first-fails firstBuilt two zeros _ _ _ _ (known two zeros) (known one zeros) differ
+build-first = first-fails determined writtenRefused firstBuilt two zeros (known two zeros) (known one zeros) two-written one-written differ
 
 -- the bytes that are reported, and the room that is needed
 pub build-inventing : Fails builds (Inventing writtenIn)
 build-inventing =
-    inventing-fails writtenIn two one zeros _ _ _ _ (known two zeros) (known one zeros)
-    (λ e. let z : _≡_ {A = ℕ} 70 45 = sym (ap writtenIn (outcomes .0)) ∙ e ∙ ap writtenIn (outcomes .1) in omega arith)
+    inventing-fails determined writtenIn two one zeros 70 45 (known two zeros) (known one zeros) (ap writtenIn (outcomes .0)) (ap writtenIn (outcomes .1))
+    (λ e. omega arith)
 
 pub build-inventing-room : Fails builds (Inventing neededBy)
 build-inventing-room =
-    inventing-fails neededBy two one [] _ _ _ _ (known two []) (known one [])
-    (λ e. let z : _≡_ {A = ℕ} 70 45 = sym (ap neededBy (outcomes .2)) ∙ e ∙ ap neededBy (outcomes .3) in omega arith)
+    inventing-fails determined neededBy two one [] 70 45 (known two []) (known one []) (ap neededBy (outcomes .2)) (ap neededBy (outcomes .3)) (λ e. omega arith)
 
-pub build-misreporting : (number : Written → ℕ) → Fails builds (Misreporting builds number)
-build-misreporting = misreporting-fails builds (λ a out. builds-determined (a .0) (a .1) (a .2) (a .3) out)
+pub build-misreporting : (number : Written → Option ℕ) → Fails builds (Misreporting builds number)
+build-misreporting = misreporting-fails determined

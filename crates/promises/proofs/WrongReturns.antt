@@ -1,13 +1,19 @@
--- The calls that write nothing, refusing always: refuted by the example's index, which is good and has `boats` as its entry 0.
+-- The wrong ways of the calls that write nothing, by the example's index, which is good and has `boats` as its entry 0.
+use Prim.Native.Nat.{ℕ}
+use native.Mathlib.Omega.{arith}
 use mathlib.Core.Path.{_≡_, refl, ap}
 use mathlib.Core.Bool.{true, false}
 use Rattle.word.specs.Word.{isWordByte, same, isAnd, isOr, isNot, operatorOf}
 use Rattle.refusal.specs.First.{firstFrom, first}
 use Rattle.list.specs.Ginix.{belowCount, overlapCount}
-use Rattle.index.specs.Format.{entryAt, wordStart, wordLength, part, wordOf, listOf, wordCount}
+use Rattle.list.specs.Cell.{numbersIn}
+use Rattle.list.specs.Kept.{walkFrom, walked}
+use Rattle.index.specs.Format.{entryAt, wordStart, wordLength, listStart, singleCount, pairCount, part, wordOf, singlesOf, lowerOf, upperOf, listOf, wordCount}
 use Rattle.index.specs.Check.{checkOf}
 use Rattle.index.specs.Entry.{lookupAfter, lookupOf, entryAfter, entryOf, numberAfter, entryStart, entryLength, badRange, rangeAnswer, probeAfter, probeOf}
 use Rattle.index.specs.declared.Checked.the-variants.{Good}
+use Rattle.index.specs.declared.Probed.{Probed}
+use Rattle.index.specs.declared.Probed.the-variants.{Counted}
 use Rattle.question.specs.Token.{run, gather, tokensAt, tokens}
 use Rattle.question.specs.Grammar.{fromLeft, question, operand, links, whole}
 use Rattle.question.specs.Reading.{isForeign, refusalOf, asked, readingOf}
@@ -15,6 +21,7 @@ use Rattle.promises.specs.Example.{boats, example}
 use Rattle.promises.specs.Wrong.{
   FailsToBe,
   RefusingAll,
+  InventingAll,
   lookup,
   entry,
   word,
@@ -24,9 +31,11 @@ use Rattle.promises.specs.Wrong.{
   wordRefused,
   probeRefused,
   readingRefused,
+  belowIn,
+  overlappingIn,
 }
 use Rattle.promises.proofs.ExampleLaws.{example-good}
-use Rattle.promises.proofs.WrongLaws.{refusing-all-fails}
+use Rattle.promises.proofs.WrongLaws.{refusing-all-fails, inventing-all-fails}
 
 pub check-refusing : FailsToBe checkOf (RefusingAll checkRefused)
 check-refusing = refusing-all-fails checkOf checkRefused example (ap checkRefused example-good)
@@ -36,6 +45,9 @@ unfolding same firstFrom first entryAt wordStart wordLength wordOf lookupOf
 lookup-refusing =
     refusing-all-fails lookup lookupRefused (example, boats)
     (ap (λ g. lookupRefused (lookupAfter g (first (λ i. same (wordOf example i) boats) (wordCount example)))) example-good)
+
+abbrev pub counted : ℕ → ℕ → Probed
+counted below overlapping = Counted (record { below = below; overlapping = overlapping })
 
 entry-good : entryOf example 0 ≡ Good
 unfolding entryOf
@@ -55,6 +67,25 @@ unfolding badRange probeOf
 probe-refusing =
     refusing-all-fails probe probeRefused (example, 0, 1, 9)
     (ap (λ g. probeRefused (probeAfter g (rangeAnswer false (belowCount 1 (listOf example 0)) (overlapCount 1 9 (listOf example 0))))) entry-good)
+
+-- two probes of `boats`, 2-4 and 8-8: nothing lies below 1, and 2-4 lies below 5
+abbrev Counts : Type 0
+Counts = (probe (example, 0, 1, 9) ≡ counted 0 2) × (probe (example, 0, 5, 9) ≡ counted 1 1)
+
+counts : Counts
+unfolding numbersIn walkFrom walked entryAt listStart singleCount pairCount singlesOf lowerOf upperOf listOf belowCount overlapCount badRange probeOf
+counts = (
+  ap (λ g. probeAfter g (counted 0 2)) entry-good,
+  ap (λ g. probeAfter g (counted 1 1)) entry-good,
+)
+
+pub probe-inventing-below : FailsToBe probe (InventingAll belowIn)
+probe-inventing-below =
+    inventing-all-fails probe belowIn (example, 0, 1, 9) (example, 0, 5, 9) 0 1 (ap belowIn (counts .0)) (ap belowIn (counts .1)) (λ e. omega arith)
+
+pub probe-inventing-overlapping : FailsToBe probe (InventingAll overlappingIn)
+probe-inventing-overlapping =
+    inventing-all-fails probe overlappingIn (example, 0, 1, 9) (example, 0, 5, 9) 2 1 (ap overlappingIn (counts .0)) (ap overlappingIn (counts .1)) (λ e. omega arith)
 
 pub reading-refusing : FailsToBe readingOf (RefusingAll readingRefused)
 unfolding isWordByte same isAnd isOr isNot operatorOf firstFrom first run gather tokensAt tokens fromLeft question operand links whole isForeign refusalOf asked readingOf

@@ -1,4 +1,4 @@
--- "Example, N = 9: boats 2,3,4,8; harbour 1,2,3,6,7; maps 5,6,7,9; tide 3,8,9. W = 52, D = 72, length 172."
+-- The example: four words over nine records, boats 2 to 4 and 8, harbour 1 to 3, 6 and 7, maps 5 to 7 and 9, tide 3, 8 and 9; 172 bytes.
 use Prim.Native.Nat.{ℕ}
 use mathlib.Core.List.{List, [], _∷_, _++_}
 

@@ -1,4 +1,4 @@
--- "For every input, the contract of a public call determines its return and each lent byte and cell afterwards, refusals too."
+-- A contract leaves one outcome for every input, a refusal or not: one return, and one content of what is lent.
 use Prim.Native.Nat.{ℕ}
 use mathlib.Core.Path.{_≡_}
 use mathlib.Core.List.{List}

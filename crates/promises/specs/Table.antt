@@ -1,4 +1,4 @@
--- "P1 to P12 are one table with a single proved statement, about the definitions".
+-- P1 to P12: one table, and what it is for it to be right.
 use Prim.Native.Nat.{ℕ}
 use mathlib.Core.Path.{_≡_}
 use mathlib.Core.List.{List, [], _∷_, _++_}
@@ -33,8 +33,8 @@ AllRight (r ∷ rs) = Right r × AllRight rs
 abbrev pub listed : ℕ → ℕ → Answer
 listed intervals records = Listed (record { intervals = intervals; records = records })
 
--- P1 to P7: "the seven lines above". P8: "union of [1,3] and [4,5] is [1,5]". P9: "of [1,3] and [5,6], both". P10: "intersection of [1,3] and
--- [3,5] is [3,3]". P11: "of [1,2], [1,9], [4,6], empty". P12: "[4,6] probed in [1,4],[6,6],[8,9]: 0 below, 2 overlap".
+-- P1 to P7 are the example's questions; P8 and P9 are unions of lists that touch and that do not; P10 and P11 intersections, the last of them empty;
+-- P12 is a probe
 abbrev pub table : List Row
 table =
     line (boats ++ or′ ++ tide) (listed 2 5) (2 ∷ 4 ∷ 8 ∷ 9 ∷ [])

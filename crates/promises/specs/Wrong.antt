@@ -1,10 +1,13 @@
--- "Shown not to satisfy it": what an implementation of a call is, when it meets the promise, and the five kinds that must not.
+-- What an implementation of a call is, when it meets the promise, and the kinds of which none does.
 use Prim.Native.Nat.{ℕ, _+_}
 use mathlib.Core.Path.{_≡_}
-use mathlib.Core.Bool.{Bool, true, false}
+use mathlib.Core.Bool.{Bool, true, false, cond}
 use mathlib.Core.List.{List, [], _∷_}
+use mathlib.Core.Option.{Option, none, some}
+use lib.Dec.{eqb}
 use lib.ListN.{getD, take}
-use Rattle.refusal.specs.Refusal.{valueOf}
+use Rattle.refusal.specs.declared.Refusal.{Refusal}
+use Rattle.refusal.specs.Refusal.{numberOf, valueOf}
 use Rattle.list.specs.declared.Written.{Written}
 use Rattle.list.specs.declared.Written.the-variants as written
 use Rattle.list.specs.declared.answer.Answer.{Answer}
@@ -21,7 +24,8 @@ use Rattle.index.specs.Entry.{lookupOf, entryOf, entryWord, probeOf}
 use Rattle.join.specs.Join.{Joins}
 use Rattle.question.specs.declared.reader.Reading.{Reading}
 use Rattle.question.specs.declared.reader.Reading.the-variants as reading
-use Rattle.question.specs.Token.{run}
+use Rattle.question.specs.Token.{run, tokens}
+use Rattle.question.specs.Limits.{wordsIn}
 use Rattle.question.specs.Grammar.{fromLeft}
 use Rattle.query.specs.Ask.{Asks}
 use Rattle.build.specs.Build.{Builds}
@@ -82,33 +86,41 @@ word a = entryWord (a .0) (a .1)
 abbrev pub probe : List ℕ × ℕ × ℕ × ℕ → Probed
 probe a = probeOf (a .0) (a .1) (a .2) (a .3)
 
--- ---- the five kinds
+-- ---- the kinds
 
--- "refusing always": whatever is asked, some refusal is returned
+-- what is asked is answered, with no refusal
+abbrev pub Accepts : {A R : Type 0} → (R → Bool) → Writer A R → A → List ℕ → Type 0
+Accepts refused f a out = refused (f a out .0) ≡ false
+
+-- refusing always: whatever is asked, some refusal is returned
 abbrev pub Refusing : {A R : Type 0} → (R → Bool) → Writer A R → Type 0
 Refusing {A} refused f = (a : A) (out : List ℕ) → refused (f a out .0) ≡ true
 
 abbrev pub RefusingAll : {A R : Type 0} → (R → Bool) → (A → R) → Type 0
 RefusingAll {A} refused f = (a : A) → refused (f a) ≡ true
 
--- "one fixed list always": whatever is asked, the same cells stand there afterwards
-abbrev pub Fixed : {A R : Type 0} → Writer A R → Type 0
-Fixed {A} f = (a b : A) (out : List ℕ) → f a out .1 ≡ f b out .1
+-- one fixed list always: any two requests that are accepted leave the same cells
+abbrev pub Fixed : {A R : Type 0} → (R → Bool) → Writer A R → Type 0
+Fixed {A} refused f = (a b : A) (out : List ℕ) → Accepts refused f a out → Accepts refused f b out → f a out .1 ≡ f b out .1
 
--- "writing nothing"
-abbrev pub Silent : {A R : Type 0} → Writer A R → Type 0
-Silent {A} f = (a : A) (out : List ℕ) → f a out .1 ≡ out
+-- writing nothing: a request that is accepted leaves the cells as they were
+abbrev pub Silent : {A R : Type 0} → (R → Bool) → Writer A R → Type 0
+Silent {A} refused f = (a : A) (out : List ℕ) → Accepts refused f a out → f a out .1 ≡ out
 
--- "using the first list or word and skipping the rest": what it writes is what it writes for the first alone
-abbrev pub FirstOnly : {A R : Type 0} → (A → A) → Writer A R → Type 0
-FirstOnly {A} first f = (a : A) (out : List ℕ) → f a out .1 ≡ f (first a) out .1
+-- the first only: a request that is accepted leaves what it leaves for the first list or word alone, if that is accepted too
+abbrev pub FirstOnly : {A R : Type 0} → (R → Bool) → (A → A) → Writer A R → Type 0
+FirstOnly {A} refused first f =
+    (a : A) (out : List ℕ) → Accepts refused f a out → Accepts refused f (first a) out → f a out .1 ≡ f (first a) out .1
 
--- "invented counts of intervals, records or needed room": a number of its own, whatever is asked
-abbrev pub Inventing : {A R : Type 0} → (R → ℕ) → Writer A R → Type 0
-Inventing {A} number f = (a b : A) (out : List ℕ) → number (f a out .0) ≡ number (f b out .0)
+-- invented counts: wherever it reports the number, it is the same
+abbrev pub Inventing : {A R : Type 0} → (R → Option ℕ) → Writer A R → Type 0
+Inventing {A} number f = (a b : A) (out : List ℕ) (m n : ℕ) → number (f a out .0) ≡ some m → number (f b out .0) ≡ some n → m ≡ n
 
--- or, somewhere, a number that is not the promised one
-pub record Misreporting {A R : Type 0} (promise : Promise A R) (number : R → ℕ) (f : Writer A R) : Type 0 where
+abbrev pub InventingAll : {A R : Type 0} → (R → Option ℕ) → (A → R) → Type 0
+InventingAll {A} number f = (a b : A) (m n : ℕ) → number (f a) ≡ some m → number (f b) ≡ some n → m ≡ n
+
+-- or somewhere it does not report the number that is promised
+pub record Misreporting {A R : Type 0} (promise : Promise A R) (number : R → Option ℕ) (f : Writer A R) : Type 0 where
   pub asked : A
   pub lent : List ℕ
   pub after : List ℕ
@@ -152,33 +164,50 @@ readingRefused (reading.Refused r) = true
 abbrev pub firstEntry : List ℕ × List ℕ → List ℕ × List ℕ
 firstEntry a = (a .0, take 1 (a .1))
 
--- of a question that begins with a word
-abbrev pub firstWord : List ℕ × List ℕ → List ℕ × List ℕ
-firstWord a = (a .0, take (run (a .1)) (a .1))
+abbrev pub firstOf : List (List ℕ) → List ℕ
+firstOf [] = []
+firstOf (w ∷ ws) = w
 
+-- the question's first word, at whatever depth; the empty question where it has none
+abbrev pub firstWord : List ℕ × List ℕ → List ℕ × List ℕ
+firstWord a = (a .0, firstOf (wordsIn (tokens (a .1))))
+
+-- the first word with its byte 10, its count, and its numbers
 abbrev pub firstBuilt : ℕ × List ℕ × List ℕ × List ℕ → ℕ × List ℕ × List ℕ × List ℕ
 firstBuilt a = (a .0, take (run (a .1) + 1) (a .1), take 1 (a .2), take (getD (a .2) 0 0) (a .3))
 
--- ---- the numbers that a call reports, 0 where it reports none
+-- ---- the numbers that a call reports, where it reports them
 
-abbrev pub intervalsIn : Answer → ℕ
-intervalsIn (answer.Listed t) = t .intervals
-intervalsIn (answer.Refused r) = 0
+abbrev pub intervalsIn : Answer → Option ℕ
+intervalsIn (answer.Listed t) = some (t .intervals)
+intervalsIn (answer.Refused r) = none
 
-abbrev pub recordsIn : Answer → ℕ
-recordsIn (answer.Listed t) = t .records
-recordsIn (answer.Refused r) = 0
+abbrev pub recordsIn : Answer → Option ℕ
+recordsIn (answer.Listed t) = some (t .records)
+recordsIn (answer.Refused r) = none
 
--- 12: "no room | intervals, numbers or bytes needed"
-abbrev pub neededIn : Answer → ℕ
-neededIn (answer.Listed t) = 0
-neededIn (answer.Refused r) = valueOf r
+-- the room that refusal 12 says is needed
+abbrev pub neededOf : Refusal → Option ℕ
+neededOf r = cond (eqb (numberOf r) 12) (some (valueOf r)) none
 
--- "other writing calls report the intervals, numbers or bytes written"
-abbrev pub writtenIn : Written → ℕ
-writtenIn (written.Wrote n) = n
-writtenIn (written.Refused r) = 0
+abbrev pub neededIn : Answer → Option ℕ
+neededIn (answer.Listed t) = none
+neededIn (answer.Refused r) = neededOf r
 
-abbrev pub neededBy : Written → ℕ
-neededBy (written.Wrote n) = 0
-neededBy (written.Refused r) = valueOf r
+-- the intervals, numbers or bytes written
+abbrev pub writtenIn : Written → Option ℕ
+writtenIn (written.Wrote n) = some n
+writtenIn (written.Refused r) = none
+
+abbrev pub neededBy : Written → Option ℕ
+neededBy (written.Wrote n) = none
+neededBy (written.Refused r) = neededOf r
+
+-- the intervals that lie below a probed range, and those that overlap it
+abbrev pub belowIn : Probed → Option ℕ
+belowIn (Counted p) = some (p .below)
+belowIn (NoCount r) = none
+
+abbrev pub overlappingIn : Probed → Option ℕ
+overlappingIn (Counted p) = some (p .overlapping)
+overlappingIn (NoCount r) = none

@@ -1,0 +1,117 @@
+-- The first of the first alone is the first alone: of entries, of a question's words and of what is lent to a build.
+use Prim.Native.Nat.{ℕ, zero, suc, _+_}
+use native.Mathlib.Numerals.{add-one}
+use mathlib.Core.Path.{_≡_, refl, sym, ap, _∙_}
+use mathlib.Core.Bool.{Bool, true, false}
+use mathlib.Core.List.{List, [], _∷_, _++_, append-nil, append-assoc}
+use lib.Dec.{eqb}
+use lib.ListN.{getD, take}
+use Rattle.laws.proofs.Tests.{and-both, both-and}
+use Rattle.word.specs.Word.{isWordByte, allWordBytes, operatorOf}
+use Rattle.word.specs.declared.Operator.{Operator}
+use Rattle.word.specs.declared.Operator.the-variants.{And, Or, Not, Neither}
+use Rattle.question.specs.Token.{choose, Tok, openT, closeT, otherT, runTok, flush, mark, run, gather, tokensAt, tokens}
+use Rattle.question.specs.Limits.{wordsIn}
+use Rattle.promises.specs.Wrong.{firstEntry, firstOf, firstWord, firstBuilt}
+
+take-twice : (n : ℕ) (xs : List ℕ) → take n (take n xs) ≡ take n xs
+take-twice zero xs = refl
+take-twice (suc n) [] = refl
+take-twice (suc n) (x ∷ xs) = ap (λ ys. x ∷ ys) (take-twice n xs)
+
+pub first-entry-twice : (a : List ℕ × List ℕ) → firstEntry (firstEntry a) ≡ firstEntry a
+first-entry-twice a = ap (λ ys. (a .0, ys)) (take-twice 1 (a .1))
+
+-- ---- a question
+
+-- a word, read as a question, is its first word
+abbrev Alone : List ℕ → Type 0
+Alone w = firstOf (wordsIn (tokens w)) ≡ w
+
+run-gathered : (n start : ℕ) (acc w : List ℕ) → allWordBytes w ≡ true → gather n start acc w ≡ flush start (acc ++ w) []
+unfolding gather allWordBytes
+run-gathered n start acc [] e = ap (λ l. flush start l []) (sym (append-nil acc))
+run-gathered n start acc (b ∷ bs) e =
+    let both = and-both (isWordByte b) (allWordBytes bs) e in
+    rw (both .0) (run-gathered (n + 1) start (acc ++ b ∷ []) bs (both .1) ∙ ap (λ l. flush start l []) (append-assoc acc (b ∷ []) bs))
+
+word-alone : (w : List ℕ) → allWordBytes w ≡ true → operatorOf w ≡ Neither → Alone w
+unfolding tokens tokensAt wordsIn
+word-alone [] e o = ap (λ ts. firstOf (wordsIn ts)) (run-gathered 0 0 [] [] e)
+word-alone (a ∷ az) e o = ap (λ ts. firstOf (wordsIn ts)) (run-gathered 0 0 [] (a ∷ az) e) ∙ ap (λ p. firstOf (wordsIn (runTok p (a ∷ az) 0 ∷ []))) o
+
+none-alone : Alone []
+unfolding tokens tokensAt gather wordsIn
+none-alone = refl
+
+flush-alone : (start : ℕ) (acc : List ℕ) (ts : List Tok) → allWordBytes acc ≡ true → Alone (firstOf (wordsIn ts)) → Alone (firstOf (wordsIn (flush start acc ts)))
+unfolding wordsIn
+flush-alone start [] ts e h = h
+flush-alone start (a ∷ az) ts e h = go (operatorOf (a ∷ az)) refl
+  where
+    go : (o : Operator) → operatorOf (a ∷ az) ≡ o → Alone (firstOf (wordsIn (runTok o (a ∷ az) start ∷ ts)))
+    go And p = h
+    go Or p = h
+    go Not p = h
+    go Neither p = word-alone (a ∷ az) e p
+
+mark-alone : (n : ℕ) (ts : List Tok) (s t u : Bool) → Alone (firstOf (wordsIn ts)) →
+    Alone (firstOf (wordsIn (choose s (λ _. ts) (λ _. choose t (λ _. openT n ∷ ts) (λ _. choose u (λ _. closeT n ∷ ts) (λ _. otherT n ∷ ts))))))
+unfolding wordsIn
+mark-alone n ts true t u h = h
+mark-alone n ts false true u h = h
+mark-alone n ts false false true h = h
+mark-alone n ts false false false h = h
+
+all-and : (acc : List ℕ) (b : ℕ) → allWordBytes acc ≡ true → isWordByte b ≡ true → allWordBytes (acc ++ b ∷ []) ≡ true
+unfolding allWordBytes
+all-and [] b e p = both-and (isWordByte b) true p refl
+all-and (a ∷ az) b e p =
+    let both = and-both (isWordByte a) (allWordBytes az) e in
+    both-and (isWordByte a) (allWordBytes (az ++ b ∷ [])) (both .0) (all-and az b (both .1) p)
+
+first-alone : (n start : ℕ) (acc bs : List ℕ) → allWordBytes acc ≡ true → Alone (firstOf (wordsIn (gather n start acc bs)))
+unfolding gather wordsIn allWordBytes
+first-alone n start acc [] e = flush-alone start acc [] e none-alone
+first-alone n start acc (b ∷ bs) e = go (isWordByte b) refl (first-alone (n + 1) start (acc ++ b ∷ []) bs) (first-alone (n + 1) (n + 1) [] bs refl)
+  where
+    go : (t : Bool) → isWordByte b ≡ t → (allWordBytes (acc ++ b ∷ []) ≡ true → Alone (firstOf (wordsIn (gather (n + 1) start (acc ++ b ∷ []) bs)))) →
+        Alone (firstOf (wordsIn (gather (n + 1) (n + 1) [] bs))) →
+        Alone (firstOf (wordsIn (choose t (λ _. gather (n + 1) start (acc ++ (b ∷ [])) bs) (λ _. flush start acc (mark n b (gather (n + 1) (n + 1) [] bs))))))
+    go true p more rest = more (all-and acc b e p)
+    go false p more rest =
+        flush-alone start acc (mark n b (gather (n + 1) (n + 1) [] bs)) e (mark-alone n (gather (n + 1) (n + 1) [] bs) (eqb b 32) (eqb b 40) (eqb b 41) rest)
+
+first-of-tokens : (s : List ℕ) → Alone (firstOf (wordsIn (tokens s)))
+unfolding tokens tokensAt allWordBytes
+first-of-tokens s = first-alone 0 0 [] s refl
+
+pub first-word-twice : (a : List ℕ × List ℕ) → firstWord (firstWord a) ≡ firstWord a
+first-word-twice a = ap (λ q. (a .0, q)) (first-of-tokens (a .1))
+
+-- ---- a build
+
+run-first : (w : List ℕ) → run (take (run w + 1) w) ≡ run w
+unfolding run
+run-first [] = refl
+run-first (b ∷ bs) = go (isWordByte b) refl (run-first bs)
+  where
+    go : (t : Bool) → isWordByte b ≡ t → run (take (run bs + 1) bs) ≡ run bs → run (take (run (b ∷ bs) + 1) (b ∷ bs)) ≡ run (b ∷ bs)
+    go true e h = rw (e, add-one (suc (run bs))) (rw (e) (ap suc (rw (add-one (run bs)) at h)))
+    go false e h =
+        let stops : run (b ∷ []) ≡ 0 = rw e in
+        rw e stops
+
+count-first : (counts : List ℕ) → getD (take 1 counts) 0 0 ≡ getD counts 0 0
+count-first [] = refl
+count-first (c ∷ cs) = refl
+
+pub first-built-twice : (a : ℕ × List ℕ × List ℕ × List ℕ) → firstBuilt (firstBuilt a) ≡ firstBuilt a
+first-built-twice a =
+    let words = take (run (a .1) + 1) (a .1) in
+    let c = getD (a .2) 0 0 in
+    ap (λ k. (a .0, take (k + 1) words, take 1 (take 1 (a .2)), take (getD (take 1 (a .2)) 0 0) (take c (a .3)))) (run-first (a .1))
+    ∙ ap (λ ws. (a .0, ws, take 1 (take 1 (a .2)), take (getD (take 1 (a .2)) 0 0) (take c (a .3)))) (take-twice (run (a .1) + 1) (a .1))
+    ∙ ap (λ cs. (a .0, words, cs, take (getD (take 1 (a .2)) 0 0) (take c (a .3)))) (take-twice 1 (a .2))
+    ∙ ap (λ k. (a .0, words, take 1 (a .2), take k (take c (a .3)))) (count-first (a .2))
+    ∙ ap (λ xs. (a .0, words, take 1 (a .2), xs)) (take-twice c (a .3))

@@ -1,0 +1,133 @@
+-- For each promise an implementation that meets it, and what becomes of one that is made wrong in one way only.
+use Prim.Native.Nat.{ℕ, _/_}
+use mathlib.Core.Bool.{Bool, true, cond}
+use mathlib.Core.List.{List}
+use mathlib.Core.Option.{Option}
+use mathlib.Core.Path.{_≡_}
+use lib.Dec.{eqb}
+use lib.ListN.{length}
+use Rattle.refusal.specs.declared.Refusal.{Refusal}
+use Rattle.refusal.specs.declared.Refusal.the-variants.{Number, Interval, Room}
+use Rattle.refusal.specs.Refusal.{numberOf}
+use Rattle.list.specs.declared.Written.{Written}
+use Rattle.list.specs.declared.Written.the-variants as written
+use Rattle.list.specs.declared.answer.Answer.{Answer}
+use Rattle.list.specs.declared.answer.Answer.the-variants as answer
+use Rattle.list.specs.Interval.{intervals, records}
+use Rattle.convert.specs.Convert.{answerOf, leftOf, badNumberOf, intervalsOf, badIntervalOf, numbersOf}
+use Rattle.index.specs.declared.Probed.{Probed}
+use Rattle.index.specs.declared.Probed.the-variants.{Counted, NoCount}
+use Rattle.index.specs.Check.{checkOf}
+use Rattle.merge.specs.Asked.{listsOf}
+use Rattle.join.specs.Join.{requestOf, joinAnswer, joinCells}
+use Rattle.question.specs.Grammar.{fromLeft}
+use Rattle.question.specs.Reading.{asked}
+use Rattle.query.specs.Ask.{askAnswer, askCells}
+use Rattle.build.specs.Build.{buildOf, indexFrom, bytesAfter}
+use Rattle.promises.specs.Wrong.{Writer, Promise, Meets, Is}
+
+-- ---- right ones
+
+abbrev pub rightIntervals : Writer (List ℕ) Written
+rightIntervals xs out = (
+  answerOf Number (badNumberOf xs) (intervals (intervalsOf xs)) (length out / 2),
+  leftOf (badNumberOf xs) (intervals (intervalsOf xs)) (length out / 2) (intervalsOf xs) out,
+)
+
+abbrev pub rightNumbers : Writer (List ℕ) Written
+rightNumbers c out = (
+  answerOf Interval (badIntervalOf c) (records c) (length out),
+  leftOf (badIntervalOf c) (records c) (length out) (numbersOf c) out,
+)
+
+abbrev pub rightJoin : (List (List ℕ) → List ℕ) → Writer (List ℕ × List ℕ) Answer
+rightJoin method a out = (
+  joinAnswer (requestOf (a .0) (a .1)) (method (listsOf (a .0) (a .1))) (length out / 2),
+  joinCells (requestOf (a .0) (a .1)) (method (listsOf (a .0) (a .1))) (length out / 2) out,
+)
+
+abbrev pub rightAsk : Writer (List ℕ × List ℕ) Answer
+rightAsk a out = (
+  askAnswer (checkOf (a .0)) (a .0) (asked fromLeft (a .1)) (length out / 2),
+  askCells (checkOf (a .0)) (a .0) (asked fromLeft (a .1)) (length out / 2) out,
+)
+
+abbrev pub rightBuild : Writer (ℕ × List ℕ × List ℕ × List ℕ) Written
+rightBuild a out = (
+  buildOf (a .0) (a .1) (a .2) (a .3) (length out),
+  bytesAfter (buildOf (a .0) (a .1) (a .2) (a .3) (length out)) (indexFrom (a .0) (a .1) (a .2) (a .3)) out,
+)
+
+-- ---- what is made of one
+
+-- where it accepts, other cells are left
+abbrev pub leaving : {A R : Type 0} → (R → Bool) → (A → List ℕ → List ℕ) → Writer A R → Writer A R
+leaving refused left f a out = (f a out .0, cond (refused (f a out .0)) (f a out .1) (left a out))
+
+-- something else is returned
+abbrev pub returning : {A R : Type 0} → (A → List ℕ → R → R) → Writer A R → Writer A R
+returning change f a out = (change a out (f a out .0), f a out .1)
+
+-- one number is n, wherever it is reported
+abbrev pub withIntervals : ℕ → Answer → Answer
+withIntervals n (answer.Listed t) = answer.Listed (record { intervals = n; records = t .records })
+withIntervals n (answer.Refused r) = answer.Refused r
+
+abbrev pub withRecords : ℕ → Answer → Answer
+withRecords n (answer.Listed t) = answer.Listed (record { intervals = t .intervals; records = n })
+withRecords n (answer.Refused r) = answer.Refused r
+
+abbrev pub withRoom : ℕ → Refusal → Refusal
+withRoom n r = cond (eqb (numberOf r) 12) (Room n) r
+
+abbrev pub withNeeded : ℕ → Answer → Answer
+withNeeded n (answer.Listed t) = answer.Listed t
+withNeeded n (answer.Refused r) = answer.Refused (withRoom n r)
+
+abbrev pub withWritten : ℕ → Written → Written
+withWritten n (written.Wrote m) = written.Wrote n
+withWritten n (written.Refused r) = written.Refused r
+
+abbrev pub withNeededBy : ℕ → Written → Written
+withNeededBy n (written.Wrote m) = written.Wrote m
+withNeededBy n (written.Refused r) = written.Refused (withRoom n r)
+
+-- ---- of one that meets the promise, none that is made so meets it
+
+pub record WrongWays {A R : Type 0} (promise : Promise A R) (refused : R → Bool) (f : Writer A R) : Type 0 where
+  pub meets : Meets promise f
+  pub refusing : (refusal : A → List ℕ → R) → ((a : A) (out : List ℕ) → refused (refusal a out) ≡ true) →
+      Meets promise (returning (λ a out r. refusal a out) f) → ⊥
+  pub fixed : (cells : List ℕ → List ℕ) → Meets promise (leaving refused (λ a out. cells out) f) → ⊥
+  pub silent : Meets promise (leaving refused (λ a out. out) f) → ⊥
+  pub misreporting : (number : R → Option ℕ) (change : A → List ℕ → R → R) (a : A) (out : List ℕ) →
+      (number (change a out (f a out .0)) ≡ number (f a out .0) → ⊥) → Meets promise (returning change f) → ⊥
+
+abbrev pub WrongFirst : {A R : Type 0} → Promise A R → (R → Bool) → (A → A) → Writer A R → Type 0
+WrongFirst promise refused first f = Meets promise (leaving refused (λ a out. f (first a) out .1) f) → ⊥
+
+pub record WrongCounts {A : Type 0} (promise : Promise A Answer) (f : Writer A Answer) : Type 0 where
+  pub intervals : (n : List ℕ → ℕ) → Meets promise (returning (λ a out. withIntervals (n out)) f) → ⊥
+  pub records : (n : List ℕ → ℕ) → Meets promise (returning (λ a out. withRecords (n out)) f) → ⊥
+  pub room : (n : List ℕ → ℕ) → Meets promise (returning (λ a out. withNeeded (n out)) f) → ⊥
+
+pub record WrongWritten {A : Type 0} (promise : Promise A Written) (f : Writer A Written) : Type 0 where
+  pub written : (n : List ℕ → ℕ) → Meets promise (returning (λ a out. withWritten (n out)) f) → ⊥
+  pub room : (n : List ℕ → ℕ) → Meets promise (returning (λ a out. withNeededBy (n out)) f) → ⊥
+
+-- ---- the same of the calls that write nothing
+
+abbrev pub withBelow : ℕ → Probed → Probed
+withBelow n (Counted p) = Counted (record { below = n; overlapping = p .overlapping })
+withBelow n (NoCount r) = NoCount r
+
+abbrev pub withOverlapping : ℕ → Probed → Probed
+withOverlapping n (Counted p) = Counted (record { below = p .below; overlapping = n })
+withOverlapping n (NoCount r) = NoCount r
+
+abbrev pub WrongRefusal : {A R : Type 0} → (A → R) → (R → Bool) → Type 0
+WrongRefusal {A} {R} value refused = (refusal : A → R) → ((a : A) → refused (refusal a) ≡ true) → Is value refusal → ⊥
+
+pub record WrongProbe {A : Type 0} (value : A → Probed) : Type 0 where
+  pub below : (n : ℕ) → Is value (λ a. withBelow n (value a)) → ⊥
+  pub overlapping : (n : ℕ) → Is value (λ a. withOverlapping n (value a)) → ⊥

@@ -1,0 +1,85 @@
+-- The refusals, one table: the number of each, and the value that it carries.
+use Prim.Native.Nat.{ℕ, _-_}
+use mathlib.Core.Path.{_≡_}
+use mathlib.Core.List.{List, [], _∷_}
+use lib.ListN.{getD}
+use Rattle.refusal.specs.declared.Refusal.{Refusal}
+use Rattle.refusal.specs.declared.Refusal.the-variants.{
+  IndexLength,
+  Edition,
+  Trailer,
+  Directory,
+  KeptList,
+  QuestionLength,
+  QuestionByte,
+  LongWord,
+  Grammar,
+  WordLimit,
+  BracketLimit,
+  Room,
+  ListCount,
+  EntryNumber,
+  Number,
+  Interval,
+  BuildWord,
+  BuildCount,
+  BuildLimit,
+  ProbeRange,
+  Missing,
+}
+use Rattle.refusal.specs.Refusal.{numberOf, valueOf}
+
+-- a number, with a refusal that carries any value, or with one whose value is 0
+pub data Numbered : Type 0 where
+  carries : ℕ → (ℕ → Refusal) → Numbered
+  zeroed : ℕ → Refusal → Numbered
+
+abbrev pub refusals : List Numbered
+refusals =
+    carries 1 IndexLength
+    ∷ carries 2 Edition
+    ∷ zeroed 3 Trailer
+    ∷ carries 4 Directory
+    ∷ carries 5 KeptList
+    ∷ carries 6 QuestionLength
+    ∷ carries 7 QuestionByte
+    ∷ carries 8 LongWord
+    ∷ carries 9 Grammar
+    ∷ carries 10 WordLimit
+    ∷ carries 11 BracketLimit
+    ∷ carries 12 Room
+    ∷ carries 13 ListCount
+    ∷ carries 14 EntryNumber
+    ∷ carries 15 Number
+    ∷ carries 16 Interval
+    ∷ carries 17 BuildWord
+    ∷ carries 18 BuildCount
+    ∷ carries 19 BuildLimit
+    ∷ zeroed 20 ProbeRange
+    ∷ zeroed 21 Missing
+    ∷ []
+
+-- the numbers that the rows give
+abbrev pub numbersIn : List Numbered → List ℕ
+numbersIn [] = []
+numbersIn (carries n refusal ∷ rows) = n ∷ numbersIn rows
+numbersIn (zeroed n refusal ∷ rows) = n ∷ numbersIn rows
+
+abbrev pub RowRight : Numbered → Type 0
+RowRight (carries n refusal) = (value : ℕ) → (numberOf (refusal value) ≡ n) × (valueOf (refusal value) ≡ value)
+RowRight (zeroed n refusal) = (numberOf refusal ≡ n) × (valueOf refusal ≡ 0)
+
+abbrev pub RowsRight : List Numbered → Type 0
+RowsRight [] = Unit {0}
+RowsRight (row ∷ rows) = RowRight row × RowsRight rows
+
+-- a row at a value
+abbrev pub made : Numbered → ℕ → Refusal
+made (carries n refusal) value = refusal value
+made (zeroed n refusal) value = refusal
+
+-- each row is right, the numbers are those from 1 to 21 in their order, and the row that a refusal's number names gives it back from its value
+pub record AllNumbered (rows : List Numbered) : Type 0 where
+  pub right : RowsRight rows
+  pub ordered : numbersIn rows ≡ 1 ∷ 2 ∷ 3 ∷ 4 ∷ 5 ∷ 6 ∷ 7 ∷ 8 ∷ 9 ∷ 10 ∷ 11 ∷ 12 ∷ 13 ∷ 14 ∷ 15 ∷ 16 ∷ 17 ∷ 18 ∷ 19 ∷ 20 ∷ 21 ∷ []
+  pub complete : (r : Refusal) → made (getD rows (numberOf r - 1) (zeroed 0 Missing)) (valueOf r) ≡ r
