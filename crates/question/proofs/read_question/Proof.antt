@@ -1,4 +1,4 @@
--- Refusal by refusal, in the order of document 01.
+-- Refusal by refusal, in their order.
 use mathlib.Core.Path.{sym, _∙_}
 use Rattle.question.specs.Grammar.{fromLeft}
 use Rattle.question.proofs.FaultLaws.{reading-length, reading-foreign, reading-long, reading-else}
