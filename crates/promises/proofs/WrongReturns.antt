@@ -29,6 +29,7 @@ use Rattle.promises.specs.Wrong.{
   checkRefused,
   lookupRefused,
   wordRefused,
+  partRefused,
   probeRefused,
   readingRefused,
   belowIn,
@@ -56,10 +57,10 @@ entry-good = ap (λ g. entryAfter g true) example-good
 pub entry-refusing : FailsToBe entry (RefusingAll checkRefused)
 entry-refusing = refusing-all-fails entry checkRefused (example, 0) (ap checkRefused entry-good)
 
-pub word-refusing : FailsToBe word (RefusingAll (λ s. wordRefused (s .bytes)))
+pub word-refusing : FailsToBe word (RefusingAll partRefused)
 unfolding entryAt wordStart wordLength entryStart entryLength
 word-refusing =
-    refusing-all-fails word (λ s. wordRefused (s .bytes)) (record { memory = 0; place = 0; bytes = example }, 0)
+    refusing-all-fails word partRefused (record { memory = 0; place = 0; bytes = example }, 0)
     (ap (λ g. wordRefused (part (numberAfter g (wordStart example 0)) (numberAfter g (wordLength example 0)) example)) entry-good)
 
 pub probe-refusing : FailsToBe probe (RefusingAll probeRefused)

@@ -151,6 +151,9 @@ abbrev pub wordRefused : List ℕ → Bool
 wordRefused [] = true
 wordRefused (b ∷ bs) = false
 
+abbrev pub partRefused : Slice → Bool
+partRefused part = wordRefused (part .bytes)
+
 abbrev pub probeRefused : Probed → Bool
 probeRefused (Counted p) = false
 probeRefused (NoCount r) = true
