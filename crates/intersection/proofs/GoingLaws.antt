@@ -21,7 +21,7 @@ use Rattle.merge.specs.Asked.{Asked, listsOf}
 use Rattle.merge.specs.Places.{singlesIn, lowerIn, upperIn}
 use Rattle.merge.specs.Sweep.{Sweeps}
 use Rattle.merge.proofs.ListsLaws.{entry-kept}
-use Rattle.intersection.specs.Probing.{between, Fits, Puts, inAll, Within}
+use Rattle.intersection.specs.Probing.{between, CellsFit, CellsPut, inAll, Within}
 use Rattle.intersection.proofs.BetweenLaws.{between-even, swept-between, between-room, between-cells-few, between-records-few}
 use Rattle.intersection.proofs.ProbingLaws.{every-out}
 
@@ -117,7 +117,7 @@ module _ (index entries : List ℕ) (asked : Asked index entries) (j : ℕ) (h :
       unfolding listOf
       stop f = out-all (u + 1) (read-behind (highest index) S L U at (g .k) (g .read) o)
 
-      pub going-fits : (writing ≡ true → length (intersectionOf (listsOf index entries)) ≤ length out₀) → Fits writing out t (between (inAll index entries) l u)
+      pub going-fits : (writing ≡ true → length (intersectionOf (listsOf index entries)) ≤ length out₀) → CellsFit writing out t (between (inAll index entries) l u)
       unfolding intersectionOf
       going-fits r =
           let e = between-even (inAll index entries) l u in
@@ -129,7 +129,7 @@ module _ (index entries : List ℕ) (asked : Asked index entries) (j : ℕ) (h :
             records-small = between-records-few (inAll index entries) top writing out₀ out (g .x) (2 * t .intervals) (t .records) (g .swept) l u reach (bounds .1) up low stop;
           }
 
-      pub going-next : (out′ : List ℕ) (t′ : Tally) → Puts writing out out′ t (between (inAll index entries) l u) t′ →
+      pub going-next : (out′ : List ℕ) (t′ : Tally) → CellsPut writing out out′ t (between (inAll index entries) l u) t′ →
           Going index entries (getD entries j 0) writing out₀ out′ t′ (nextPlace S L at) (i + 1)
       going-next out′ t′ q =
           let e = between-even (inAll index entries) l u in

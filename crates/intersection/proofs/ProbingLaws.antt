@@ -3,12 +3,12 @@ use mathlib.Core.Path.{_≡_, refl, sym, ap, _∙_}
 use Prim.Native.Nat.{ℕ, zero, suc, min, _+_, _-_, _*_, _≤_, _<_}
 use native.Mathlib.Omega.{arith}
 use mathlib.Core.Logic.{_⊎_, ⊎-elim}
-use mathlib.Core.Bool.{Bool, true, false, cond, and-false}
-use mathlib.Core.List.{List, [], _∷_, _++_, append-nil}
+use mathlib.Core.Bool.{Bool, true, false, not, cond, and-false}
+use mathlib.Core.List.{List, [], _∷_}
 use lib.ListN.{length, getD, drop, set}
 use lib.Seq.{sets, length-sets}
-use Rattle.laws.proofs.Tests.{true-false, leb-cases}
-use Rattle.laws.proofs.Lists.{sets-two, sets-append}
+use Rattle.laws.proofs.Tests.{true-false, and-both, by-test, leb-cases}
+use Rattle.laws.proofs.Lists.{sets-two}
 use Rattle.list.specs.declared.answer.Tally.{Tally}
 use Rattle.list.specs.Interval.{top, names, intervals, records}
 use Rattle.list.specs.Stretches.{turned, stretches, kept}
@@ -17,8 +17,9 @@ use Rattle.list.specs.Sense.{Steady}
 use Rattle.list.proofs.StretchLaws.{stretches-on, stretches-end}
 use Rattle.index.specs.Format.{listOf}
 use Rattle.merge.specs.Asked.{listsOf}
+use Rattle.merge.specs.Put.{Fitting, Put, PutWhere, upTo}
 use Rattle.merge.proofs.ListsLaws.{lists-next, lists-end}
-use Rattle.intersection.specs.Probing.{between, Fits, Puts, inAll, Within, closing, lowerOn}
+use Rattle.intersection.specs.Probing.{between, CellsFit, CellsPut, inAll, Within, closes, lowerOn}
 
 -- ---- a list with the fewest intervals of those below j
 
@@ -104,88 +105,101 @@ looked-end index entries x b until k h m r =
 pub within-later : (index entries : List ℕ) (j a b x : ℕ) → a ≤ x → Within index entries j a b → Within index entries j x b
 within-later index entries j a b x h w = record { asked = w .asked; list = w .list; high = w .high; covers = λ y f g. w .covers y (omega arith) g }
 
+-- ---- what is left to put: putting the cells c behind a tally is putting the cells c₀ behind the one before
+
+record Left (writing : Bool) (out₀ : List ℕ) (t₀ : Tally) (c₀ out : List ℕ) (t : Tally) (c : List ℕ) : Type 0 where
+  intervals-left : t₀ .intervals + intervals c₀ ≡ t .intervals + intervals c
+  records-left : t₀ .records + records c₀ ≡ t .records + records c
+  cells-left : cond writing (sets out₀ (2 * t₀ .intervals) c₀) out₀ ≡ cond writing (sets out (2 * t .intervals) c) out
+
+pub cells-put-long : (writing : Bool) (out out′ : List ℕ) (t : Tally) (c : List ℕ) (r : Tally) → CellsPut writing out out′ t c r → length out′ ≡ length out
+cells-put-long true out out′ t c r q = ap length (q .cells) ∙ length-sets out (2 * t .intervals) c
+cells-put-long false out out′ t c r q = ap length (q .cells)
+
+module _ (writing : Bool) (out₀ : List ℕ) (t₀ : Tally) (c₀ out : List ℕ) (t : Tally) where
+  -- the first interval of what is left fits, where all does
+  left-fits : (l u : ℕ) (c : List ℕ) → l ≤ u → u ≤ top → Left writing out₀ t₀ c₀ out t (l ∷ u ∷ c) → CellsFit writing out₀ t₀ c₀ → Fitting writing out t (record { lower = l; upper = u })
+  left-fits l u c o m s f = record {
+    room = λ w. let g = f .room w in omega (arith, s .intervals-left, long w);
+    few = let g = f .intervals-small in omega (arith, s .intervals-left);
+    small = let g = f .records-small in omega (arith, s .records-left);
+    order = o;
+    high = m;
+  }
+    where
+      long : writing ≡ true → length out ≡ length out₀
+      long w =
+          sym (length-sets out (2 * t .intervals) (l ∷ u ∷ c))
+          ∙ ap length (sym (ap (λ (v : Bool). cond v (sets out₀ (2 * t₀ .intervals) c₀) out₀) (sym w) ∙ s .cells-left ∙ ap (λ (v : Bool). cond v (sets out (2 * t .intervals) (l ∷ u ∷ c)) out) w))
+          ∙ length-sets out₀ (2 * t₀ .intervals) c₀
+
+  left-put : (l u : ℕ) (c out′ : List ℕ) (t′ : Tally) → Left writing out₀ t₀ c₀ out t (l ∷ u ∷ c) → Put writing out out′ t (record { lower = l; upper = u }) t′ →
+      Left writing out₀ t₀ c₀ out′ t′ c
+  unfolding records
+  left-put l u c out′ t′ s q =
+      let i = q .intervals-more in
+      record {
+        intervals-left = omega (arith, s .intervals-left);
+        records-left = omega (arith, s .records-left, q .records-more);
+        cells-left = s .cells-left ∙ go writing (q .cells);
+      }
+    where
+      go : (w : Bool) → out′ ≡ cond w (set (set out (2 * t .intervals) l) (2 * t .intervals + 1) u) out →
+          cond w (sets out (2 * t .intervals) (l ∷ u ∷ c)) out ≡ cond w (sets out′ (2 * t′ .intervals) c) out′
+      go true e =
+          let i = q .intervals-more in
+          let k : 2 * t′ .intervals ≡ 2 * t .intervals + 2 = omega arith in
+          rw (e, k) (sets-two out (2 * t .intervals) l u c)
+      go false e = sym e
+
+  left-end : Left writing out₀ t₀ c₀ out t [] → CellsPut writing out₀ out t₀ c₀ t
+  unfolding records
+  left-end s = record {
+    intervals-more = omega (arith, s .intervals-left);
+    records-more = omega (arith, s .records-left);
+    cells = sym (s .cells-left ∙ go writing);
+  }
+    where
+      go : (w : Bool) → cond w (sets out (2 * t .intervals) []) out ≡ out
+      go true = refl
+      go false = refl
+
 -- ---- the pieces of one interval: what is still to be put from x on, where a piece may be open
+
+pub closes-not : (o v : Bool) → (o ≡ false) ⊎ (v ≡ true) → closes o v ≡ false
+closes-not false v h = refl
+closes-not true true h = refl
+closes-not true false h = ⊎-elim (λ e. true-false e) (λ e. true-false (sym e)) h
+
+pub closes-so : (o v : Bool) → o ≡ true → v ≡ false → closes o v ≡ true
+closes-so o v e f = rw (e, f)
 
 abbrev pending : (ℕ → Bool) → ℕ → Bool → ℕ → ℕ → List ℕ
 pending p b o l x = kept o l (stretches p o x (b + 1 - x))
 
-pending-turn : (o v : Bool) (l x : ℕ) (r : List ℕ) → kept o l (turned o v x r) ≡ closing o l x v ++ kept v (lowerOn o l x) r
+-- the piece that closes before x comes first
+abbrev closed : Bool → ℕ → ℕ → List ℕ → List ℕ
+closed test l x c = cond test (l ∷ (x - 1) ∷ c) c
+
+pending-turn : (o v : Bool) (l x : ℕ) (r : List ℕ) → kept o l (turned o v x r) ≡ closed (closes o v) l x (kept v (lowerOn o l x) r)
 pending-turn false false l x r = refl
 pending-turn false true l x r = refl
 pending-turn true false l x r = refl
 pending-turn true true l x r = refl
 
 pending-next : (p : ℕ → Bool) (b : ℕ) (o v : Bool) (l x u : ℕ) → Steady p x v u → u ≤ b + 1 →
-    pending p b o l x ≡ closing o l x v ++ pending p b v (lowerOn o l x) u
+    pending p b o l x ≡ closed (closes o v) l x (pending p b v (lowerOn o l x) u)
 pending-next p b o v l x u s h =
     rw (stretches-on p o v b x u (s .later) h (s .same)) (pending-turn o v l x (stretches p v u (b + 1 - u)))
 
-pending-end : (p : ℕ → Bool) (b : ℕ) (o : Bool) (l x : ℕ) → b < x → pending p b o l x ≡ closing o l x false
-pending-end p b o l x h = rw (stretches-end p o b x h) (go o)
-  where
-    go : (o : Bool) → kept o l (turned o false x []) ≡ closing o l x false
-    go true = refl
-    go false = refl
-
-closing-intervals : (o v : Bool) (l x : ℕ) (r : List ℕ) → intervals (closing o l x v ++ r) ≡ intervals (closing o l x v) + intervals r
-closing-intervals false v l x r = omega arith
-closing-intervals true true l x r = omega arith
-closing-intervals true false l x r = omega arith
-
-closing-records : (o v : Bool) (l x : ℕ) (r : List ℕ) → records (closing o l x v ++ r) ≡ records (closing o l x v) + records r
-unfolding records
-closing-records false v l x r = omega arith
-closing-records true true l x r = omega arith
-closing-records true false l x r = omega arith
-
-closing-length : (o v : Bool) (l x : ℕ) → length (closing o l x v) ≡ 2 * intervals (closing o l x v)
-closing-length false v l x = refl
-closing-length true true l x = refl
-closing-length true false l x = refl
-
--- a piece that goes on, or none, leaves all as it was
-closing-none : (o v : Bool) (l x : ℕ) → (o ≡ false) ⊎ (v ≡ true) → closing o l x v ≡ []
-closing-none false v l x h = refl
-closing-none true true l x h = refl
-closing-none true false l x h = ⊎-elim (λ e. true-false e) (λ e. true-false (sym e)) h
-
-pub puts-none : (writing : Bool) (out : List ℕ) (t : Tally) (o v : Bool) (l x : ℕ) → (o ≡ false) ⊎ (v ≡ true) → Puts writing out out t (closing o l x v) t
-unfolding records
-puts-none w out t o v l x h =
-    rw (closing-none o v l x h) (record { intervals-more = omega arith; records-more = omega arith; cells = go w })
-  where
-    go : (w : Bool) → out ≡ cond w (sets out (2 * t .intervals) []) out
-    go true = refl
-    go false = refl
-
--- one that ends is two cells
-pub closing-one : (o v : Bool) (l x : ℕ) → o ≡ true → v ≡ false → closing o l x v ≡ l ∷ (x - 1) ∷ []
-closing-one o v l x e f = rw (e, f)
-
-pub puts-one : (writing : Bool) (out out′ : List ℕ) (t t′ : Tally) (o v : Bool) (l x : ℕ) → o ≡ true → v ≡ false → l < x →
-    t′ .intervals ≡ t .intervals + 1 → t′ .records ≡ t .records + (x - l) →
-    out′ ≡ cond writing (set (set out (2 * t .intervals) l) (2 * t .intervals + 1) (x - 1)) out → Puts writing out out′ t (closing o l x v) t′
-unfolding records
-puts-one w out out′ t t′ o v l x e f h i r q =
-    rw (closing-one o v l x e f)
-    (record {
-      intervals-more = omega arith;
-      records-more = omega arith;
-      cells = q ∙ ap (λ (s : List ℕ). cond w s out) (sym (sets-two out (2 * t .intervals) l (x - 1) []));
-    })
-
-pub puts-long : (writing : Bool) (out out′ : List ℕ) (t : Tally) (c : List ℕ) (r : Tally) → Puts writing out out′ t c r → length out′ ≡ length out
-puts-long true out out′ t c r q = ap length (q .cells) ∙ length-sets out (2 * t .intervals) c
-puts-long false out out′ t c r q = ap length (q .cells)
+pending-end : (p : ℕ → Bool) (b : ℕ) (o : Bool) (l x : ℕ) → b < x → pending p b o l x ≡ closed (closes o false) l x []
+pending-end p b o l x h = rw (stretches-end p o b x h) (pending-turn o false l x [])
 
 -- the pieces below x are put, and the rest is pending
 pub record Cut (p : ℕ → Bool) (a b : ℕ) (writing : Bool) (out₀ : List ℕ) (t₀ : Tally) (out : List ℕ) (t : Tally) (o : Bool) (l x : ℕ) : Type 0 where
   pub near : (a ≤ x) × (x ≤ b + 1)
   pub begun : o ≡ true → l < x
-  pub long : length out ≡ length out₀
-  pub intervals-left : t₀ .intervals + intervals (between p a b) ≡ t .intervals + intervals (pending p b o l x)
-  pub records-left : t₀ .records + records (between p a b) ≡ t .records + records (pending p b o l x)
-  pub cells-left : cond writing (sets out₀ (2 * t₀ .intervals) (between p a b)) out₀ ≡ cond writing (sets out (2 * t .intervals) (pending p b o l x)) out
+  left : Left writing out₀ t₀ (between p a b) out t (pending p b o l x)
 
 pub cut-start : (p : ℕ → Bool) (a b : ℕ) (writing : Bool) (out : List ℕ) (t : Tally) (l : ℕ) → a ≤ b → Cut p a b writing out t out t false l a
 unfolding between
@@ -193,67 +207,45 @@ cut-start p a b w out t l h =
     record {
       near = (omega arith, omega arith);
       begun = λ e. true-false (sym e);
-      long = refl;
-      intervals-left = refl;
-      records-left = refl;
-      cells-left = refl;
+      left = record { intervals-left = refl; records-left = refl; cells-left = refl };
     }
 
 module _ (p : ℕ → Bool) (a b : ℕ) (writing : Bool) (out₀ : List ℕ) (t₀ : Tally) (out : List ℕ) (t : Tally) (o : Bool) (l x : ℕ)
     (c : Cut p a b writing out₀ t₀ out t o l x) where
-  -- a part of what is pending fits, where all does
-  part-fits : (v : Bool) (r : List ℕ) → pending p b o l x ≡ closing o l x v ++ r → Fits writing out₀ t₀ (between p a b) → Fits writing out t (closing o l x v)
-  part-fits v r e f =
-      let i = ap intervals e ∙ closing-intervals o v l x r in
-      let s = ap records e ∙ closing-records o v l x r in
-      let n = closing-length o v l x in
-      record {
-        room = λ w. let g = f .room w in omega (arith, c .intervals-left, c .long, i, n);
-        intervals-small = let g = f .intervals-small in omega (arith, c .intervals-left, i);
-        records-small = let g = f .records-small in omega (arith, c .records-left, s);
-      }
+  part-fits : (v : Bool) (r : List ℕ) → b ≤ top → CellsFit writing out₀ t₀ (between p a b) → pending p b o l x ≡ closed (closes o v) l x r → closes o v ≡ true →
+      Fitting writing out t (upTo l x)
+  part-fits v r m f e k =
+      let n = c .near in
+      let g = c .begun (and-both o (not v) k .0) in
+      left-fits writing out₀ t₀ (between p a b) out t l (x - 1) r (omega arith) (omega arith) (rw (e, k) at (c .left)) f
 
-  pub cut-fits : (v : Bool) (u : ℕ) → Steady p x v u → u ≤ b + 1 → Fits writing out₀ t₀ (between p a b) → Fits writing out t (closing o l x v)
-  cut-fits v u s h f = part-fits v (pending p b v (lowerOn o l x) u) (pending-next p b o v l x u s h) f
+  pub cut-fits : (v : Bool) (u : ℕ) → b ≤ top → CellsFit writing out₀ t₀ (between p a b) → Steady p x v u → u ≤ b + 1 → closes o v ≡ true → Fitting writing out t (upTo l x)
+  cut-fits v u m f s h = part-fits v (pending p b v (lowerOn o l x) u) m f (pending-next p b o v l x u s h)
 
-  pub cut-end-fits : b < x → Fits writing out₀ t₀ (between p a b) → Fits writing out t (closing o l x false)
-  cut-end-fits h f = part-fits false [] (pending-end p b o l x h ∙ sym (append-nil (closing o l x false))) f
+  pub cut-end-fits : b ≤ top → CellsFit writing out₀ t₀ (between p a b) → b < x → closes o false ≡ true → Fitting writing out t (upTo l x)
+  cut-end-fits m f h = part-fits false [] m f (pending-end p b o l x h)
 
   begun-next : (o v : Bool) (u : ℕ) → (o ≡ true → l < x) → x < u → v ≡ true → lowerOn o l x < u
   begun-next true v u f h e = let g = f refl in omega arith
   begun-next false v u f h e = h
 
-  cells-next : (w : Bool) (out′ : List ℕ) (t′ : Tally) (v : Bool) (r : List ℕ) → t′ .intervals ≡ t .intervals + intervals (closing o l x v) →
-      out′ ≡ cond w (sets out (2 * t .intervals) (closing o l x v)) out →
-      cond w (sets out (2 * t .intervals) (closing o l x v ++ r)) out ≡ cond w (sets out′ (2 * t′ .intervals) r) out′
-  cells-next true out′ t′ v r i e =
-      let k : 2 * t′ .intervals ≡ 2 * t .intervals + length (closing o l x v) = omega (arith, closing-length o v l x) in
-      rw (e, k) (sets-append out (2 * t .intervals) (closing o l x v) r)
-  cells-next false out′ t′ v r i e = sym e
+  left-next : (v : Bool) (r out′ : List ℕ) (t′ : Tally) → pending p b o l x ≡ closed (closes o v) l x r → PutWhere (closes o v) writing out out′ t (upTo l x) t′ →
+      Left writing out₀ t₀ (between p a b) out′ t′ r
+  left-next v r out′ t′ e q =
+      by-test (closes o v)
+      (λ k. left-put writing out₀ t₀ (between p a b) out t l (x - 1) r out′ t′ (rw (e, k) at (c .left)) (q .0 k))
+      (λ k. rw (q .1 k .0, q .1 k .1) (rw (e, k) at (c .left)))
 
-  pub cut-next : (v : Bool) (u : ℕ) (out′ : List ℕ) (t′ : Tally) → Steady p x v u → u ≤ b + 1 → Puts writing out out′ t (closing o l x v) t′ →
+  pub cut-next : (v : Bool) (u : ℕ) (out′ : List ℕ) (t′ : Tally) → Steady p x v u → u ≤ b + 1 → PutWhere (closes o v) writing out out′ t (upTo l x) t′ →
       Cut p a b writing out₀ t₀ out′ t′ v (lowerOn o l x) u
   cut-next v u out′ t′ s h q =
-      let e = pending-next p b o v l x u s h in
       let n = c .near in
       let m = s .later in
       record {
         near = (omega arith, h);
         begun = begun-next o v u (c .begun) m;
-        long = puts-long writing out out′ t (closing o l x v) t′ q ∙ c .long;
-        intervals-left = omega (arith, c .intervals-left, q .intervals-more, ap intervals e, closing-intervals o v l x (pending p b v (lowerOn o l x) u));
-        records-left = omega (arith, c .records-left, q .records-more, ap records e, closing-records o v l x (pending p b v (lowerOn o l x) u));
-        cells-left =
-            c .cells-left
-            ∙ ap (λ (r : List ℕ). cond writing (sets out (2 * t .intervals) r) out) e
-            ∙ cells-next writing out′ t′ v (pending p b v (lowerOn o l x) u) (q .intervals-more) (q .cells);
+        left = left-next v (pending p b v (lowerOn o l x) u) out′ t′ (pending-next p b o v l x u s h) q;
       }
 
-  pub cut-end : (out′ : List ℕ) (t′ : Tally) → b < x → Puts writing out out′ t (closing o l x false) t′ → Puts writing out₀ out′ t₀ (between p a b) t′
-  cut-end out′ t′ h q =
-      let e = pending-end p b o l x h in
-      record {
-        intervals-more = omega (arith, c .intervals-left, q .intervals-more, ap intervals e);
-        records-more = omega (arith, c .records-left, q .records-more, ap records e);
-        cells = q .cells ∙ sym (c .cells-left ∙ ap (λ (r : List ℕ). cond writing (sets out (2 * t .intervals) r) out) e);
-      }
+  pub cut-end : (out′ : List ℕ) (t′ : Tally) → b < x → PutWhere (closes o false) writing out out′ t (upTo l x) t′ → CellsPut writing out₀ out′ t₀ (between p a b) t′
+  cut-end out′ t′ h q = left-end writing out₀ t₀ (between p a b) out′ t′ (left-next false [] out′ t′ (pending-end p b o l x h) q)

@@ -7,7 +7,8 @@ use mathlib.Core.Bool.{Bool, true, false}
 use mathlib.Core.List.{List, [], _∷_}
 use lib.ListN.{length, getD, set, replicate, length-set, getD-replicate}
 use lib.Seq.{getD-set-same, getD-set-other}
-use borrow.Author.Tests.{leb-true, leb-false}
+use lib.Dec.{leb}
+use borrow.Author.Tests.{leb-true, leb-false, le-leb, lt-leb}
 use Rattle.laws.proofs.Tests.{leb-cases}
 use Rattle.list.specs.declared.Place.{Place}
 use Rattle.list.specs.declared.answer.Tally.{Tally}
@@ -23,10 +24,11 @@ use Rattle.index.proofs.SoundLaws.{sound-trailer}
 use Rattle.heap.specs.Heap.{Pushed, Replaced}
 use Rattle.merge.specs.Asked.{Asked, listsOf}
 use Rattle.merge.specs.Places.{singlesIn, lowerIn, upperIn, usedUp}
+use Rattle.merge.specs.Put.{Fitting, PutWhere}
 use Rattle.merge.specs.Sweep.{Sweeps}
 use Rattle.merge.proofs.ListsLaws.{entry-kept, entry-some}
 use Rattle.intersection.specs.Probing.{inAll}
-use Rattle.intersection.specs.Twin.{nextOf, nextLower, nextUpper, keyOf, limit, lackOf, Standing, Frontier, Lowers, Overlaps}
+use Rattle.intersection.specs.Twin.{nextOf, nextLower, nextUpper, keyOf, limit, lackOf, Standing, Frontier, Lowers}
 use Rattle.intersection.proofs.ProbingLaws.{every-out}
 use Rattle.intersection.proofs.FrontierLaws.{frontier-same, front-list, front-upper, front-below, frontier-moved, front-rises}
 use Rattle.intersection.proofs.LowersLaws.{Largest, lowers-moved, front-small, lowers-largest}
@@ -207,9 +209,6 @@ module _ {index entries : List ℕ} {writing : Bool} {out₀ out : List ℕ} {pl
       let e = turn-upper in
       omega arith
 
-  pub turn-few : (2 * t .intervals ≤ top + 1) × (t .records ≤ top)
-  turn-few = (swept-cells-few (w .swept), swept-records-few (w .swept))
-
   pub turn-standing : Standing index entries (λ i. getD places i start)
   turn-standing =
       record {
@@ -254,11 +253,19 @@ module _ {index entries : List ℕ} {writing : Bool} {out₀ out : List ℕ} {pl
         let b = turn-below i h in
         ahead-inside index entries asked i h (getD places i start) (w .x) (w .ahead i h) z (omega arith) (omega arith))
 
-    pub turn-room : (writing ≡ true → length (intersectionOf (listsOf index entries)) ≤ length out₀) → largest ≤ getD uppers 0 0 / 16 → writing ≡ true → 2 * t .intervals + 2 ≤ length out
+    pub overlap-fits : (writing ≡ true → length (intersectionOf (listsOf index entries)) ≤ length out₀) → largest ≤ getD uppers 0 0 / 16 →
+        Fitting writing out t (record { lower = largest; upper = getD uppers 0 0 / 16 })
     unfolding intersectionOf
-    turn-room room h e =
-        swept-room (inAll index entries) top writing out₀ out (w .x) (2 * t .intervals) (t .records) (w .swept) largest (getD uppers 0 0 / 16)
-        passed h turn-high low high (λ k. stop) e (room e)
+    overlap-fits room h =
+        let few = swept-cells-few (w .swept) in
+        record {
+          room = λ e. swept-room (inAll index entries) top writing out₀ out (w .x) (2 * t .intervals) (t .records) (w .swept) largest (getD uppers 0 0 / 16)
+              passed h turn-high low high (λ k. stop) e (room e);
+          few = omega arith;
+          small = swept-records-few (w .swept);
+          order = h;
+          high = turn-high;
+        }
 
   -- list j moves on
   module _ {places′ : List Place} (ep : places′ ≡ set places j (nextOf index entries j (getD places j start))) where
@@ -336,19 +343,20 @@ module _ {index entries : List ℕ} {writing : Bool} {out₀ out : List ℕ} {pl
             )
 
     -- what is in every list up to the least upper bound is put
-    module _ {largest : ℕ} (g : Largest index entries (λ i. getD places i start) (length entries) largest) {out′ : List ℕ} {t′ : Tally} (o : Overlaps writing out out′ t largest (getD uppers 0 0 / 16) t′) where
+    module _ {largest : ℕ} (g : Largest index entries (λ i. getD places i start) (length entries) largest) {out′ : List ℕ} {t′ : Tally}
+        (o : PutWhere (leb largest (getD uppers 0 0 / 16)) writing out out′ t (record { lower = largest; upper = getD uppers 0 0 / 16 }) t′) where
       turn-swept : Swept (inAll index entries) top writing out₀ out′ false (getD uppers 0 0 / 16 + 1) (2 * t′ .intervals) (t′ .records)
       turn-swept =
           leb-cases largest (getD uppers 0 0 / 16)
           (λ h.
-          let q = o .together h in
-          let i = q .0 in
+          let q = o .0 (le-leb largest (getD uppers 0 0 / 16) h) in
+          let i = q .intervals-more in
           let k : 2 * t′ .intervals ≡ 2 * t .intervals + 2 = omega arith in
-          rw (k, q .1, q .2)
+          rw (k, q .records-more, q .cells)
           (swept-put (inAll index entries) top writing out₀ out (w .x) (2 * t .intervals) (t .records) (w .swept) largest (getD uppers 0 0 / 16)
           (passed g) h turn-high (low g) (high g) (λ k. stop)))
           (λ h.
-          let q = o .apart h in
+          let q = o .1 (lt-leb largest (getD uppers 0 0 / 16) h) in
           let l = w .ahead j turn-list .later in
           let e = turn-upper in
           rw (q .0, q .1)

@@ -1,8 +1,8 @@
 -- "Probing from the shortest list": the numbers of one interval of that list, cut down to those that stand in every list.
 use Prim.Native.Nat.{ℕ, _+_, _-_, _*_, _≤_, _<_}
 use mathlib.Core.Path.{_≡_}
-use mathlib.Core.Bool.{Bool, true, false, cond}
-use mathlib.Core.List.{List, [], _∷_}
+use mathlib.Core.Bool.{Bool, true, false, not, cond, _&&_}
+use mathlib.Core.List.{List}
 use lib.ListN.{length, getD}
 use lib.Seq.{sets}
 use Rattle.list.specs.declared.answer.Tally.{Tally}
@@ -22,13 +22,13 @@ unfoldable pub between : (ℕ → Bool) → ℕ → ℕ → List ℕ
 between test a b = stretches test false a (b + 1 - a)
 
 -- the cells c can be counted, and where the list is written they have room, behind what is counted
-pub record Fits (writing : Bool) (out : List ℕ) (t : Tally) (c : List ℕ) : Type 0 where
+pub record CellsFit (writing : Bool) (out : List ℕ) (t : Tally) (c : List ℕ) : Type 0 where
   pub room : writing ≡ true → 2 * t .intervals + length c ≤ length out
   pub intervals-small : t .intervals + intervals c ≤ top
   pub records-small : t .records + records c ≤ top
 
 -- they are counted, and written where the list is
-pub record Puts (writing : Bool) (out out′ : List ℕ) (t : Tally) (c : List ℕ) (r : Tally) : Type 0 where
+pub record CellsPut (writing : Bool) (out out′ : List ℕ) (t : Tally) (c : List ℕ) (r : Tally) : Type 0 where
   pub intervals-more : r .intervals ≡ t .intervals + intervals c
   pub records-more : r .records ≡ t .records + records c
   pub cells : out′ ≡ cond writing (sets out (2 * t .intervals) c) out
@@ -44,13 +44,11 @@ pub record Within (index entries : List ℕ) (j a b : ℕ) : Type 0 where
   pub high : b ≤ top
   pub covers : (y : ℕ) → a ≤ y → y ≤ b → names (listOf index (getD entries j 0)) y ≡ true
 
--- a piece that is open where x comes: it ends before x, or goes on
-abbrev pub closing : Bool → ℕ → ℕ → Bool → List ℕ
-closing true lower x true = []
-closing true lower x false = lower ∷ (x - 1) ∷ []
-closing false lower x inside = []
+-- a piece that is open where x comes ends before x, unless x is in
+abbrev pub closes : Bool → Bool → Bool
+closes opened inside = opened && not inside
 
--- and it begins at x, where none is open
+-- a piece begins at x, where none is open
 abbrev pub lowerOn : Bool → ℕ → ℕ → ℕ
 lowerOn true lower x = lower
 lowerOn false lower x = x

@@ -1,11 +1,9 @@
 -- "the intersection by the twin heap": the next intervals of the lists, by their bounds.
 use mathlib.Core.Path.{_≡_}
 use Prim.Native.Nat.{ℕ, _+_, _-_, _*_, _≤_, _<_}
-use mathlib.Core.Bool.{Bool, cond}
 use mathlib.Core.List.{List}
-use lib.ListN.{length, getD, take, set}
+use lib.ListN.{length, getD, take}
 use Rattle.list.specs.declared.Place.{Place}
-use Rattle.list.specs.declared.answer.Tally.{Tally}
 use Rattle.list.specs.Interval.{top}
 use Rattle.list.specs.Kept.{nextPlace, lowerAt, upperAt}
 use Rattle.list.specs.Reading.{Goes}
@@ -52,9 +50,3 @@ pub record Lowers (index entries : List ℕ) (at : ℕ → Place) (lists size : 
   pub heap : IsHeap (take size lowers)
   pub all : (i : ℕ) → i < lists → 0 < countOf (lackOf (nextLower index entries i (at i))) (take size lowers)
   pub others : (y : ℕ) → 0 < countOf y (take size lowers) → (i : ℕ) × (i < lists) × (lackOf (nextLower index entries i (at i)) ≤ y)
-
--- [l, u] is counted, and written where the list is, if it is an interval
-pub record Overlaps (writing : Bool) (out out′ : List ℕ) (t : Tally) (l u : ℕ) (r : Tally) : Type 0 where
-  pub apart : u < l → (r ≡ t) × (out′ ≡ out)
-  pub together : l ≤ u →
-      (r .intervals ≡ t .intervals + 1) × (r .records ≡ t .records + (u + 1 - l)) × (out′ ≡ cond writing (set (set out (2 * t .intervals) l) (2 * t .intervals + 1) u) out)

@@ -9,8 +9,9 @@ ghost use Rattle.list.specs.Sense.{Steady};
 ghost use Rattle.index.specs.Format.{listOf};
 ghost use Rattle.merge.specs.Asked.{Asked, listsOf};
 ghost use Rattle.merge.specs.Places.{EntryIn};
+ghost use Rattle.merge.specs.Put.{Fitting, PutWhere, upTo};
 ghost use Rattle.merge.specs.Sweep.{Sweeps};
-ghost use Rattle.intersection.specs.Probing.{Shortest, between, Fits, Puts, inAll, Within, closing, lowerOn};
+ghost use Rattle.intersection.specs.Probing.{Shortest, between, CellsFit, CellsPut, inAll, Within, closes, lowerOn};
 use index::parts::interval_count;
 use index::parts::lower_of;
 use index::parts::singles_of;
@@ -19,7 +20,6 @@ use list::PairAt;
 use list::Place;
 use list::SingleAt;
 use list::answer::Tally;
-use list::put::put_interval;
 use list::reading::Interval;
 use list::reading::interval_at;
 use list::reading::next_place;
@@ -27,6 +27,7 @@ use list::reading::place_of;
 use list::sense::Sense;
 use list::sense::sense_at;
 use list::sense::smaller;
+use merge::put::put;
 
 // The place in the request of a list with the fewest intervals.
 fn shortest(index: &[u8], entries: &[u32]) -> usize
@@ -134,8 +135,8 @@ fn close_piece(
     x: u32,
     inside: bool,
 ) -> Tally
-    requires { ⌜ (piece .open ≡ true → piece .lower < x) × Fits writing (now out) tally (closing (piece .open) (piece .lower) x inside) ⌝ }
-    ensures { λ r. ⌜ Puts writing (now (out .entry)) (now (out .exit)) tally (closing (piece .open) (piece .lower) x inside) r ⌝ }
+    requires { ⌜ (piece .open ≡ true → piece .lower < x) × (closes (piece .open) inside ≡ true → Fitting writing (now out) tally (upTo (piece .lower) x)) ⌝ }
+    ensures { λ r. ⌜ PutWhere (closes (piece .open) inside) writing (now (out .entry)) (now (out .exit)) tally (upTo (piece .lower) x) r ⌝ }
 {
     if inside {
         return tally;
@@ -143,12 +144,11 @@ fn close_piece(
     if !piece.open {
         return tally;
     }
-    let lower = piece.lower;
-    put_interval(out, writing, 2 * tally.intervals, lower, x - 1);
-    Tally {
-        intervals: tally.intervals + 1,
-        records: tally.records + (x - lower) as usize,
-    }
+    let closed = Interval {
+        lower: piece.lower,
+        upper: x - 1,
+    };
+    put(out, writing, tally, closed)
 }
 
 // Counts, and writes, what of an interval of list j stands in every list.
@@ -161,8 +161,8 @@ fn put_within(
     out: &mut [u32],
     before: Tally,
 ) -> Tally
-    requires { ⌜ Within (now index) (now entries) j (within .lower) (within .upper) × (within .lower ≤ within .upper) × Fits writing (now out) before (between (inAll (now index) (now entries)) (within .lower) (within .upper)) ⌝ }
-    ensures { λ r. ⌜ Puts writing (now (out .entry)) (now (out .exit)) before (between (inAll (now (index .entry)) (now (entries .entry))) (within .lower) (within .upper)) r ⌝ }
+    requires { ⌜ Within (now index) (now entries) j (within .lower) (within .upper) × (within .lower ≤ within .upper) × CellsFit writing (now out) before (between (inAll (now index) (now entries)) (within .lower) (within .upper)) ⌝ }
+    ensures { λ r. ⌜ CellsPut writing (now (out .entry)) (now (out .exit)) before (between (inAll (now (index .entry)) (now (entries .entry))) (within .lower) (within .upper)) r ⌝ }
 {
     let b = within.upper;
     let mut x = within.lower;

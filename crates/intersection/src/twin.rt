@@ -3,25 +3,28 @@
 // larger than the one it leaves behind, which is therefore never the largest again: it stays until the max-heap is full and is filled anew.
 ghost use mathlib.Core.Path.{_≡_};
 ghost use mathlib.Core.Bool.{true};
-ghost use Prim.Native.Nat.{_+_, _*_, _≤_, _<_};
+ghost use Prim.Native.Nat.{_≤_, _<_};
+ghost use lib.Dec.{leb};
 ghost use lib.ListN.{length, getD};
 ghost use Rattle.list.specs.Ginix.{intersectionOf};
 ghost use Rattle.list.specs.Interval.{top};
 ghost use Rattle.list.specs.Kept.{start};
 ghost use Rattle.merge.specs.Asked.{Asked, listsOf};
+ghost use Rattle.merge.specs.Put.{Fitting, PutWhere};
 ghost use Rattle.merge.specs.Sweep.{Sweeps};
-ghost use Rattle.intersection.specs.Twin.{keyOf, Standing, Frontier, Lowers, Overlaps};
+ghost use Rattle.intersection.specs.Twin.{keyOf, Standing, Frontier, Lowers};
 use heap::push;
 use heap::replace_least;
 use list::PairAt;
 use list::Place;
 use list::SingleAt;
 use list::answer::Tally;
-use list::put::put_interval;
+use list::reading::Interval;
 use merge::places::all_at_start;
 use merge::places::moved_on;
 use merge::places::next_interval;
 use merge::places::used_up;
+use merge::put::put;
 
 // Above every record's number.
 const LIMIT: u32 = 16_777_216;
@@ -88,19 +91,15 @@ fn with_room(
     entries.len()
 }
 
-// Counts, and writes, [l, u] where it is an interval.
-fn put_overlap(out: &mut [u32], writing: bool, tally: Tally, l: u32, u: u32) -> Tally
-    requires { ⌜ (l ≤ u → writing ≡ true → 2 * tally .intervals + 2 ≤ length (now out)) × (2 * tally .intervals ≤ top + 1) × (tally .records ≤ top) ⌝ }
-    ensures { λ r. ⌜ Overlaps writing (now (out .entry)) (now (out .exit)) tally l u r ⌝ }
+// Puts the overlap of all lists, where there is one.
+fn put_overlap(out: &mut [u32], writing: bool, tally: Tally, overlap: Interval) -> Tally
+    requires { ⌜ (overlap .lower ≤ overlap .upper → Fitting writing (now out) tally overlap) ⌝ }
+    ensures { λ r. ⌜ PutWhere (leb (overlap .lower) (overlap .upper)) writing (now (out .entry)) (now (out .exit)) tally overlap r ⌝ }
 {
-    if u < l {
+    if overlap.upper < overlap.lower {
         return tally;
     }
-    put_interval(out, writing, 2 * tally.intervals, l, u);
-    Tally {
-        intervals: tally.intervals + 1,
-        records: tally.records + (u - l) as usize + 1,
-    }
+    put(out, writing, tally, overlap)
 }
 
 // Counts, and writes, the intersection of the lists of a request. It ends with the first list that is used up.
@@ -122,9 +121,13 @@ pub fn sweep_twin(index: &[u8], entries: &[u32], writing: bool, out: &mut [u32])
         size = with_room(index, entries, places, &mut lowers, size);
         let largest = LIMIT - lowers[0];
         let least = uppers[0];
+        let overlap = Interval {
+            lower: largest,
+            upper: least / 16,
+        };
         let j = (least % 16) as usize;
         let entry = entries[j] as usize;
-        tally = put_overlap(out, writing, tally, largest, least / 16);
+        tally = put_overlap(out, writing, tally, overlap);
         places = moved_on(index, entry, places, j);
         let at = places[j];
         if used_up(index, entry, at) {

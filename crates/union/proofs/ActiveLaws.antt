@@ -17,7 +17,7 @@ use Rattle.index.proofs.SoundLaws.{sound-trailer}
 use Rattle.merge.specs.Asked.{Asked, listsOf}
 use Rattle.merge.specs.Places.{singlesIn, lowerIn}
 use Rattle.merge.specs.Keys.{lowerMark, Keys, Refilled, dueAt}
-use Rattle.merge.specs.Put.{Fitting, Put}
+use Rattle.merge.specs.Put.{Fitting, Put, PutWhere}
 use Rattle.merge.specs.Sweep.{Sweeps}
 use Rattle.merge.proofs.KeysLaws.{Front, keys-front, keys-none, keys-refill}
 use Rattle.merge.proofs.DueLaws.{
@@ -39,7 +39,7 @@ use Rattle.merge.proofs.DueLaws.{
   places-long,
   due-other,
 }
-use Rattle.union.specs.Active.{isApart, PutBefore, Joined}
+use Rattle.union.specs.Active.{isApart, Joined}
 use Rattle.union.proofs.AnyLaws.{inAny, any-in, none-below, none-left}
 use Rattle.union.proofs.TallyLaws.{Tallied, tallied-start, tallied-skip, tallied-fits, tallied-put, tallied-end}
 
@@ -178,7 +178,7 @@ module _ (index entries : List ℕ) (asked : Asked index entries) (writing : Boo
           }
 
       pub active-step : (out′ : List ℕ) (t′ : Tally) (active′ : Interval) → length places ≡ 16 →
-          PutBefore writing out out′ t active next t′ → Joined active next active′ →
+          PutWhere (isApart active next) writing out out′ t active t′ → Joined active next active′ →
           Active index entries writing out₀ out′ (placesOn index entries places j) t′ active′
       active-step out′ t′ active′ long put joined =
           let few = asked .few in
@@ -265,7 +265,7 @@ module _ (index entries : List ℕ) (asked : Asked index entries) (writing : Boo
 
       pub line-step : (next : Interval) (out′ keys′ : List ℕ) (size′ : ℕ) (places′ : List Place) (t′ : Tally) (active′ : Interval)
           → Next index entries places (getD keys 0 0 % 16) next
-          → PutBefore writing out out′ t active next t′
+          → PutWhere (isApart active next) writing out out′ t active t′
           → Joined active next active′
           → places′ ≡ placesOn index entries places (getD keys 0 0 % 16)
           → Refilled (getD keys 0 0 % 16) (dueAt index entries places′ (getD keys 0 0 % 16)) size keys size′ keys′

@@ -5,14 +5,15 @@ use native.Mathlib.Omega.{arith}
 use native.Mathlib.Decide.{ℕ-discrete}
 use mathlib.Core.Bool.{Bool, true, false}
 use mathlib.Core.List.{List}
+use lib.Dec.{eqb}
 use lib.ListN.{length}
 use borrow.Author.Tests.{eq-eqb, ne-eqb}
 use Rattle.laws.proofs.Tests.{leb-cases}
 use Rattle.list.specs.declared.answer.Tally.{Tally}
 use Rattle.list.specs.Interval.{top}
 use Rattle.list.specs.Stretches.{cellsOf}
-use Rattle.merge.specs.Put.{Fitting}
-use Rattle.union.specs.Scan.{lowerFrom, upTo, PutClosed}
+use Rattle.merge.specs.Put.{Fitting, PutWhere, upTo}
+use Rattle.union.specs.Scan.{lowerFrom}
 use Rattle.union.proofs.TallyLaws.{Tallied, tallied-skip, tallied-fits, tallied-put}
 
 -- all below x is swept; up to s all is out where no list is in, and all is in, from `lower` on, where one is
@@ -64,7 +65,7 @@ module _ (p : ℕ → Bool) (writing : Bool) (out₀ out : List ℕ) (t : Tally)
     stretch-fits e r =
         tallied-fits p writing out₀ out t (g .x) (g .below) (upTo lower v) (sym (g .opened some .0)) (omega arith) (omega arith) inside (stops e) r
 
-    pub stretch-closed : (count′ : ℕ) (out′ : List ℕ) (t′ : Tally) → (count′ ≡ 0 → p v ≡ false) → PutClosed writing out out′ t count′ lower v t′ →
+    pub stretch-closed : (count′ : ℕ) (out′ : List ℕ) (t′ : Tally) → (count′ ≡ 0 → p v ≡ false) → PutWhere (eqb count′ 0) writing out out′ t (upTo lower v) t′ →
         Stretch p writing out₀ out′ t′ v count′ lower
     stretch-closed count′ out′ t′ stop put = go (ℕ-discrete count′ 0)
       where
@@ -74,7 +75,7 @@ module _ (p : ℕ → Bool) (writing : Bool) (out₀ out : List ℕ) (t : Tally)
             record {
               x = v;
               near = omega arith;
-              below = rw q (tallied-put p writing out₀ out t (g .x) (g .below) (upTo lower v) (sym (g .opened some .0)) (omega arith) (omega arith) inside (stops (stop c)) out′ t′ (put .0 c));
+              below = rw q (tallied-put p writing out₀ out t (g .x) (g .below) (upTo lower v) (sym (g .opened some .0)) (omega arith) (omega arith) inside (stops (stop c)) out′ t′ (put .0 (eq-eqb count′ 0 c)));
               closed = λ n z a b. absurd (omega arith);
               opened = λ n. absurd (omega arith);
             }
@@ -83,7 +84,7 @@ module _ (p : ℕ → Bool) (writing : Bool) (out₀ out : List ℕ) (t : Tally)
             record {
               x = g .x;
               near = omega arith;
-              below = rw (put .1 c .0, put .1 c .1) (g .below);
+              below = let q = put .1 (ne-eqb count′ 0 c) in rw (q .0, q .1) (g .below);
               closed = λ n. absurd (c n);
               opened = λ n. let o = g .opened some in (o .0, λ z a b. leb-cases s z (λ w. wide z w b) (λ w. o .1 z a w));
             }

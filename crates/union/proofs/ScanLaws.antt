@@ -4,6 +4,7 @@ use Prim.Native.Nat.{ℕ, _+_, _-_, _/_, _%_, _≤_, _<_}
 use native.Mathlib.Omega.{arith}
 use mathlib.Core.Bool.{Bool, true, false}
 use mathlib.Core.List.{List, [], _∷_}
+use lib.Dec.{eqb}
 use lib.ListN.{length, getD, replicate}
 use borrow.Author.Tests.{eq-eqb, ne-eqb}
 use Rattle.laws.proofs.Tests.{true-false, leb-cases}
@@ -15,7 +16,7 @@ use Rattle.list.specs.Kept.{start}
 use Rattle.merge.specs.Asked.{Asked, listsOf}
 use Rattle.merge.specs.Places.{singlesIn, lowerIn}
 use Rattle.merge.specs.Keys.{sumOf, upperMark, Keys, Refilled, dueAt}
-use Rattle.merge.specs.Put.{Fitting}
+use Rattle.merge.specs.Put.{Fitting, PutWhere, upTo}
 use Rattle.merge.specs.Sweep.{Sweeps}
 use Rattle.merge.proofs.KeysLaws.{sum-where, Front, keys-front, keys-none, keys-refill}
 use Rattle.merge.proofs.DueLaws.{
@@ -33,7 +34,7 @@ use Rattle.merge.proofs.DueLaws.{
   on-fits,
   left-less,
 }
-use Rattle.union.specs.Scan.{lowerFrom, upTo, PutClosed}
+use Rattle.union.specs.Scan.{lowerFrom}
 use Rattle.union.proofs.TallyLaws.{tallied-start, tallied-near, tallied-skip, tallied-end}
 use Rattle.union.proofs.AnyLaws.{inAny}
 use Rattle.union.proofs.OpenLaws.{Stretch, stretch-begun, stretch-fits, stretch-closed}
@@ -185,7 +186,7 @@ module _ (index entries : List ℕ) (asked : Asked index entries) (writing : Boo
             rw (ne-eqb i (getD keys 0 0 % 16) ne, places-other index entries places (g .wide) (getD keys 0 0 % 16) (omega arith) i ne)
 
         pub upper-step : (out′ keys′ : List ℕ) (size′ : ℕ) (places′ : List Place) (t′ : Tally)
-            → PutClosed writing out out′ t (count - 1) lower (getD keys 0 0 / 32) t′
+            → PutWhere (eqb (count - 1) 0) writing out out′ t (upTo lower (getD keys 0 0 / 32)) t′
             → places′ ≡ placesOn index entries places (getD keys 0 0 % 16)
             → Refilled (getD keys 0 0 % 16) (dueAt index entries places′ (getD keys 0 0 % 16)) size keys size′ keys′
             → Scan index entries writing out₀ out′ keys′ size′ places′ t′ (count - 1) lower

@@ -6,9 +6,9 @@ ghost use lib.ListN.{length};
 ghost use Rattle.list.specs.Ginix.{unionOf};
 ghost use Rattle.list.specs.Interval.{top};
 ghost use Rattle.merge.specs.Asked.{Asked, listsOf};
-ghost use Rattle.merge.specs.Put.{Fitting};
+ghost use Rattle.merge.specs.Put.{Fitting, PutWhere};
 ghost use Rattle.merge.specs.Sweep.{Sweeps};
-ghost use Rattle.union.specs.Active.{isApart, PutBefore, Joined};
+ghost use Rattle.union.specs.Active.{isApart, Joined};
 use list::answer::Tally;
 use list::reading::Interval;
 use merge::keys::fill;
@@ -60,7 +60,7 @@ fn put_before(
     next: Interval,
 ) -> Tally
     requires { ⌜ (active .upper ≤ top) × (isApart active next ≡ true → Fitting writing (now out) tally active) ⌝ }
-    ensures { λ r. ⌜ PutBefore writing (now (out .entry)) (now (out .exit)) tally active next r ⌝ }
+    ensures { λ r. ⌜ PutWhere (isApart active next) writing (now (out .entry)) (now (out .exit)) tally active r ⌝ }
 {
     if apart(active, next) {
         return put(out, writing, tally, active);

@@ -2,12 +2,13 @@
 ghost use mathlib.Core.Path.{_≡_};
 ghost use mathlib.Core.Bool.{true};
 ghost use Prim.Native.Nat.{_≤_};
+ghost use lib.Dec.{eqb};
 ghost use lib.ListN.{length};
 ghost use Rattle.list.specs.Ginix.{unionOf};
 ghost use Rattle.merge.specs.Asked.{Asked, listsOf};
-ghost use Rattle.merge.specs.Put.{Fitting};
+ghost use Rattle.merge.specs.Put.{Fitting, PutWhere, upTo};
 ghost use Rattle.merge.specs.Sweep.{Sweeps};
-ghost use Rattle.union.specs.Scan.{lowerFrom, upTo, PutClosed};
+ghost use Rattle.union.specs.Scan.{lowerFrom};
 use list::answer::Tally;
 use list::reading::Interval;
 use merge::keys::fill;
@@ -34,7 +35,7 @@ fn put_closed(
     x: u32,
 ) -> Tally
     requires { ⌜ (1 ≤ x) × (count ≡ 0 → Fitting writing (now out) tally (upTo lower x)) ⌝ }
-    ensures { λ r. ⌜ PutClosed writing (now (out .entry)) (now (out .exit)) tally count lower x r ⌝ }
+    ensures { λ r. ⌜ PutWhere (eqb count 0) writing (now (out .entry)) (now (out .exit)) tally (upTo lower x) r ⌝ }
 {
     if count == 0 {
         let stretch = Interval {

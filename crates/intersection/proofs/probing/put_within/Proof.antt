@@ -1,11 +1,10 @@
 -- What is pending is put piece by piece.
 use Prim.Native.Nat.{_+_, _-_}
-use mathlib.Core.Path.{_∙_}
 use native.Mathlib.Omega.{arith}
 use denote.Ref.{now}
 use borrow.Author.Needs.{needs}
 use Rattle.intersection.specs.Probing.{inAll}
-use Rattle.intersection.proofs.ProbingLaws.{within-later, Cut, cut-start, cut-fits, cut-next, cut-end-fits, cut-end, puts-long}
+use Rattle.intersection.proofs.ProbingLaws.{within-later, Cut, cut-start, cut-fits, cut-next, cut-end-fits, cut-end, cells-put-long}
 use Rattle.intersection.proofs.probing.put_within.Statement.{statement}
 use Rattle.intersection.proofs.probing.put_within.Tie as tie
 
@@ -34,7 +33,7 @@ close-piece-requires c κs =
     let start = c .before .before .before .before .before .before .before in
     let a = start .args in
     let s = c .before .probe in
-    (at .inv .begun, cut-fits (inAll (now (a .index)) (now (a .entries))) (a .within .lower) (a .within .upper) (a .writing) (now (a .out)) (a .before) (at .out) (at .tally) (at .piece .«open») (at .piece .lower) (at .x) (at .inv) (s .result .inside) (s .result .until) (s .ensures .0) (s .ensures .1) (start .pre .2))
+    (at .inv .begun, cut-fits (inAll (now (a .index)) (now (a .entries))) (a .within .lower) (a .within .upper) (a .writing) (now (a .out)) (a .before) (at .out) (at .tally) (at .piece .«open») (at .piece .lower) (at .x) (at .inv) (s .result .inside) (s .result .until) (start .pre .0 .high) (start .pre .2) (s .ensures .0) (s .ensures .1))
 
 next-piece-requires : tie.Need-next-piece-requires Inv-loop μ-loop
 next-piece-requires c κs = search needs
@@ -59,13 +58,7 @@ close-piece-requires-2 c κs =
     let at = c .before .before .loop in
     let start = c .before .before .before .before .before .before in
     let a = start .args in
-    (at .inv .begun, cut-end-fits (inAll (now (a .index)) (now (a .entries))) (a .within .lower) (a .within .upper) (a .writing) (now (a .out)) (a .before) (at .out) (at .tally) (at .piece .«open») (at .piece .lower) (at .x) (at .inv) (c .before .loop-test .left) (start .pre .2))
-
-same-length : tie.Need-same-length Inv-loop μ-loop
-same-length c =
-    let put = c .before .before in
-    let at = put .before .before .before .loop in
-    puts-long _ _ _ _ _ _ (put .close-piece2 .ensures) ∙ at .inv .long
+    (at .inv .begun, cut-end-fits (inAll (now (a .index)) (now (a .entries))) (a .within .lower) (a .within .upper) (a .writing) (now (a .out)) (a .before) (at .out) (at .tally) (at .piece .«open») (at .piece .lower) (at .x) (at .inv) (start .pre .0 .high) (start .pre .2) (c .before .loop-test .left))
 
 returns : tie.Need-returns Inv-loop μ-loop
 returns c =
@@ -74,6 +67,9 @@ returns c =
     let start = put .before .before .before .before .before .before .before in
     let a = start .args in
     cut-end (inAll (now (a .index)) (now (a .entries))) (a .within .lower) (a .within .upper) (a .writing) (now (a .out)) (a .before) (at .out) (at .tally) (at .piece .«open») (at .piece .lower) (at .x) (at .inv) _ (put .close-piece2 .result) (put .before .before .loop-test .left) (put .close-piece2 .ensures)
+
+same-length : tie.Need-same-length Inv-loop μ-loop
+same-length c = cells-put-long _ _ _ _ _ _ (returns c)
 
 pub put-within-spec : {M : Type 1} → statement M
 put-within-spec =

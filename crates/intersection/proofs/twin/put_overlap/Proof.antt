@@ -1,50 +1,21 @@
--- Nothing is put where u is below l.
-use mathlib.Core.Path.{refl}
-use native.Mathlib.Omega.{arith}
+-- Nothing is put where the lists do not overlap.
+use mathlib.Core.Path.{refl, sym, _∙_}
+use borrow.Author.Tests.{le-leb, lt-leb}
 use borrow.Author.Needs.{needs}
+use Rattle.laws.proofs.Tests.{true-false}
 use Rattle.intersection.proofs.twin.put_overlap.Statement.{statement}
 use Rattle.intersection.proofs.twin.put_overlap.Tie as tie
 
 returns : tie.Need-returns
-returns c = let h = c .if1 .taken in record { apart = λ g. (refl, refl); together = λ g. absurd (omega arith) }
+returns c = (λ e. true-false (sym e ∙ lt-leb _ _ (c .if1 .taken)), λ e. (refl, refl))
 
-mul-put-interval : tie.Need-mul-put-interval
-mul-put-interval c = search needs
-
-put-interval-requires : tie.Need-put-interval-requires
-put-interval-requires c κs = c .before .before .before .before .pre .0 (c .before .before .if1 .left)
-
-add-t10 : tie.Need-add-t10
-add-t10 c = search needs
-
-cast-t12 : tie.Need-cast-t12
-cast-t12 c = search needs
-
-add-t13 : tie.Need-add-t13
-add-t13 c = search needs
-
-add-t14 : tie.Need-add-t14
-add-t14 c = search needs
-
-same-length : tie.Need-same-length
-same-length c = search needs
+put-requires : tie.Need-put-requires
+put-requires c κs = c .before .before .before .before .pre (c .before .if1 .left)
 
 returns-2 : tie.Need-returns-2
 returns-2 c =
-    let put = c .before .before .before .before in
-    let h = put .before .before .before .if1 .left in
-    record { apart = λ g. absurd (omega arith); together = λ g. (refl, omega arith, put .put-interval .ensures) }
+    let put = c .before .before in
+    (λ e. put .put .ensures, λ e. true-false (sym (le-leb _ _ (put .before .before .if1 .left)) ∙ e))
 
 pub put-overlap-spec : {M : Type 1} → statement M
-put-overlap-spec =
-    tie.close
-    (tie.spec
-    returns
-    mul-put-interval
-    put-interval-requires
-    add-t10
-    cast-t12
-    add-t13
-    add-t14
-    same-length
-    returns-2)
+put-overlap-spec = tie.close (tie.spec returns put-requires (λ c. search needs) returns-2)

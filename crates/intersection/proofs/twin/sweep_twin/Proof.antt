@@ -8,7 +8,7 @@ use borrow.Author.Needs.{needs}
 use Rattle.list.specs.Kept.{start}
 use Rattle.list.proofs.SweepLaws.{swept-length}
 use Rattle.intersection.specs.Twin.{Lowers}
-use Rattle.intersection.proofs.TwinLaws.{Turning, standing-start, turning-start, turn-standing, turn-list, turn-goes, turn-few, turn-front, turn-largest, turn-room, turn-fits, turn-end, turn-next-goes, turn-next-small, turn-next-lower, turn-lowers, turn-next, turn-falls, turned-out}
+use Rattle.intersection.proofs.TwinLaws.{Turning, standing-start, turning-start, turn-standing, turn-list, turn-goes, turn-front, turn-largest, overlap-fits, turn-fits, turn-end, turn-next-goes, turn-next-small, turn-next-lower, turn-lowers, turn-next, turn-falls, turned-out}
 use Rattle.intersection.proofs.twin.sweep_twin.Statement.{statement}
 use Rattle.intersection.proofs.twin.sweep_twin.Tie as tie
 
@@ -102,8 +102,7 @@ put-overlap-requires c κs =
     let w = at .loop .inv .0 in
     let room = c .before .before .before .with-room .ensures in
     let g = turn-largest asked w refl (room .0) (room .1) (room .2) in
-    let few = turn-few asked w refl in
-    (turn-room asked w refl g (begin .pre .1), few .0, few .1)
+    overlap-fits asked w refl g (begin .pre .1)
 
 moved-on-requires : tie.Need-moved-on-requires Inv-loop μ-loop
 moved-on-requires c κs =
