@@ -24,7 +24,7 @@ use Rattle.promises.specs.Wrong.{
   answerRefused,
   checkRefused,
   lookupRefused,
-  wordRefused,
+  partRefused,
   probeRefused,
   readingRefused,
   firstEntry,
@@ -157,8 +157,8 @@ lookup-way = wrong-refusal lookup lookupRefused returns.lookup-refusing
 pub entry-way : WrongRefusal entry checkRefused
 entry-way = wrong-refusal entry checkRefused returns.entry-refusing
 
-pub word-way : WrongRefusal word wordRefused
-word-way = wrong-refusal word wordRefused returns.word-refusing
+pub word-way : WrongRefusal word partRefused
+word-way = wrong-refusal word partRefused returns.word-refusing
 
 pub probe-way : WrongRefusal probe probeRefused
 probe-way = wrong-refusal probe probeRefused returns.probe-refusing
