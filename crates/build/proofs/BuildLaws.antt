@@ -19,7 +19,7 @@ use Rattle.index.specs.declared.Checked.the-variants as checked
 use Rattle.index.specs.Format.{wordCount, highest, part, wordOf, listOf}
 use Rattle.index.specs.Sound.{Sound}
 use Rattle.index.specs.Check.{checkOf}
-use Rattle.index.specs.Has.{has}
+use Rattle.directory.specs.Has.{has}
 use Rattle.index.proofs.SoundLaws.{part-length}
 use Rattle.build.specs.Lent.{wordsOf, sumTo, listsFrom}
 use Rattle.build.specs.Written.{cellsIn}

@@ -22,9 +22,9 @@ use Rattle.list.proofs.WalkLaws.{walked-length}
 use Rattle.list.proofs.KeptLaws.{kept-facts}
 use Rattle.index.specs.Format.{wordCount, highest, wordOf, singlesOf, lowerOf, upperOf, listOf}
 use Rattle.index.specs.Sound.{Sound}
-use Rattle.index.specs.Has.{has, placeOf}
+use Rattle.directory.specs.Has.{has, placeOf}
 use Rattle.index.proofs.SoundLaws.{words-step, sound-entry, sound-list, singles-length, lower-length}
-use Rattle.index.proofs.HasLaws.{has-entry, list-proper, below-down, entry-place, found-place, nowhere-has}
+use Rattle.directory.proofs.HasLaws.{has-entry, list-proper, below-down, entry-place, found-place, nowhere-has}
 use Rattle.build.specs.Lent.{wordsOf, listsFrom}
 use Rattle.build.specs.Build.{Builds}
 use Rattle.build.specs.ReadsBack.{Below, recordsFor}

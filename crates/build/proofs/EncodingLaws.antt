@@ -20,7 +20,7 @@ use Rattle.list.proofs.KeptCountLaws.{kept-count}
 use Rattle.index.specs.Format.{wordsStart, directoryStart, wordCount, highest, entryAt, wordStart, wordLength, listStart, singleCount, pairCount, listLength, wordsEnd, listsEnd, part, wordOf, singlesOf, lowerOf, upperOf, listOf}
 use Rattle.index.specs.Sound.{Sound}
 use Rattle.index.proofs.SoundLaws.{sound-length, sound-edition, sound-word, words-step, sound-trailer, sound-entry, sound-list, sound-ends, wordsEnd-next, listsEnd-next, word-length, singles-length, lower-length, upper-length}
-use Rattle.index.proofs.HasLaws.{list-proper}
+use Rattle.directory.proofs.HasLaws.{list-proper}
 use Rattle.build.specs.Lent.{lentBefore}
 use Rattle.build.specs.Written.{cellBytes, cellsBytes, singlesIn, lowersIn, uppersIn, keptBytes, cellsIn, listsBytes, wordsBytes, entryBytes, directoryBytes, trailerBytes, indexOf}
 use Rattle.build.specs.ReadsBack.{Below, Indexable, listed, wordsIn, recordsAt, listsIn}

@@ -1,7 +1,7 @@
 // The answers as text: refusal and value, then what was asked for.
+use directory::Lookup;
+use directory::Probed;
 use index::Checked;
-use index::Lookup;
-use index::Probed;
 use refusal::Refusal;
 
 fn write_number(n: u64) {

@@ -36,7 +36,7 @@ fn copy(from: &[u8], to: &mut [u8]) {
 fn probe(index: &[u8], asked: &[u8]) {
     let range = behind(asked, b' ');
     let upper = behind(range, b' ');
-    write_probed(index::probe_call::probe_entry(
+    write_probed(directory::probe::probe_entry(
         index,
         number(asked, 0),
         number(range, 0),
@@ -50,13 +50,13 @@ fn ask(line: &[u8], kind: u8, index: &[u8]) {
     if kind == b'c' {
         write_checked(index::check::check_index(index));
     } else if kind == b'l' {
-        write_lookup(index::find::look_up(index, asked));
+        write_lookup(directory::find::look_up(index, asked));
     } else if kind == b'p' {
         probe(index, asked);
     } else {
         let entry = number(asked, 0);
-        write_checked(index::word_call::entry_refusal(index, entry));
-        write_word(index::word_call::entry_word(index, entry));
+        write_checked(directory::entry::entry_refusal(index, entry));
+        write_word(directory::entry::entry_word(index, entry));
     }
 }
 

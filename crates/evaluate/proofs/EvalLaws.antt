@@ -10,10 +10,10 @@ use Rattle.window.proofs.HoldLaws.{holds-agree, holds-combined}
 use Rattle.question.specs.declared.token.Op.{Op}
 use Rattle.question.specs.Grammar.{Tree, word, pair, part, wordsOf}
 use Rattle.question.specs.Meaning.{combine}
-use Rattle.evaluate.specs.Engine.{Added}
-use Rattle.evaluate.specs.Slots.{slotFits}
-use Rattle.evaluate.proofs.AddedLaws.{added-holds}
-use Rattle.evaluate.proofs.SlotLaws.{slot-word, slot-part, slot-pair}
+use Rattle.fill.specs.Added.{Added}
+use Rattle.slots.specs.Slots.{slotFits}
+use Rattle.fill.proofs.AddedLaws.{added-holds}
+use Rattle.slots.proofs.SlotLaws.{slot-word, slot-part, slot-pair}
 
 -- ---- a window that is the front of a longer one
 

@@ -13,11 +13,11 @@ use Rattle.question.specs.declared.token.Op.{Op}
 use Rattle.question.specs.declared.token.Op.the-variants.{And, Or, Not}
 use Rattle.question.specs.Grammar.{Tree, word, pair, part, wordsOf}
 use Rattle.question.specs.Meaning.{combine}
-use Rattle.evaluate.specs.Code.{opCode}
-use Rattle.evaluate.specs.Slots.{slotHas, slotFits}
+use Rattle.codes.specs.Code.{opCode}
+use Rattle.slots.specs.Slots.{slotHas, slotFits}
 use Rattle.evaluate.specs.Senses.{untilOf, insideOf}
 use Rattle.evaluate.specs.Look.{Tells}
-use Rattle.evaluate.proofs.SlotLaws.{slot-lists, slot-lacks, slot-word, slot-part, slot-pair}
+use Rattle.slots.proofs.SlotLaws.{slot-lists, slot-lacks, slot-word, slot-part, slot-pair}
 
 -- ---- of equal tests, and of the opposite
 

@@ -1,5 +1,3 @@
-pub mod Code
-pub mod Slots
-pub mod Engine
 pub mod Senses
 pub mod Look
+pub mod Evaluated

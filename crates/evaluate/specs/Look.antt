@@ -11,8 +11,9 @@ use Rattle.question.specs.Token.{Tok}
 use Rattle.question.specs.Grammar.{Tree, Out, wordsOf}
 use Rattle.question.specs.Meaning.{combine}
 use Rattle.evaluate.specs.declared.look.Look.{Look}
-use Rattle.evaluate.specs.Code.{opCode}
-use Rattle.evaluate.specs.Slots.{slotFits, Reads}
+use Rattle.codes.specs.Code.{opCode}
+use Rattle.slots.specs.Slots.{slotFits}
+use Rattle.codes.specs.Reads.{Reads}
 use Rattle.evaluate.specs.Senses.{Known}
 
 -- what a sense says of a test at x

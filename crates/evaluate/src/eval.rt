@@ -5,9 +5,9 @@ ghost use lib.ListN.{length};
 ghost use Rattle.window.specs.Window.{Combined};
 ghost use Rattle.question.specs.Grammar.{fromLeft, question, operand};
 ghost use Rattle.question.specs.Meaning.{combine};
-ghost use Rattle.evaluate.specs.Code.{opOf};
-ghost use Rattle.evaluate.specs.Engine.{Ready, Evaluated};
-use crate::code::code_at;
+ghost use Rattle.codes.specs.Code.{opOf};
+ghost use Rattle.evaluate.specs.Evaluated.{Ready, Evaluated};
+use codes::read::code_at;
 
 // The code behind what was evaluated, and the slot of the next word.
 pub struct Step {
@@ -52,7 +52,7 @@ pub fn eval_level(
     let n = ws.len();
     loop {
         let code = code_at(codes, at);
-        if !crate::code::is_operator(code) {
+        if !codes::read::is_operator(code) {
             return Step { code: at, slot };
         }
         let mut other: [u64; 128] = [0; 128];
@@ -91,7 +91,7 @@ fn eval_operand(
     let code = code_at(codes, i);
     if code == 0 {
         if k < entries.len() {
-            crate::fill::fill_slot(index, entries, k, base, hints, ws);
+            crate::slot::fill_slot(index, entries, k, base, hints, ws);
             return Step {
                 code: i + 1,
                 slot: k + 1,

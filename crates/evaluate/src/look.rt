@@ -4,10 +4,10 @@ ghost use Prim.Native.Nat.{_≤_};
 ghost use lib.ListN.{length, getD};
 ghost use Rattle.question.specs.Grammar.{fromLeft, question, operand};
 ghost use Rattle.evaluate.specs.Look.{Looks};
-use crate::code::code_at;
-use crate::code::is_operator;
 use crate::sense_pair::pair_senses;
 use crate::senses::sense_of;
+use codes::read::code_at;
+use codes::read::is_operator;
 use list::sense::Sense;
 
 // The code and the slot behind what was looked at, and its sense.

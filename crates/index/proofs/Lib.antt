@@ -4,6 +4,3 @@ pub mod FrameLaws
 pub mod RuleLaws
 pub mod GoingLaws
 pub mod CheckLaws
-pub mod HasLaws
-pub mod AnswerLaws
-pub mod EntryIntervals

@@ -1,7 +1,19 @@
-// The trailer of an index. Reference 4.2.
+// Looking a word up in the directory.
+ghost use mathlib.Core.Path.{_≡_};
 ghost use Prim.Native.Nat.{_≤_};
 ghost use lib.ListN.{length};
+ghost use Rattle.index.specs.Format.{wordCount};
+ghost use Rattle.index.specs.Sound.{Sound};
 ghost use Rattle.index.specs.Read.{TrailerOf};
+
+// How many words a sound index has.
+pub fn word_count(index: &[u8]) -> usize
+    requires { ⌜ Sound (now index) ⌝ }
+    ensures { λ r. ⌜ (r ≡ wordCount (now (index .entry))) × (r ≤ 65535) ⌝ }
+{
+    let trailer = crate::trailer::read_trailer(index);
+    trailer.count
+}
 
 // Where the words and the directory start, how many words there are, the highest record, and the edition.
 pub struct Trailer {

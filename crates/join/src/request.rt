@@ -7,8 +7,8 @@ ghost use Rattle.index.specs.Sound.{Sound};
 ghost use Rattle.merge.specs.Asked.{Asked, listsOf};
 ghost use Rattle.join.specs.Join.{badEntryNumber, entriesOf, requestOf};
 ghost use Rattle.join.specs.Bound.{intervalSum};
+use directory::parts::interval_count;
 use index::Checked;
-use index::parts::interval_count;
 use refusal::Found;
 use refusal::Refusal;
 
@@ -17,7 +17,7 @@ fn first_bad_number(index: &[u8], entries: &[u32]) -> Found
     requires { ⌜ Sound (now index) ⌝ }
     ensures { λ r. ⌜ r ≡ first (badEntryNumber (now (index .entry)) (now (entries .entry))) (length (now (entries .entry))) ⌝ }
 {
-    let count = index::find::word_count(index);
+    let count = index::trailer::word_count(index);
     let mut i = 0;
     while i < entries.len() {
         if count <= entries[i] as usize {

@@ -16,3 +16,4 @@ pub mod ReadingLaws
 pub mod ProbeLaws
 pub mod SenseLaws
 pub mod LeftLaws
+pub mod HintLaws

@@ -9,3 +9,4 @@ pub mod Seek
 pub mod Passed
 pub mod Reading
 pub mod Sense
+pub mod Hints

@@ -2,6 +2,7 @@
 
 pub mod answer;
 pub mod cell;
+pub mod hints;
 pub mod kept;
 pub mod probe;
 pub mod put;

@@ -16,7 +16,7 @@ use Rattle.list.proofs.JoinLaws.{AllProper}
 use Rattle.index.specs.Format.{wordCount, highest, singleCount, pairCount, singlesOf, lowerOf, upperOf, listOf}
 use Rattle.index.specs.Sound.{Sound}
 use Rattle.index.proofs.SoundLaws.{sound-trailer, sound-entry, sound-list, singles-length, lower-length, upper-length}
-use Rattle.index.proofs.HasLaws.{list-proper}
+use Rattle.directory.proofs.HasLaws.{list-proper}
 use Rattle.merge.specs.Asked.{Asked, listsOf}
 use Rattle.merge.specs.Places.{singlesIn, lowerIn, upperIn}
 

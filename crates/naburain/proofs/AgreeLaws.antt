@@ -33,9 +33,9 @@ use Rattle.index.specs.declared.Checked.{Checked}
 use Rattle.index.specs.declared.Checked.the-variants.{Good, Refused}
 use Rattle.index.specs.Format.{wordStart, wordLength, wordOf}
 use Rattle.index.specs.Part.{Slice, partOf}
-use Rattle.index.specs.Entry.{entryOf, entryWord}
+use Rattle.directory.specs.Entry.{entryOf, entryWord}
 use Rattle.index.proofs.SoundLaws.{part-length, sound-word-room}
-use Rattle.index.proofs.AnswerLaws.{entry-good, start-answered, start-refused, length-answered, length-refused}
+use Rattle.directory.proofs.AnswerLaws.{entry-good, start-answered, start-refused, length-answered, length-refused}
 use Rattle.naburain.specs.declared.WordResult.{WordResult}
 use Rattle.naburain.specs.Result.{wordResult}
 use Rattle.naburain.specs.Agree.{Reported}

@@ -7,10 +7,10 @@ use Rattle.list.specs.declared.answer.Answer.{Answer}
 use Rattle.list.specs.declared.answer.Answer.the-variants as answer
 use Rattle.index.specs.declared.Checked.{Checked}
 use Rattle.index.specs.declared.Checked.the-variants as checked
-use Rattle.index.specs.declared.Lookup.{Lookup}
-use Rattle.index.specs.declared.Lookup.the-variants.{Entry, NoEntry}
-use Rattle.index.specs.declared.Probed.{Probed}
-use Rattle.index.specs.declared.Probed.the-variants.{Counted, NoCount}
+use Rattle.directory.specs.declared.Lookup.{Lookup}
+use Rattle.directory.specs.declared.Lookup.the-variants.{Entry, NoEntry}
+use Rattle.directory.specs.declared.Probed.{Probed}
+use Rattle.directory.specs.declared.Probed.the-variants.{Counted, NoCount}
 use Rattle.naburain.specs.declared.CheckResult.{CheckResult}
 use Rattle.naburain.specs.declared.LookupResult.{LookupResult}
 use Rattle.naburain.specs.declared.WordResult.{WordResult}

@@ -3,13 +3,13 @@ ghost use mathlib.Core.Path.{_≡_};
 ghost use Rattle.convert.specs.Convert.{ToIntervals, ToNumbers};
 ghost use Rattle.index.specs.Format.{wordStart, wordLength};
 ghost use Rattle.index.specs.Check.{checkOf};
-ghost use Rattle.index.specs.Entry.{lookupOf, entryOf, probeOf};
+ghost use Rattle.directory.specs.Entry.{lookupOf, entryOf, probeOf};
 ghost use Rattle.naburain.specs.Result.{checkResult, lookupResult, wordResult, probeResult, writeResult, answerResult};
 ghost use Rattle.list.specs.Ginix.{unionOf, intersectionOf};
 ghost use Rattle.naburain.specs.Exported.{IntervalsExported, NumbersExported, JoinExported, AskExported, BuildExported};
+use directory::Lookup;
+use directory::Probed;
 use index::Checked;
-use index::Lookup;
-use index::Probed;
 use list::Written;
 use list::answer::Answer;
 use refusal::number_of;
@@ -159,7 +159,7 @@ pub extern "C" fn naburain_check(index: &[u8]) -> CheckResult
 pub extern "C" fn naburain_lookup(index: &[u8], word: &[u8]) -> LookupResult
     ensures { λ r. ⌜ r ≡ lookupResult (lookupOf (now (index .entry)) (now (word .entry))) ⌝ }
 {
-    lookup_result(index::find::look_up(index, word))
+    lookup_result(directory::find::look_up(index, word))
 }
 
 // Reference 8.3: where the word of an entry stands in the index; refusals 1 to 5, 14.
@@ -167,9 +167,9 @@ pub extern "C" fn naburain_lookup(index: &[u8], word: &[u8]) -> LookupResult
 pub extern "C" fn naburain_word(index: &[u8], entry: u32) -> WordResult
     ensures { λ r. ⌜ r ≡ wordResult (entryOf (now (index .entry)) entry) (wordStart (now (index .entry)) entry) (wordLength (now (index .entry)) entry) ⌝ }
 {
-    match index::word_call::entry_refusal(index, entry) {
+    match directory::entry::entry_refusal(index, entry) {
         Checked::Good => {
-            let found = index::parts::sound_entry(index, entry as usize);
+            let found = directory::parts::sound_entry(index, entry as usize);
             WordResult {
                 refusal: 0,
                 value: 0,
@@ -191,7 +191,7 @@ pub extern "C" fn naburain_word(index: &[u8], entry: u32) -> WordResult
 pub extern "C" fn naburain_probe(index: &[u8], entry: u32, a: u32, b: u32) -> ProbeResult
     ensures { λ r. ⌜ r ≡ probeResult (probeOf (now (index .entry)) entry a b) ⌝ }
 {
-    probe_result(index::probe_call::probe_entry(index, entry, a, b))
+    probe_result(directory::probe::probe_entry(index, entry, a, b))
 }
 
 // Reference 8.7: refusals 15, 12.

@@ -6,7 +6,7 @@ use Rattle.convert.specs.Convert.{ToIntervals, ToNumbers}
 use Rattle.index.specs.Format.{wordStart, wordLength}
 use Rattle.index.specs.Part.{Slice}
 use Rattle.index.specs.Check.{checkOf}
-use Rattle.index.specs.Entry.{lookupOf, entryOf, entryWord, probeOf}
+use Rattle.directory.specs.Entry.{lookupOf, entryOf, entryWord, probeOf}
 use Rattle.join.specs.Join.{Joins}
 use Rattle.question.specs.Grammar.{Rule, fromLeft}
 use Rattle.question.specs.Reading.{readingOf}

@@ -12,8 +12,8 @@ use Rattle.list.specs.declared.Written.{Written}
 use Rattle.list.specs.declared.Written.the-variants as written
 use Rattle.list.specs.declared.answer.Answer.{Answer}
 use Rattle.list.specs.declared.answer.Answer.the-variants as answer
-use Rattle.index.specs.declared.Probed.{Probed}
-use Rattle.index.specs.declared.Probed.the-variants.{Counted, NoCount}
+use Rattle.directory.specs.declared.Probed.{Probed}
+use Rattle.directory.specs.declared.Probed.the-variants.{Counted, NoCount}
 use Rattle.promises.specs.Wrong.{
   Writer,
   Promise,

@@ -27,7 +27,7 @@ use Rattle.index.specs.Format.{
   upperOf,
   listOf,
 }
-use Rattle.index.specs.Has.{hasWithin, has}
+use Rattle.directory.specs.Has.{hasWithin, has}
 use Rattle.question.specs.Token.{run, gather, tokensAt, tokens}
 use Rattle.question.specs.Grammar.{fromLeft, question, operand, links, whole}
 use Rattle.question.specs.Meaning.{fits}

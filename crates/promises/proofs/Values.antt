@@ -8,8 +8,8 @@ use Rattle.word.specs.Word.{isWordByte, same, isAnd, isOr, isNot, operatorOf}
 use Rattle.list.specs.declared.Written.the-variants as written
 use Rattle.list.specs.declared.answer.Answer.the-variants as answer
 use Rattle.index.specs.declared.Checked.the-variants as checked
-use Rattle.index.specs.declared.Lookup.the-variants.{Entry, NoEntry}
-use Rattle.index.specs.declared.Probed.the-variants.{NoCount}
+use Rattle.directory.specs.declared.Lookup.the-variants.{Entry, NoEntry}
+use Rattle.directory.specs.declared.Probed.the-variants.{NoCount}
 use Rattle.question.specs.declared.reader.Reading.the-variants as reading
 use Rattle.question.specs.Token.{run, gather, tokensAt, tokens}
 use Rattle.question.specs.Limits.{wordsIn}

@@ -10,10 +10,10 @@ use Rattle.list.specs.Cell.{numbersIn}
 use Rattle.list.specs.Kept.{walkFrom, walked}
 use Rattle.index.specs.Format.{entryAt, wordStart, wordLength, listStart, singleCount, pairCount, part, wordOf, singlesOf, lowerOf, upperOf, listOf, wordCount}
 use Rattle.index.specs.Check.{checkOf}
-use Rattle.index.specs.Entry.{lookupAfter, lookupOf, entryAfter, entryOf, numberAfter, entryStart, entryLength, badRange, rangeAnswer, probeAfter, probeOf}
+use Rattle.directory.specs.Entry.{lookupAfter, lookupOf, entryAfter, entryOf, numberAfter, entryStart, entryLength, badRange, rangeAnswer, probeAfter, probeOf}
 use Rattle.index.specs.declared.Checked.the-variants.{Good}
-use Rattle.index.specs.declared.Probed.{Probed}
-use Rattle.index.specs.declared.Probed.the-variants.{Counted}
+use Rattle.directory.specs.declared.Probed.{Probed}
+use Rattle.directory.specs.declared.Probed.the-variants.{Counted}
 use Rattle.question.specs.Token.{run, gather, tokensAt, tokens}
 use Rattle.question.specs.Grammar.{fromLeft, question, operand, links, whole}
 use Rattle.question.specs.Reading.{isForeign, refusalOf, asked, readingOf}

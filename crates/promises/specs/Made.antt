@@ -15,8 +15,8 @@ use Rattle.list.specs.declared.answer.Answer.{Answer}
 use Rattle.list.specs.declared.answer.Answer.the-variants as answer
 use Rattle.list.specs.Interval.{intervals, records}
 use Rattle.convert.specs.Convert.{answerOf, leftOf, badNumberOf, intervalsOf, badIntervalOf, numbersOf}
-use Rattle.index.specs.declared.Probed.{Probed}
-use Rattle.index.specs.declared.Probed.the-variants.{Counted, NoCount}
+use Rattle.directory.specs.declared.Probed.{Probed}
+use Rattle.directory.specs.declared.Probed.the-variants.{Counted, NoCount}
 use Rattle.index.specs.Check.{checkOf}
 use Rattle.merge.specs.Asked.{listsOf}
 use Rattle.join.specs.Join.{requestOf, joinAnswer, joinCells}

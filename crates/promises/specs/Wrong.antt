@@ -15,12 +15,12 @@ use Rattle.list.specs.declared.answer.Answer.the-variants as answer
 use Rattle.convert.specs.Convert.{ToIntervals, ToNumbers}
 use Rattle.index.specs.declared.Checked.{Checked}
 use Rattle.index.specs.declared.Checked.the-variants as checked
-use Rattle.index.specs.declared.Lookup.{Lookup}
-use Rattle.index.specs.declared.Lookup.the-variants.{Entry, NoEntry}
-use Rattle.index.specs.declared.Probed.{Probed}
-use Rattle.index.specs.declared.Probed.the-variants.{Counted, NoCount}
+use Rattle.directory.specs.declared.Lookup.{Lookup}
+use Rattle.directory.specs.declared.Lookup.the-variants.{Entry, NoEntry}
+use Rattle.directory.specs.declared.Probed.{Probed}
+use Rattle.directory.specs.declared.Probed.the-variants.{Counted, NoCount}
 use Rattle.index.specs.Part.{Slice}
-use Rattle.index.specs.Entry.{lookupOf, entryOf, entryWord, probeOf}
+use Rattle.directory.specs.Entry.{lookupOf, entryOf, entryWord, probeOf}
 use Rattle.join.specs.Join.{Joins}
 use Rattle.question.specs.declared.reader.Reading.{Reading}
 use Rattle.question.specs.declared.reader.Reading.the-variants as reading

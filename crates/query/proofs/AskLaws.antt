@@ -20,7 +20,7 @@ use Rattle.list.proofs.StretchLaws.{cells-same}
 use Rattle.index.specs.declared.Checked.the-variants.{Good, Refused}
 use Rattle.index.specs.Format.{highest}
 use Rattle.index.specs.Sound.{Sound}
-use Rattle.index.specs.Has.{has}
+use Rattle.directory.specs.Has.{has}
 use Rattle.index.specs.Check.{checkOf}
 use Rattle.question.specs.declared.reader.Reading.the-variants as reading
 use Rattle.question.specs.Token.{tokens}
@@ -30,14 +30,15 @@ use Rattle.question.specs.Reading.{Asked, asks, refuses, asked, readingOf}
 use Rattle.question.specs.Reading as read
 use Rattle.question.proofs.AskedLaws.{asked-accepts}
 use Rattle.query.specs.Ask.{satisfying, Answers, Asks}
-use Rattle.evaluate.specs.Code.{codesOf}
-use Rattle.query.specs.Compile.{Coded, Slots}
+use Rattle.codes.specs.Code.{codesOf}
+use Rattle.codes.specs.Coded.{Coded}
+use Rattle.slots.specs.Find.{Slots}
 use Rattle.query.specs.Drive.{TreeOf, testOf, Tallied}
 use Rattle.query.specs.Prepared.{Prepared, Listing}
 use Rattle.query.proofs.DriveLaws.{tree-words}
 use Rattle.query.proofs.QuestionBound.{slots-bound}
 use Rattle.query.proofs.SatisfyLaws.{satisfying-even}
-use Rattle.query.proofs.WholeLaws.{asked-fits}
+use Rattle.slots.proofs.WholeLaws.{asked-fits}
 
 -- ---- an accepted question made ready
 

@@ -29,7 +29,7 @@ use Rattle.list.specs.Answer.{tallyOf, listAnswer, listCells}
 use Rattle.list.proofs.FewestLaws.{fewest-of}
 use Rattle.index.specs.declared.Checked.the-variants.{Good}
 use Rattle.index.specs.Format.{highest}
-use Rattle.index.specs.Has.{has}
+use Rattle.directory.specs.Has.{has}
 use Rattle.index.specs.Check.{checkOf}
 use Rattle.index.proofs.CheckLaws.{good-sound}
 use Rattle.question.specs.Token.{tokens}

@@ -19,7 +19,7 @@ use Rattle.list.proofs.RecordLaws.{recordsFrom-length}
 use Rattle.list.proofs.SweepLaws.{Swept, swept-count, swept-records, swept-written}
 use Rattle.index.specs.Format.{wordCount, highest, listOf}
 use Rattle.index.specs.Sound.{Sound}
-use Rattle.index.proofs.HasLaws.{list-proper}
+use Rattle.directory.proofs.HasLaws.{list-proper}
 use Rattle.question.specs.Grammar.{Tree, fromLeft, question, wordsOf}
 use Rattle.question.specs.Limits.{wordsIn}
 use Rattle.question.proofs.RuleLaws.{from-left-keeps}
@@ -29,14 +29,15 @@ use Rattle.window.specs.Flips.{odd, flips}
 use Rattle.window.proofs.SweepLaws.{window-part, jump-part}
 use Rattle.evaluate.specs.declared.look.Look.{Look}
 use Rattle.evaluate.specs.declared.eval.Step.{Step}
-use Rattle.evaluate.specs.Code.{wordCodes}
-use Rattle.evaluate.specs.Slots.{slotHas}
+use Rattle.codes.specs.Code.{wordCodes}
+use Rattle.slots.specs.Slots.{slotHas}
 use Rattle.evaluate.specs.Senses.{Known}
-use Rattle.evaluate.specs.Engine.{Evaluated}
+use Rattle.evaluate.specs.Evaluated.{Evaluated}
 use Rattle.evaluate.specs.Look.{Looks}
-use Rattle.query.specs.Drive.{Constant, TreeOf, testOf, Tallied}
-use Rattle.evaluate.proofs.CodeLaws.{codes-words}
-use Rattle.evaluate.proofs.SlotLaws.{slots-none}
+use Rattle.window.specs.Steps.{Constant}
+use Rattle.query.specs.Drive.{TreeOf, testOf, Tallied}
+use Rattle.codes.proofs.CodeLaws.{codes-words}
+use Rattle.slots.proofs.SlotLaws.{slots-none}
 
 -- ---- the codes read as t
 

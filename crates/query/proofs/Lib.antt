@@ -1,9 +1,5 @@
-pub mod CompileLaws
-pub mod EntryLaws
 pub mod SatisfyLaws
 pub mod Demand3
-pub mod DriverLaws
 pub mod DriveLaws
-pub mod WholeLaws
 pub mod QuestionBound
 pub mod AskLaws

@@ -10,11 +10,11 @@ use Rattle.list.specs.Interval.{names, intervals}
 use Rattle.list.proofs.StretchLaws.{cells-same, cells-agree, cells-even, cells-names}
 use Rattle.index.specs.Format.{highest}
 use Rattle.index.specs.Sound.{Sound}
-use Rattle.index.specs.Has.{has}
-use Rattle.index.proofs.HasLaws.{has-zero, has-above}
+use Rattle.directory.specs.Has.{has}
+use Rattle.directory.proofs.HasLaws.{has-zero, has-above}
 use Rattle.question.specs.Grammar.{Tree, word, pair, part}
 use Rattle.question.specs.Meaning.{fits, Same}
-use Rattle.evaluate.proofs.SlotLaws.{combine-none}
+use Rattle.slots.proofs.SlotLaws.{combine-none}
 use Rattle.query.specs.Ask.{satisfying}
 use Rattle.query.specs.Demand3.{SameRecords}
 

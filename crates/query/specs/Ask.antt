@@ -10,7 +10,7 @@ use Rattle.list.specs.Answer.{listAnswer, listCells}
 use Rattle.index.specs.declared.Checked.{Checked}
 use Rattle.index.specs.declared.Checked.the-variants.{Good, Refused}
 use Rattle.index.specs.Format.{highest}
-use Rattle.index.specs.Has.{has}
+use Rattle.directory.specs.Has.{has}
 use Rattle.index.specs.Check.{checkOf}
 use Rattle.question.specs.Grammar.{Tree, Rule}
 use Rattle.question.specs.Meaning.{fits}

@@ -9,7 +9,7 @@ use Rattle.list.specs.declared.answer.Answer.{Answer}
 use Rattle.list.specs.declared.answer.Answer.the-variants.{Listed, Refused}
 use Rattle.index.specs.declared.Checked.the-variants.{Good}
 use Rattle.index.specs.Format.{highest}
-use Rattle.index.specs.Has.{has}
+use Rattle.directory.specs.Has.{has}
 use Rattle.index.specs.Check.{checkOf}
 use Rattle.question.specs.Grammar.{Tree, Rule}
 use Rattle.question.specs.Meaning.{fits}

@@ -1,37 +1,20 @@
 -- The driver, which passes the records from 1 to N step by step and counts, or writes, the cells of those that satisfy a question.
-use Prim.Native.Nat.{ℕ, _+_, _≤_, _<_, min}
+use Prim.Native.Nat.{ℕ, _+_, _≤_, min}
 use mathlib.Core.Path.{_≡_}
 use mathlib.Core.Bool.{Bool, true, cond}
 use mathlib.Core.List.{List, [], _++_}
 use lib.ListN.{length, drop}
-use lib.Seq.{sets}
 use Rattle.list.specs.declared.answer.Tally.{Tally}
-use Rattle.list.specs.Stretches.{recordsFrom, cellsOf}
+use Rattle.list.specs.Stretches.{cellsOf}
 use Rattle.list.specs.Answer.{tallyOf}
+use Rattle.window.specs.Flips.{odd, flips}
+use Rattle.window.specs.Steps.{Stepped}
 use Rattle.question.specs.Token.{Tok}
 use Rattle.question.specs.Grammar.{Tree, good, fromLeft, question}
-use Rattle.window.specs.Flips.{odd, flips}
-use Rattle.evaluate.specs.Code.{codesOf, wordCodes}
-use Rattle.evaluate.specs.Slots.{slotHas, slotFits}
+use Rattle.codes.specs.Code.{codesOf, wordCodes}
+use Rattle.slots.specs.Slots.{slotHas, slotFits}
 use Rattle.evaluate.specs.Senses.{Sensed}
 use Rattle.query.specs.declared.drive.At.{At}
-
--- ---- one step, for any test
-
--- the cells vs behind the first k: they are counted, and where the list is written, written
-pub record Put (vs : List ℕ) (k : ℕ) (writing : Bool) (out out′ : List ℕ) (k′ : ℕ) : Type 0 where
-  pub count : k′ ≡ k + length vs
-  pub written : out′ ≡ cond writing (sets out k vs) out
-
--- p is v from x to below y
-abbrev pub Constant : (ℕ → Bool) → ℕ → ℕ → Bool → Type 0
-Constant p x y v = (z : ℕ) → x ≤ z → z < y → p z ≡ v
-
--- a step over the m records from x on: behind k cells and recs records, there are k′ and recs′
-pub record Stepped (p : ℕ → Bool) (x m : ℕ) (writing : Bool) (k recs : ℕ) (out out′ : List ℕ) (k′ recs′ : ℕ) : Type 0 where
-  pub cells : k′ ≡ k + length (flips p (odd k) x m)
-  pub records : recs′ ≡ recs + length (recordsFrom p x m)
-  pub written : out′ ≡ cond writing (sets out k (flips p (odd k) x m)) out
 
 -- ---- the question's test, by its codes
 

@@ -6,12 +6,12 @@ use lib.ListN.{length}
 use Rattle.list.specs.declared.answer.Answer.{Answer}
 use Rattle.list.specs.Interval.{intervals}
 use Rattle.list.specs.Answer.{listAnswer, listCells}
-use Rattle.index.specs.Has.{has}
+use Rattle.directory.specs.Has.{has}
 use Rattle.question.specs.Grammar.{Tree}
 use Rattle.question.specs.Meaning.{fits}
 use Rattle.query.specs.Ask.{satisfying}
-use Rattle.query.specs.Bound.{slotsIntervals}
-use Rattle.evaluate.specs.Code.{wordCodes}
+use Rattle.slots.specs.Bound.{slotsIntervals}
+use Rattle.codes.specs.Code.{wordCodes}
 use Rattle.query.specs.Drive.{TreeOf, testOf}
 
 -- the codes read as t and have so many words, its test by the slots is that by the words, and its answer has no more intervals than the lists of its

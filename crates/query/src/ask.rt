@@ -5,12 +5,10 @@ ghost use lib.ListN.{length};
 ghost use Rattle.index.specs.Sound.{Sound};
 ghost use Rattle.question.specs.Grammar.{Tree, fromLeft};
 ghost use Rattle.query.specs.Ask.{satisfying, Answers, Asks};
-ghost use Rattle.query.specs.Compile.{IsAsked};
+ghost use Rattle.slots.specs.Find.{IsAsked};
 ghost use Rattle.query.specs.Prepared.{Prepared, IsPrepared, Listing};
-use crate::bound::slots_sum;
-use crate::compile::find_slots;
-use crate::compile::write_codes;
 use crate::drive::sweep_question;
+use codes::write::write_codes;
 use index::Checked;
 use index::check::check_index;
 use index::trailer::read_trailer;
@@ -18,6 +16,8 @@ use list::answer::Answer;
 use question::read_question;
 use question::reader::Reading;
 use refusal::Refusal;
+use slots::bound::slots_sum;
+use slots::find::find_slots;
 
 // Writes the answer where it has room. The lists of the words have no fewer intervals together: where there is room for those, one pass is enough.
 fn put_answer(

@@ -1,7 +1,4 @@
 // Answering a question: a window of records at a time, with jumps over stretches that stay as they are.
 
 pub mod ask;
-pub mod bound;
-pub mod compile;
 pub mod drive;
-pub mod steps;

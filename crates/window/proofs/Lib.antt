@@ -7,3 +7,4 @@ pub mod FillLaws
 pub mod HoldLaws
 pub mod MemberLaws
 pub mod SweepLaws
+pub mod StepLaws

@@ -2,3 +2,4 @@ pub mod Bit
 pub mod Window
 pub mod Filled
 pub mod Flips
+pub mod Steps

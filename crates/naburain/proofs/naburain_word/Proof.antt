@@ -1,7 +1,7 @@
 -- An entry that the index has lies in it; its place is what the entry says.
 use mathlib.Core.Path.{sym, _∙_}
 use denote.Ref.{now}
-use Rattle.index.proofs.AnswerLaws.{entry-good}
+use Rattle.directory.proofs.AnswerLaws.{entry-good}
 use borrow.Author.Needs.{needs}
 use Rattle.naburain.proofs.naburain_word.Statement.{statement}
 use Rattle.naburain.proofs.naburain_word.Tie as tie

@@ -9,11 +9,11 @@ use borrow.Author.Tests.{not-true, not-false}
 use borrow.Rule.Slice.PartMut.{same-len-mid}
 use borrow.Author.Needs.{needs}
 use Rattle.window.specs.Window.{Holds}
-use Rattle.evaluate.specs.Slots.{slotHas, slotFits}
-use Rattle.evaluate.proofs.ReadsLaws.{code-within, Level, level-start, level-step, level-end, operand-none, operand-word, operand-many, operand-deep, operand-part, operand-unclosed}
+use Rattle.slots.specs.Slots.{slotHas, slotFits}
+use Rattle.codes.proofs.ReadsLaws.{code-within, Level, level-start, level-step, level-end, operand-none, operand-word, operand-many, operand-deep, operand-part, operand-unclosed}
 use Rattle.evaluate.proofs.EvalLaws.{front-blank, front-back, holds-word, holds-part, holds-pair}
-use Rattle.evaluate.specs.Code.{opCode, opOf}
-use Rattle.evaluate.proofs.CodeLaws.{op-range, operator-code, operator-none, positive}
+use Rattle.codes.specs.Code.{opCode, opOf}
+use Rattle.codes.proofs.CodeLaws.{op-range, operator-code, operator-none, positive}
 use borrow.Fn.Kinds.{In}
 use borrow.Fn.PlainCycle.{Measures, is, falls, and}
 use Rattle.evaluate.proofs.eval.eval_level.Reads as eval-level
@@ -22,10 +22,10 @@ use Rattle.evaluate.proofs.eval.+eval_level+eval_operand.Lts-eval_level
 use Rattle.evaluate.proofs.eval.eval_operand.Reads as eval-operand
 use Rattle.evaluate.proofs.eval.eval_operand.Kinds as eval-operand-kinds
 use Rattle.evaluate.proofs.eval.+eval_level+eval_operand.Lts-eval_operand as eval-operand-lts
-use Rattle.evaluate.proofs.code.code_at.Reads as code-at-reads
-use Rattle.evaluate.proofs.code.is_operator.Reads as is-operator-reads
+use Rattle.codes.proofs.read.code_at.Reads as code-at-reads
+use Rattle.codes.proofs.read.is_operator.Reads as is-operator-reads
 use Rattle.evaluate.proofs.eval.combine_into.Reads as combine-into-reads
-use Rattle.evaluate.proofs.fill.fill_slot.Reads as fill-slot-reads
+use Rattle.evaluate.proofs.slot.fill_slot.Reads as fill-slot-reads
 use Rattle.evaluate.proofs.eval.+eval_level+eval_operand.{statement}
 use Rattle.evaluate.proofs.eval.+eval_level+eval_operand.Tie.{close}
 

@@ -1,6 +1,6 @@
 -- Each code has its operator, and each operator its way to combine.
 use Prim.Native.Nat.{_<_}
-use Rattle.evaluate.proofs.CodeLaws.{op-and, op-or, op-not, above-two}
+use Rattle.codes.proofs.CodeLaws.{op-and, op-or, op-not, above-two}
 use borrow.Author.Needs.{needs}
 use Rattle.evaluate.proofs.eval.combine_into.Statement.{statement}
 use Rattle.evaluate.proofs.eval.combine_into.Tie as tie

@@ -5,22 +5,10 @@ use mathlib.Core.Path.{_≡_, sym, _∙_}
 use lib.ListN.{length, getD}
 use borrow.Author.Needs.{needs}
 use borrow.Author.Tests.{not-true, not-false}
-use Rattle.evaluate.specs.Code.{opCode, opOf}
+use Rattle.codes.specs.Code.{opCode, opOf}
 use Rattle.evaluate.specs.Look.{Tells}
-use Rattle.evaluate.proofs.CodeLaws.{op-range, operator-code, operator-none}
-use Rattle.evaluate.proofs.ReadsLaws.{
-  code-within,
-  operand-none,
-  operand-word,
-  operand-many,
-  operand-deep,
-  operand-part,
-  operand-unclosed,
-  Level,
-  level-start,
-  level-step,
-  level-end,
-}
+use Rattle.codes.proofs.CodeLaws.{op-range, operator-code, operator-none}
+use Rattle.codes.proofs.ReadsLaws.{code-within, operand-none, operand-word, operand-many, operand-deep, operand-part, operand-unclosed, Level, level-start, level-step, level-end}
 use Rattle.evaluate.proofs.SenseLaws.{tells-word, tells-part, tells-pair}
 use borrow.Fn.Kinds.{In}
 use borrow.Fn.PlainCycle.{Measures, is, falls, and}
@@ -33,8 +21,8 @@ use Rattle.evaluate.proofs.look.+look_level+look_operand+look_part.Lts-
 use Rattle.evaluate.proofs.look.look_part.Reads as look-part
 use Rattle.evaluate.proofs.look.look_part.Kinds as look-part-kinds
 use Rattle.evaluate.proofs.look.+look_level+look_operand+look_part.Lts-look_part as look-part-lts
-use Rattle.evaluate.proofs.code.code_at.Reads as code-at-reads
-use Rattle.evaluate.proofs.code.is_operator.Reads as is-operator-reads
+use Rattle.codes.proofs.read.code_at.Reads as code-at-reads
+use Rattle.codes.proofs.read.is_operator.Reads as is-operator-reads
 use Rattle.evaluate.proofs.senses.sense_of.Reads as sense-of-reads
 use Rattle.evaluate.proofs.look.unread.Reads as unread-reads
 use Rattle.evaluate.proofs.sense_pair.pair_senses.Reads as pair-senses-reads

@@ -6,7 +6,7 @@ use Rattle.list.specs.Cell.{numbersIn}
 use Rattle.list.specs.Interval.{top}
 use Rattle.list.proofs.KeptLaws.{kept-facts}
 use Rattle.index.specs.Format.{singlesOf, lowerOf, upperOf}
-use Rattle.index.proofs.AnswerLaws.{list-kept}
+use Rattle.directory.proofs.AnswerLaws.{list-kept}
 use Rattle.evaluate.proofs.SenseLaws.{slot-in, slot-out}
 use borrow.Author.Needs.{needs}
 use Rattle.evaluate.proofs.senses.look_slot.Statement.{statement}

@@ -1,6 +1,6 @@
 -- A sense that holds is kept; else the slot is looked at.
 use native.Mathlib.Omega.{arith}
-use Rattle.evaluate.specs.Slots.{slotHas}
+use Rattle.slots.specs.Slots.{slotHas}
 use Rattle.evaluate.proofs.SensedLaws.{renewed-set}
 use borrow.Author.Needs.{needs}
 use Rattle.evaluate.proofs.senses.renew_sense.Statement.{statement}

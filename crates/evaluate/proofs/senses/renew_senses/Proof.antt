@@ -3,7 +3,7 @@ use Prim.Native.Nat.{ℕ, _+_, _-_, _<_, _≤_}
 use native.Mathlib.Omega.{arith}
 use mathlib.Core.Path.{_≡_, sym, _∙_}
 use lib.ListN.{length}
-use Rattle.evaluate.specs.Slots.{slotHas}
+use Rattle.slots.specs.Slots.{slotHas}
 use Rattle.evaluate.specs.Senses.{untilOf, Sensed}
 use Rattle.evaluate.proofs.SensedLaws.{sensed-known, renewed-next}
 use borrow.Author.Needs.{needs}

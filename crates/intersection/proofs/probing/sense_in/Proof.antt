@@ -1,5 +1,5 @@
 -- The three regions are the entry's, and keep the list rule.
-use Rattle.index.proofs.AnswerLaws.{list-kept}
+use Rattle.directory.proofs.AnswerLaws.{list-kept}
 use Rattle.merge.proofs.ListsLaws.{entry-ascends, entry-names}
 use borrow.Author.Needs.{needs}
 use Rattle.intersection.proofs.probing.sense_in.Statement.{statement}

@@ -9,10 +9,10 @@ use Rattle.list.specs.Reading.{Goes}
 use Rattle.list.proofs.SweepLaws.{swept-length}
 use Rattle.list.proofs.reading.interval_at.Reads as interval-at-reads
 use Rattle.list.proofs.reading.next_place.Reads as next-place-reads
-use Rattle.index.proofs.EntryIntervals.{entry-walked, entry-intervals}
-use Rattle.index.proofs.parts.lower_of.Reads as lower-of-reads
-use Rattle.index.proofs.parts.singles_of.Reads as singles-of-reads
-use Rattle.index.proofs.parts.upper_of.Reads as upper-of-reads
+use Rattle.directory.proofs.EntryIntervals.{entry-walked, entry-intervals}
+use Rattle.directory.proofs.parts.lower_of.Reads as lower-of-reads
+use Rattle.directory.proofs.parts.singles_of.Reads as singles-of-reads
+use Rattle.directory.proofs.parts.upper_of.Reads as upper-of-reads
 use Rattle.merge.specs.Places.{singlesIn, lowerIn}
 use Rattle.merge.proofs.ListsLaws.{entry-regions}
 use Rattle.intersection.proofs.GoingLaws.{Going, going-start, going-goes, going-end, going-within, going-ordered, going-fits, going-next}

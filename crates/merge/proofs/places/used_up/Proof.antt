@@ -1,6 +1,6 @@
 -- A list has as many intervals as its two walked regions have numbers.
 use native.Mathlib.Omega.{arith}
-use Rattle.index.proofs.EntryIntervals.{entry-walked, entry-few}
+use Rattle.directory.proofs.EntryIntervals.{entry-walked, entry-few}
 use borrow.Author.Needs.{needs}
 use Rattle.merge.proofs.places.used_up.Statement.{statement}
 use Rattle.merge.proofs.places.used_up.Tie as tie

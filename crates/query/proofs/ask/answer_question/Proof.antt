@@ -1,7 +1,7 @@
 -- The reading refuses first; of an accepted question, what its answer is.
 use mathlib.Core.Path.{sym, _∙_}
 use Rattle.question.specs.Grammar.{fromLeft}
-use Rattle.query.proofs.EntryLaws.{reading-asked}
+use Rattle.slots.proofs.FindLaws.{reading-asked}
 use Rattle.query.proofs.AskLaws.{refused-answers, reading-refuses}
 use borrow.Author.Needs.{needs}
 use Rattle.query.proofs.ask.answer_question.Statement.{statement}

@@ -3,7 +3,7 @@ use mathlib.Core.Path.{refl, _∙_}
 use Prim.Native.Nat.{_-_, _*_}
 use native.Mathlib.Omega.{arith}
 use borrow.Author.Needs.{needs}
-use Rattle.evaluate.specs.Slots.{slotHas}
+use Rattle.slots.specs.Slots.{slotHas}
 use Rattle.query.specs.Drive.{testOf}
 use Rattle.evaluate.proofs.SensedLaws.{sensed-later}
 use Rattle.query.proofs.DriveLaws.{steady-constant, jump-room, part-words}

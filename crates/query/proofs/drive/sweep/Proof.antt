@@ -8,10 +8,10 @@ use Rattle.index.proofs.SoundLaws.{sound-trailer}
 use Rattle.question.specs.Grammar.{Tree}
 use Rattle.window.specs.Flips.{odd}
 use borrow.Author.Needs.{needs}
-use Rattle.evaluate.specs.Slots.{slotHas}
+use Rattle.slots.specs.Slots.{slotHas}
 use Rattle.evaluate.specs.Senses.{Sensed}
 use Rattle.query.specs.Drive.{TreeOf, testOf}
-use Rattle.query.proofs.DriverLaws.{swept-few, swept-counted, step-room, swept-step, close-room, swept-close}
+use Rattle.window.proofs.StepLaws.{swept-few, swept-counted, step-room, swept-step, close-room, swept-close}
 use Rattle.query.proofs.DriveLaws.{test-above, swept-tallied}
 use Rattle.query.proofs.drive.sweep.Statement.{statement}
 use Rattle.query.proofs.drive.sweep.Tie as tie

@@ -1,7 +1,7 @@
 -- At first no sense says anything.
 use mathlib.Core.Path.{refl}
 use borrow.Author.Needs.{needs}
-use Rattle.evaluate.specs.Slots.{slotHas}
+use Rattle.slots.specs.Slots.{slotHas}
 use Rattle.evaluate.proofs.SensedLaws.{sensed-none}
 use Rattle.query.proofs.drive.sweep_question.Statement.{statement}
 use Rattle.query.proofs.drive.sweep_question.Tie as tie

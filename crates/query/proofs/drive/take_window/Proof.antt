@@ -4,7 +4,7 @@ use Prim.Native.Nat.{ℕ, _+_, _*_}
 use native.Mathlib.Omega.{arith}
 use borrow.Author.Needs.{needs}
 use Rattle.query.specs.Drive.{testOf}
-use Rattle.query.proofs.DriverLaws.{stepped-window}
+use Rattle.window.proofs.StepLaws.{stepped-window}
 use Rattle.query.proofs.DriveLaws.{tree-holds, blank-length, blank-again, window-room, members-few}
 use Rattle.query.proofs.drive.take_window.Statement.{statement}
 use Rattle.query.proofs.drive.take_window.Tie as tie

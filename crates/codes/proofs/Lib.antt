@@ -1,0 +1,3 @@
+pub mod CodeLaws
+pub mod ReadsLaws
+pub mod CodedLaws

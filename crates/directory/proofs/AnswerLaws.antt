@@ -1,0 +1,119 @@
+-- What the calls over one entry answer, by what the check and the tests before it said.
+use mathlib.Core.Path.{_≡_, refl}
+use Prim.Native.Nat.{ℕ, _≤_, _<_}
+use mathlib.Core.Bool.{Bool, true, false, _||_}
+use mathlib.Core.List.{List}
+use lib.Dec.{eqb, ltb}
+use borrow.Author.Tests.{ltb-true, ltb-false, lt-ltb, le-ltb}
+use Rattle.laws.proofs.Tests.{or-neither}
+use Rattle.refusal.specs.declared.Refusal.{Refusal}
+use Rattle.refusal.specs.declared.Refusal.the-variants.{EntryNumber, ProbeRange, Missing}
+use Rattle.refusal.specs.declared.Found.the-variants.{At, Nowhere}
+use Rattle.refusal.specs.First.{first}
+use Rattle.word.specs.Word.{same}
+use Rattle.list.specs.declared.probe.Probe.{Probe}
+use Rattle.list.specs.Interval.{top}
+use Rattle.list.specs.Cell.{numbersIn}
+use Rattle.list.specs.Reading.{KeptIn}
+use Rattle.list.specs.Ginix.{belowCount, overlapCount}
+use Rattle.list.proofs.KeptLaws.{kept-weaker}
+use Rattle.index.specs.declared.Checked.{Checked}
+use Rattle.index.specs.declared.Checked.the-variants.{Good, Refused}
+use Rattle.index.specs.Format.{wordCount, highest, wordStart, wordLength, wordOf, singlesOf, lowerOf, upperOf, listOf}
+use Rattle.index.specs.Sound.{Sound}
+use Rattle.index.specs.Check.{checkOf}
+use Rattle.index.proofs.CheckLaws.{not-good, good-sound}
+use Rattle.index.proofs.SoundLaws.{sound-trailer, sound-list}
+use Rattle.directory.specs.declared.Lookup.the-variants.{Entry, NoEntry}
+use Rattle.directory.specs.declared.Probed.the-variants.{Counted, NoCount}
+use Rattle.directory.specs.Entry.{lookupOf, entryAfter, entryOf, entryStart, entryLength, badRange, rangeAnswer, probeOf}
+
+-- ---- a lookup
+
+module _ (index word : List ℕ) where
+  pub lookup-refused : (r : Refusal) → checkOf index ≡ Refused r → lookupOf index word ≡ NoEntry r
+  unfolding lookupOf
+  lookup-refused r e = rw e
+
+  pub lookup-found : (i : ℕ) → checkOf index ≡ Good → first (λ j. same (wordOf index j) word) (wordCount index) ≡ At i → lookupOf index word ≡ Entry i
+  unfolding lookupOf
+  lookup-found i e f = rw (e, f)
+
+  pub lookup-missing : checkOf index ≡ Good → first (λ j. same (wordOf index j) word) (wordCount index) ≡ Nowhere → lookupOf index word ≡ NoEntry Missing
+  unfolding lookupOf
+  lookup-missing e f = rw (e, f)
+
+-- ---- an entry number
+
+module _ (index : List ℕ) (i : ℕ) where
+  pub entry-refused : (r : Refusal) → checkOf index ≡ Refused r → entryOf index i ≡ Refused r
+  unfolding entryOf
+  entry-refused r e = rw e
+
+  pub entry-within : checkOf index ≡ Good → i < wordCount index → entryOf index i ≡ Good
+  unfolding entryOf
+  entry-within e h = rw (e, lt-ltb i (wordCount index) h)
+
+  pub entry-past : checkOf index ≡ Good → wordCount index ≤ i → entryOf index i ≡ Refused (EntryNumber 0)
+  unfolding entryOf
+  entry-past e h = rw (e, le-ltb i (wordCount index) h)
+
+after-good : (k : Checked) (below : Bool) → entryAfter k below ≡ Good → (k ≡ Good) × (below ≡ true)
+after-good (Refused r) below e = not-good r e
+after-good Good true e = (refl, refl)
+after-good Good false e = not-good (EntryNumber 0) e
+
+-- an entry that is not refused is one of a sound index
+pub entry-good : (index : List ℕ) (i : ℕ) → entryOf index i ≡ Good → Sound index × (i < wordCount index)
+unfolding entryOf
+entry-good index i e =
+    let w = after-good (checkOf index) (ltb i (wordCount index)) e in
+    (good-sound index (w .0), ltb-true i (wordCount index) (w .1))
+
+module _ (index : List ℕ) (i : ℕ) where
+  pub start-answered : entryOf index i ≡ Good → entryStart index i ≡ wordStart index i
+  unfolding entryStart
+  start-answered e = rw e
+
+  pub start-refused : (r : Refusal) → entryOf index i ≡ Refused r → entryStart index i ≡ 0
+  unfolding entryStart
+  start-refused r e = rw e
+
+  pub length-answered : entryOf index i ≡ Good → entryLength index i ≡ wordLength index i
+  unfolding entryLength
+  length-answered e = rw e
+
+  pub length-refused : (r : Refusal) → entryOf index i ≡ Refused r → entryLength index i ≡ 0
+  unfolding entryLength
+  length-refused r e = rw e
+
+-- ---- a probe
+
+module _ (index : List ℕ) (i a b : ℕ) where
+  pub probe-refused : (r : Refusal) → entryOf index i ≡ Refused r → probeOf index i a b ≡ NoCount r
+  unfolding probeOf
+  probe-refused r e = rw e
+
+  pub probe-answered : entryOf index i ≡ Good → probeOf index i a b ≡ rangeAnswer (badRange a b) (belowCount a (listOf index i)) (overlapCount a b (listOf index i))
+  unfolding probeOf
+  probe-answered e = rw e
+
+-- each list of a sound index is kept within the largest record
+pub list-kept : (index : List ℕ) → Sound index → (i : ℕ) → i < wordCount index → KeptIn top (singlesOf index i) (lowerOf index i) (upperOf index i)
+list-kept index s i h =
+    kept-weaker (highest index) top (numbersIn (singlesOf index i)) (numbersIn (lowerOf index i)) (numbersIn (upperOf index i))
+    (sound-trailer index s .highest-bound) (sound-list index s i h)
+
+pub range-good : (a b : ℕ) → badRange a b ≡ false → (a ≤ b) × (b ≤ top)
+unfolding badRange
+range-good a b e =
+    let p = or-neither (eqb a 0 || ltb b a) (ltb top b) e in
+    let q = or-neither (eqb a 0) (ltb b a) (p .0) in
+    (ltb-false b a (q .1), ltb-false top b (p .1))
+
+pub range-refused : (a b below overlapping : ℕ) → badRange a b ≡ true → NoCount ProbeRange ≡ rangeAnswer (badRange a b) below overlapping
+range-refused a b below overlapping e = rw e
+
+pub range-counted : (a b below overlapping : ℕ) (r : Probe) → badRange a b ≡ false → r .below ≡ below → r .overlapping ≡ overlapping →
+    Counted r ≡ rangeAnswer (badRange a b) below overlapping
+range-counted a b below overlapping r e p q = rw (e, ← p, ← q)

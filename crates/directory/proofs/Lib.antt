@@ -1,0 +1,3 @@
+pub mod HasLaws
+pub mod AnswerLaws
+pub mod EntryIntervals

@@ -1,0 +1,50 @@
+-- What the other call answers decides: the entry's word, or an empty part.
+use mathlib.Core.Path.{sym, _∙_}
+use Rattle.index.specs.Part.{sliceOf}
+use Rattle.index.proofs.SoundLaws.{slice-none}
+use Rattle.directory.proofs.AnswerLaws.{entry-good, start-answered, start-refused, length-answered, length-refused}
+use Rattle.directory.proofs.entry.entry_word.Statement.{statement}
+use Rattle.directory.proofs.entry.entry_word.Tie as tie
+use borrow.Author.Needs.{needs}
+
+entry-refusal-requires : tie.Need-entry-refusal-requires
+entry-refusal-requires c κs = search needs
+
+enum-told : tie.Need-enum-told
+enum-told c = search needs
+
+word-of-requires : tie.Need-word-of-requires
+word-of-requires c κs =
+    let a = c .before .before .before .before .args in
+    entry-good (a .index .now) (a .entry) (sym (c .before .before .entry-refusal .ensures) ∙ c .enum-told .given .1)
+
+enum-told-2 : tie.Need-enum-told-2
+enum-told-2 c = search needs
+
+slice-aggregate-result : tie.Need-slice-aggregate-result
+slice-aggregate-result c = search needs
+
+returns : tie.Need-returns
+returns c =
+    let a = c .before .before .before .before .before .args in
+    let good = sym (c .before .before .before .entry-refusal .ensures) ∙ c .before .enum-told .given .1 in
+    rw (start-answered (a .index .now) (a .entry) good, length-answered (a .index .now) (a .entry) good) (c .word-of .ensures)
+
+returns-2 : tie.Need-returns-2
+returns-2 c =
+    let a = c .before .before .before .before .before .args in
+    let r = c .before .enum-told2 .given .0 .0 in
+    let bad = sym (c .before .before .before .entry-refusal .ensures) ∙ c .before .enum-told2 .given .1 in
+    slice-none (sliceOf (a .index)) _ _ (start-refused (a .index .now) (a .entry) r bad) (length-refused (a .index .now) (a .entry) r bad)
+
+pub entry-word-spec : {M : Type 1} → statement M
+entry-word-spec =
+    tie.close
+    (tie.spec
+    entry-refusal-requires
+    enum-told
+    word-of-requires
+    enum-told-2
+    slice-aggregate-result
+    returns
+    returns-2)

@@ -1,0 +1,33 @@
+-- A list has an interval for each single and for each pair.
+use mathlib.Core.Path.{ap}
+use native.Mathlib.Omega.{arith}
+use denote.Ref.{now}
+use lib.ListN.{length}
+use borrow.Author.Needs.{needs}
+use Rattle.directory.proofs.EntryIntervals.{entry-intervals, entry-few}
+use Rattle.directory.proofs.parts.interval_count.Statement.{statement}
+use Rattle.directory.proofs.parts.interval_count.Tie as tie
+
+singles-of-requires : tie.Need-singles-of-requires
+singles-of-requires c κs = search needs
+
+lower-of-requires : tie.Need-lower-of-requires
+lower-of-requires c κs = search needs
+
+add-result : tie.Need-add-result
+add-result c = search needs
+
+returns : tie.Need-returns
+returns c =
+    let start = c .before .before .before in
+    let index = now (start .args .index) in
+    let i = start .args .i in
+    let pre = start .pre in
+    let s = ap length (c .before .singles-of .ensures) in
+    let l = ap length (c .lower-of .ensures) in
+    let e = entry-intervals index (pre .0) i (pre .1) in
+    let f = entry-few index (pre .0) i (pre .1) in
+    (omega arith, omega arith)
+
+pub interval-count-spec : {M : Type 1} → statement M
+interval-count-spec = tie.close (tie.spec singles-of-requires lower-of-requires add-result returns)

@@ -1,0 +1,73 @@
+-- The calls that read one entry: each checks the index first, then asks what it is asked. Reference 8.2 to 8.4.
+use Prim.Native.Nat.{ℕ}
+use mathlib.Core.Bool.{Bool, cond, _||_}
+use mathlib.Core.List.{List}
+use lib.Dec.{eqb, ltb}
+use Rattle.refusal.specs.declared.Found.{Found}
+use Rattle.refusal.specs.declared.Found.the-variants.{At, Nowhere}
+use Rattle.refusal.specs.declared.Refusal.the-variants.{EntryNumber, ProbeRange, Missing}
+use Rattle.refusal.specs.First.{first}
+use Rattle.word.specs.Word.{same}
+use Rattle.list.specs.Interval.{top}
+use Rattle.list.specs.Ginix.{belowCount, overlapCount}
+use Rattle.index.specs.declared.Checked.{Checked}
+use Rattle.index.specs.declared.Checked.the-variants.{Good, Refused}
+use Rattle.index.specs.Format.{wordCount, wordStart, wordLength, wordOf, listOf}
+use Rattle.index.specs.Part.{Slice, partOf}
+use Rattle.index.specs.Check.{checkOf}
+use Rattle.directory.specs.declared.Lookup.{Lookup}
+use Rattle.directory.specs.declared.Lookup.the-variants.{Entry, NoEntry}
+use Rattle.directory.specs.declared.Probed.{Probed}
+use Rattle.directory.specs.declared.Probed.the-variants.{Counted, NoCount}
+
+-- Reference 8.2: the entry, or 21 behind the check
+abbrev pub foundAnswer : Found → Lookup
+foundAnswer (At i) = Entry i
+foundAnswer Nowhere = NoEntry Missing
+
+abbrev pub lookupAfter : Checked → Found → Lookup
+lookupAfter (Refused r) found = NoEntry r
+lookupAfter Good found = foundAnswer found
+
+-- Reference 8.2: the whole lookup
+unfoldable pub lookupOf : List ℕ → List ℕ → Lookup
+lookupOf index word = lookupAfter (checkOf index) (first (λ i. same (wordOf index i) word) (wordCount index))
+
+-- Reference 9.1, row 14: a call of one entry has no place to tell
+abbrev pub entryAfter : Checked → Bool → Checked
+entryAfter (Refused r) below = Refused r
+entryAfter Good below = cond below Good (Refused (EntryNumber 0))
+
+-- Reference 8.3: the refusal or none
+unfoldable pub entryOf : List ℕ → ℕ → Checked
+entryOf index i = entryAfter (checkOf index) (ltb i (wordCount index))
+
+-- Reference 8.3: where the part starts and how long it is; both 0 where the call is refused
+abbrev pub numberAfter : Checked → ℕ → ℕ
+numberAfter Good n = n
+numberAfter (Refused r) n = 0
+
+unfoldable pub entryStart : List ℕ → ℕ → ℕ
+entryStart index i = numberAfter (entryOf index i) (wordStart index i)
+
+unfoldable pub entryLength : List ℕ → ℕ → ℕ
+entryLength index i = numberAfter (entryOf index i) (wordLength index i)
+
+-- Reference 8.3: the part itself, of the index's own memory
+abbrev pub entryWord : Slice → ℕ → Slice
+entryWord index i = partOf (entryStart (index .bytes) i) (entryLength (index .bytes) i) index
+
+-- Reference 9.1, row 20
+unfoldable pub badRange : ℕ → ℕ → Bool
+badRange a b = eqb a 0 || ltb b a || ltb top b
+
+abbrev pub rangeAnswer : Bool → ℕ → ℕ → Probed
+rangeAnswer bad below overlapping = cond bad (NoCount ProbeRange) (Counted (record { below = below; overlapping = overlapping }))
+
+abbrev pub probeAfter : Checked → Probed → Probed
+probeAfter (Refused r) counted = NoCount r
+probeAfter Good counted = counted
+
+-- Reference 8.4: 14, then 20, then the two counts
+unfoldable pub probeOf : List ℕ → ℕ → ℕ → ℕ → Probed
+probeOf index i a b = probeAfter (entryOf index i) (rangeAnswer (badRange a b) (belowCount a (listOf index i)) (overlapCount a b (listOf index i)))

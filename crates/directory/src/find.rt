@@ -1,0 +1,81 @@
+// Looking a word up in the directory.
+ghost use mathlib.Core.Path.{_≡_};
+ghost use Prim.Native.Nat.{_<_};
+ghost use Rattle.refusal.specs.First.{first};
+ghost use Rattle.word.specs.Word.{same, before, orderOf};
+ghost use Rattle.index.specs.Format.{wordCount, wordOf};
+ghost use Rattle.index.specs.Sound.{Sound};
+ghost use Rattle.directory.specs.Has.{placeOf};
+ghost use Rattle.directory.specs.Entry.{lookupOf};
+use crate::Lookup;
+use index::Checked;
+use index::trailer::word_count;
+use refusal::Found;
+use refusal::Refusal;
+use word::Order;
+
+// How the word of entry i stands to a word.
+fn order_at(index: &[u8], i: usize, word: &[u8]) -> Order
+    requires { ⌜ Sound (now index) × (i < wordCount (now index)) ⌝ }
+    ensures { λ r. ⌜ r ≡ orderOf (wordOf (now (index .entry)) i) (now (word .entry)) ⌝ }
+{
+    word::compare(crate::parts::word_of(index, i), word)
+}
+
+fn stands_before(index: &[u8], i: usize, word: &[u8]) -> bool
+    requires { ⌜ Sound (now index) × (i < wordCount (now index)) ⌝ }
+    ensures { λ r. ⌜ r ≡ before (wordOf (now (index .entry)) i) (now (word .entry)) ⌝ }
+{
+    match order_at(index, i, word) {
+        Order::Before => true,
+        Order::Same => false,
+        Order::Behind => false,
+    }
+}
+
+// The entry number at which the word stands or would stand: the directory is halved.
+pub fn find_place(index: &[u8], word: &[u8]) -> usize
+    requires { ⌜ Sound (now index) ⌝ }
+    ensures { λ r. ⌜ r ≡ placeOf (now (index .entry)) (now (word .entry)) ⌝ }
+{
+    let mut low = 0;
+    let mut high = word_count(index);
+    while low < high {
+        let middle = low + (high - low) / 2;
+        if stands_before(index, middle, word) {
+            low = middle + 1;
+        } else {
+            high = middle;
+        }
+    }
+    low
+}
+
+// The entry whose word it is, if there is one: it stands at its place or nowhere.
+pub fn find_word(index: &[u8], word: &[u8]) -> Found
+    requires { ⌜ Sound (now index) ⌝ }
+    ensures { λ r. ⌜ r ≡ first (λ i. same (wordOf (now (index .entry)) i) (now (word .entry))) (wordCount (now (index .entry))) ⌝ }
+{
+    let place = find_place(index, word);
+    if place >= word_count(index) {
+        return Found::Nowhere;
+    }
+    match order_at(index, place, word) {
+        Order::Same => Found::At(place),
+        Order::Before => Found::Nowhere,
+        Order::Behind => Found::Nowhere,
+    }
+}
+
+// Reference 8.2: the entry number of a word, which may be any bytes, or the first refusal that holds.
+pub fn look_up(index: &[u8], word: &[u8]) -> Lookup
+    ensures { λ r. ⌜ r ≡ lookupOf (now (index .entry)) (now (word .entry)) ⌝ }
+{
+    match index::check::check_index(index) {
+        Checked::Refused(refusal) => Lookup::NoEntry(refusal),
+        Checked::Good => match find_word(index, word) {
+            Found::At(i) => Lookup::Entry(i),
+            Found::Nowhere => Lookup::NoEntry(Refusal::Missing),
+        },
+    }
+}

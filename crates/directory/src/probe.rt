@@ -1,0 +1,58 @@
+// Probing the list of one entry.
+ghost use mathlib.Core.Path.{_≡_};
+ghost use Prim.Native.Nat.{_≤_, _<_};
+ghost use Rattle.list.specs.Interval.{top};
+ghost use Rattle.list.specs.Ginix.{belowCount, overlapCount};
+ghost use Rattle.index.specs.Format.{wordCount, listOf};
+ghost use Rattle.index.specs.Sound.{Sound};
+ghost use Rattle.directory.specs.Entry.{badRange, rangeAnswer, probeOf};
+use crate::Probed;
+use crate::parts::lower_of;
+use crate::parts::singles_of;
+use crate::parts::upper_of;
+use index::Checked;
+use list::probe::Probe;
+use list::probe::probe_list;
+use refusal::Refusal;
+
+// Whether the range is none to probe: it begins at 0, is turned round, or ends past the last record.
+fn bad_range(a: u32, b: u32) -> bool
+    ensures { λ r. ⌜ r ≡ badRange a b ⌝ }
+{
+    (a == 0) | (b < a) | (16777215 < b)
+}
+
+// Probes an entry's list by its regions, which are slices of the index.
+fn probe_parts(index: &[u8], i: usize, a: u32, b: u32) -> Probe
+    requires { ⌜ Sound (now index) × (i < wordCount (now index)) × (a ≤ b) × (b ≤ top) ⌝ }
+    ensures { λ r. ⌜ (r .below ≡ belowCount a (listOf (now (index .entry)) i)) × (r .overlapping ≡ overlapCount a b (listOf (now (index .entry)) i)) ⌝ }
+{
+    probe_list(
+        singles_of(index, i),
+        lower_of(index, i),
+        upper_of(index, i),
+        a,
+        b,
+    )
+}
+
+// The probe of an entry that a sound index has.
+fn probe_sound(index: &[u8], i: usize, a: u32, b: u32) -> Probed
+    requires { ⌜ Sound (now index) × (i < wordCount (now index)) ⌝ }
+    ensures { λ r. ⌜ r ≡ rangeAnswer (badRange a b) (belowCount a (listOf (now (index .entry)) i)) (overlapCount a b (listOf (now (index .entry)) i)) ⌝ }
+{
+    if bad_range(a, b) {
+        return Probed::NoCount(Refusal::ProbeRange);
+    }
+    Probed::Counted(probe_parts(index, i, a, b))
+}
+
+// Reference 8.4: the two counts, or the first refusal that holds.
+pub fn probe_entry(index: &[u8], entry: u32, a: u32, b: u32) -> Probed
+    ensures { λ r. ⌜ r ≡ probeOf (now (index .entry)) entry a b ⌝ }
+{
+    match crate::entry::entry_refusal(index, entry) {
+        Checked::Refused(refusal) => Probed::NoCount(refusal),
+        Checked::Good => probe_sound(index, entry as usize, a, b),
+    }
+}

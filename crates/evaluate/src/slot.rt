@@ -1,0 +1,33 @@
+// The list of a slot's word filled into a window.
+ghost use mathlib.Core.Path.{_≡_};
+ghost use Prim.Native.Nat.{_≤_, _<_};
+ghost use lib.ListN.{length};
+ghost use Rattle.slots.specs.Slots.{slotHas, ReadBy};
+ghost use Rattle.fill.specs.Added.{Added};
+use fill::fill_list;
+use list::hints::hint_of;
+use list::hints::keep_hint;
+
+// Sets the bits of the records that have the word of slot k, and moves its hint on.
+pub fn fill_slot(
+    index: &[u8],
+    entries: &[usize],
+    k: usize,
+    base: u32,
+    hints: &mut [usize],
+    ws: &mut [u64],
+)
+    requires { ⌜ ReadBy (now index) (now entries) (now hints) × (k < 16) × (length (now ws) ≤ 128) × (base ≤ 16777216) ⌝ }
+    ensures keeps { λ _. ⌜ length (now (hints .exit)) ≡ length (now (hints .entry)) ⌝ }
+    ensures adds { λ _. ⌜ Added (slotHas (now (index .entry)) (now (entries .entry)) k) base (now (ws .entry)) (now (ws .exit)) ⌝ }
+{
+    let entry = entries[k];
+    if entry < index::trailer::word_count(index) {
+        let singles = directory::parts::singles_of(index, entry);
+        let lower = directory::parts::lower_of(index, entry);
+        let upper = directory::parts::upper_of(index, entry);
+        let at = list::reading::place_of(singles, upper, hint_of(hints, k), base);
+        let next = fill_list(singles, lower, upper, at, base, ws);
+        keep_hint(hints, k, next);
+    }
+}

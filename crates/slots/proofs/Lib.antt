@@ -1,0 +1,4 @@
+pub mod SlotLaws
+pub mod FindLaws
+pub mod WholeLaws
+pub mod SlotBound

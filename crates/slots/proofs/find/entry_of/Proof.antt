@@ -1,0 +1,33 @@
+-- The entry that a search finds has what the index has of the word; without one the index has nothing of it.
+use Rattle.slots.proofs.FindLaws.{entry-at, entry-nowhere}
+use Rattle.slots.proofs.find.entry_of.Statement.{statement}
+use Rattle.slots.proofs.find.entry_of.Tie as tie
+use mathlib.Core.Path.{sym, _∙_}
+use borrow.Author.Needs.{needs}
+
+find-word-requires : tie.Need-find-word-requires
+find-word-requires c κs = search needs
+
+enum-known-i : tie.Need-enum-known-i
+enum-known-i c = search needs
+
+enum-told : tie.Need-enum-told
+enum-told c = search needs
+
+word-count-requires : tie.Need-word-count-requires
+word-count-requires c κs = search needs
+
+returns : tie.Need-returns
+returns c =
+    let start = c .before .before .before .before .before .before in
+    entry-at (start .args .index .now) (start .pre) (start .args .word .now) (c .before .i .given .0 .0) (sym (c .before .before .before .find-word .ensures) ∙ c .before .i .given .1)
+
+returns-2 : tie.Need-returns-2
+returns-2 c =
+    let start = c .before .before .before .before .before .before in
+    entry-nowhere (start .args .index .now) (start .pre) (start .args .word .now) (c .word-count .result) (sym (c .before .before .before .find-word .ensures) ∙ c .before .enum-told .given .1) (c .word-count .ensures .0)
+
+pub entry-of-spec : {M : Type 1} → statement M
+entry-of-spec =
+    tie.close
+    (tie.spec find-word-requires enum-known-i enum-told word-count-requires returns returns-2)

@@ -1,0 +1,34 @@
+-- The words of an accepted question found in an index: an entry number for each, in its slot.
+use Prim.Native.Nat.{ℕ, _≤_, _<_}
+use mathlib.Core.Path.{_≡_}
+use mathlib.Core.Bool.{Bool, false, cond}
+use mathlib.Core.List.{List, []}
+use lib.Dec.{ltb}
+use lib.ListN.{length, getD}
+use Rattle.list.specs.Interval.{names}
+use Rattle.index.specs.Format.{wordCount, listOf}
+use Rattle.directory.specs.Has.{has}
+use Rattle.question.specs.Grammar.{Tree, fromLeft, wordsOf}
+use Rattle.question.specs.Reading.{asks, asked}
+use Rattle.slots.specs.Slots.{slotHas}
+
+-- the question is accepted
+pub record IsAsked (question : List ℕ) : Type 0 where
+  pub tree : Tree
+  pub words : ℕ
+  pub is : asked fromLeft question ≡ asks tree words
+
+-- an entry number stands for a word: it has the word's records, and one that is no entry's has none
+abbrev pub entryHas : List ℕ → ℕ → ℕ → Bool
+entryHas index e x = cond (ltb e (wordCount index)) (names (listOf index e) x) false
+
+abbrev pub EntryOf : List ℕ → List ℕ → ℕ → Type 0
+EntryOf index word e = (x : ℕ) → entryHas index e x ≡ has index word x
+
+-- each of the n slots has what the index has of its word
+pub record Slots (index question entries entries′ : List ℕ) (n : ℕ) : Type 0 where
+  pub long : length entries′ ≡ length entries
+  pub few : n ≤ 16
+  pub count : (t : Tree) (k : ℕ) → asked fromLeft question ≡ asks t k → (n ≡ k) × (n ≡ length (wordsOf t))
+  pub have : (t : Tree) (k : ℕ) → asked fromLeft question ≡ asks t k →
+      (i : ℕ) → i < n → (x : ℕ) → slotHas index entries′ i x ≡ has index (getD (wordsOf t) i []) x

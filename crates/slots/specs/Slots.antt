@@ -1,0 +1,28 @@
+-- Each word of a question has a slot, its place in reading order; a slot keeps the word's entry number.
+use Prim.Native.Nat.{ℕ, _+_}
+use mathlib.Core.Path.{_≡_}
+use mathlib.Core.Bool.{Bool, false, cond}
+use mathlib.Core.List.{List}
+use lib.Dec.{ltb}
+use lib.ListN.{length, getD}
+use Rattle.list.specs.Interval.{names}
+use Rattle.index.specs.Format.{wordCount, listOf}
+use Rattle.index.specs.Sound.{Sound}
+use Rattle.question.specs.Grammar.{Tree, word, pair, part, wordsOf}
+use Rattle.question.specs.Meaning.{combine}
+
+-- whether the word of slot k stands in record x: an entry number that is no entry's has none
+unfoldable pub slotHas : List ℕ → List ℕ → ℕ → ℕ → Bool
+slotHas index entries k x = cond (ltb (getD entries k 0) (wordCount index)) (names (listOf index (getD entries k 0)) x) false
+
+-- what slots are read by: a sound index, the entries of 16 slots, and a hint of two numbers for each
+pub record ReadBy (index entries hints : List ℕ) : Type 0 where
+  pub sound : Sound index
+  pub entries-long : length entries ≡ 16
+  pub hints-long : length hints ≡ 32
+
+-- whether record x fits a tree whose first word has slot k, by what each slot has
+unfoldable pub slotFits : (ℕ → ℕ → Bool) → Tree → ℕ → ℕ → Bool
+slotFits v (word w) k x = v k x
+slotFits v (pair o a b) k x = combine o (slotFits v a k x) (slotFits v b (k + length (wordsOf a)) x)
+slotFits v (part t) k x = slotFits v t k x
