@@ -17,49 +17,19 @@ abbrev μ-loop : tie.MeasureT-loop
 loop-holds : tie.Need-loop-holds Inv-loop μ-loop
 loop-holds c = (omega arith, omega arith, refl, refl)
 
-line-end-requires : tie.Need-line-end-requires Inv-loop μ-loop
-line-end-requires c κs = search needs
-
-sub-write-answer : tie.Need-sub-write-answer Inv-loop μ-loop
-sub-write-answer c = search needs
-
-part-write-answer-start : tie.Need-part-write-answer-start Inv-loop μ-loop
-part-write-answer-start c = search needs
-
-part-write-answer-end : tie.Need-part-write-answer-end Inv-loop μ-loop
-part-write-answer-end c = search needs
-
 write-answer-requires : tie.Need-write-answer-requires Inv-loop μ-loop
 write-answer-requires c κs =
     let turn = c .before .before .before .before .before in
     (turn .before .before .before .before .before .pre .0, omega arith, omega arith)
 
-slice-reshare-prefix-write-whole : tie.Need-slice-reshare-prefix-write-whole Inv-loop μ-loop
-slice-reshare-prefix-write-whole c = search needs
-
 slice-aggregate-write-whole : tie.Need-slice-aggregate-write-whole Inv-loop μ-loop
 slice-aggregate-write-whole c = c .before .before .before .before .before .write-answer .ensures .1 .1
-
-write-whole-requires : tie.Need-write-whole-requires Inv-loop μ-loop
-write-whole-requires c κs = search needs
 
 same-length : tie.Need-same-length Inv-loop μ-loop
 same-length c = omega arith
 
 same-length-2 : tie.Need-same-length-2 Inv-loop μ-loop
 same-length-2 c = omega arith
-
-returns : tie.Need-returns Inv-loop μ-loop
-returns c = search needs
-
-add-number : tie.Need-add-number Inv-loop μ-loop
-add-number c = search needs
-
-add-from : tie.Need-add-from Inv-loop μ-loop
-add-from c = search needs
-
-loop-less : tie.Need-loop-less Inv-loop μ-loop
-loop-less c = search needs
 
 loop-again : tie.Need-loop-again Inv-loop μ-loop
 loop-again c = (omega arith, omega arith, omega arith, omega arith)
@@ -70,31 +40,11 @@ same-length-3 c = c .before .loop .inv .2
 same-length-4 : tie.Need-same-length-4 Inv-loop μ-loop
 same-length-4 c = c .before .loop .inv .3
 
-returns-2 : tie.Need-returns-2 Inv-loop μ-loop
-returns-2 c = search needs
-
 pub answer-lines-spec : {M : Type 1} → statement M
 answer-lines-spec =
     tie.close
     (tie.spec
-    Inv-loop
-    μ-loop
-    loop-holds
-    line-end-requires
-    sub-write-answer
-    part-write-answer-start
-    part-write-answer-end
-    write-answer-requires
-    slice-reshare-prefix-write-whole
-    slice-aggregate-write-whole
-    write-whole-requires
-    same-length
-    same-length-2
-    returns
-    add-number
-    add-from
-    loop-less
-    loop-again
-    same-length-3
-    same-length-4
-    returns-2)
+    Inv-loop μ-loop loop-holds (λ c κs. search needs) (λ c. search needs) (λ c. search needs) (λ c. search needs)
+    write-answer-requires (λ c. search needs) slice-aggregate-write-whole (λ c κs. search needs) same-length
+    same-length-2 (λ c. search needs) (λ c. search needs) (λ c. search needs) (λ c. search needs) loop-again
+    same-length-3 same-length-4 (λ c. search needs))

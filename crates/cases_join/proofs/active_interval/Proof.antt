@@ -6,19 +6,10 @@ use borrow.Author.Needs.{needs}
 use Rattle.cases_join.proofs.active_interval.Statement.{statement}
 use Rattle.cases_join.proofs.active_interval.Tie as tie
 
-array-borrow-prefix-cells : tie.Need-array-borrow-prefix-cells
-array-borrow-prefix-cells c = search needs
-
 slice-aggregate-union-active-interval : tie.Need-slice-aggregate-union-active-interval
 slice-aggregate-union-active-interval c =
     let start = c .before .before .before in
     sym (length-take-le (start .args .room) (replicate 8 7) (start .pre))
-
-union-active-interval-requires : tie.Need-union-active-interval-requires
-union-active-interval-requires c κs = search needs
-
-slice-aggregate-print-outcome : tie.Need-slice-aggregate-print-outcome
-slice-aggregate-print-outcome c = search needs
 
 slice-aggregate-print-outcome-2 : tie.Need-slice-aggregate-print-outcome-2
 slice-aggregate-print-outcome-2 c =
@@ -26,20 +17,9 @@ slice-aggregate-print-outcome-2 c =
     let start = called .before .before .before .before in
     sym (length-front (replicate 8 7) (called .union-active-interval .last .1 .1 .0) (start .args .room) (called .union-active-interval .kept .1 .1 .0))
 
-print-outcome-requires : tie.Need-print-outcome-requires
-print-outcome-requires c κs = search needs
-
-returns : tie.Need-returns
-returns c = search needs
-
 pub active-interval-spec : {M : Type 1} → statement M
 active-interval-spec =
     tie.close
     (tie.spec
-    array-borrow-prefix-cells
-    slice-aggregate-union-active-interval
-    union-active-interval-requires
-    slice-aggregate-print-outcome
-    slice-aggregate-print-outcome-2
-    print-outcome-requires
-    returns)
+    (λ c. search needs) slice-aggregate-union-active-interval (λ c κs. search needs) (λ c. search needs)
+    slice-aggregate-print-outcome-2 (λ c κs. search needs) (λ c. search needs))

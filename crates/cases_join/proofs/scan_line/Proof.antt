@@ -6,19 +6,10 @@ use borrow.Author.Needs.{needs}
 use Rattle.cases_join.proofs.scan_line.Statement.{statement}
 use Rattle.cases_join.proofs.scan_line.Tie as tie
 
-array-borrow-prefix-cells : tie.Need-array-borrow-prefix-cells
-array-borrow-prefix-cells c = search needs
-
 slice-aggregate-union-scan-line : tie.Need-slice-aggregate-union-scan-line
 slice-aggregate-union-scan-line c =
     let start = c .before .before .before in
     sym (length-take-le (start .args .room) (replicate 8 7) (start .pre))
-
-union-scan-line-requires : tie.Need-union-scan-line-requires
-union-scan-line-requires c κs = search needs
-
-slice-aggregate-print-outcome : tie.Need-slice-aggregate-print-outcome
-slice-aggregate-print-outcome c = search needs
 
 slice-aggregate-print-outcome-2 : tie.Need-slice-aggregate-print-outcome-2
 slice-aggregate-print-outcome-2 c =
@@ -26,20 +17,9 @@ slice-aggregate-print-outcome-2 c =
     let start = called .before .before .before .before in
     sym (length-front (replicate 8 7) (called .union-scan-line .last .1 .1 .0) (start .args .room) (called .union-scan-line .kept .1 .1 .0))
 
-print-outcome-requires : tie.Need-print-outcome-requires
-print-outcome-requires c κs = search needs
-
-returns : tie.Need-returns
-returns c = search needs
-
 pub scan-line-spec : {M : Type 1} → statement M
 scan-line-spec =
     tie.close
     (tie.spec
-    array-borrow-prefix-cells
-    slice-aggregate-union-scan-line
-    union-scan-line-requires
-    slice-aggregate-print-outcome
-    slice-aggregate-print-outcome-2
-    print-outcome-requires
-    returns)
+    (λ c. search needs) slice-aggregate-union-scan-line (λ c κs. search needs) (λ c. search needs)
+    slice-aggregate-print-outcome-2 (λ c κs. search needs) (λ c. search needs))

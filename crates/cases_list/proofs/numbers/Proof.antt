@@ -10,22 +10,10 @@ use Rattle.cases_list.proofs.numbers.Tie as tie
 abbrev sevens : List ℕ
 sevens = 7 ∷ 7 ∷ 7 ∷ 7 ∷ 7 ∷ 7 ∷ 7 ∷ 7 ∷ []
 
-array-borrow-prefix-cells : tie.Need-array-borrow-prefix-cells
-array-borrow-prefix-cells c = search needs
-
 slice-aggregate-to-intervals : tie.Need-slice-aggregate-to-intervals
 slice-aggregate-to-intervals c =
     let start = c .before .before in
     sym (length-take-le (start .args .room) sevens (start .pre))
-
-to-intervals-requires : tie.Need-to-intervals-requires
-to-intervals-requires c κs = search needs
-
-slice-aggregate-print-lent : tie.Need-slice-aggregate-print-lent
-slice-aggregate-print-lent c = search needs
-
-print-lent-requires : tie.Need-print-lent-requires
-print-lent-requires c κs = search needs
 
 slice-aggregate-print-outcome : tie.Need-slice-aggregate-print-outcome
 slice-aggregate-print-outcome c =
@@ -33,21 +21,9 @@ slice-aggregate-print-outcome c =
     let start = called .before .before .before in
     sym (length-front sevens (called .to-intervals .last .1 .0) (start .args .room) (called .to-intervals .kept .1 .0))
 
-print-outcome-requires : tie.Need-print-outcome-requires
-print-outcome-requires c κs = search needs
-
-returns : tie.Need-returns
-returns c = search needs
-
 pub numbers-spec : {M : Type 1} → statement M
 numbers-spec =
     tie.close
     (tie.spec
-    array-borrow-prefix-cells
-    slice-aggregate-to-intervals
-    to-intervals-requires
-    slice-aggregate-print-lent
-    print-lent-requires
-    slice-aggregate-print-outcome
-    print-outcome-requires
-    returns)
+    (λ c. search needs) slice-aggregate-to-intervals (λ c κs. search needs) (λ c. search needs) (λ c κs. search needs)
+    slice-aggregate-print-outcome (λ c κs. search needs) (λ c. search needs))

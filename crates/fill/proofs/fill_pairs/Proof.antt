@@ -147,26 +147,8 @@ pub fill-pairs-spec : {M : Type 1} → statement M
 fill-pairs-spec =
     tie.close
     (tie.spec
-    Inv-loop
-    μ-loop
-    (λ c. search needs)
-    (λ c. search needs)
-    returns
-    (λ c. search needs)
-    loop-holds
-    (λ c κs. inside c .0)
-    (λ c. c .before .before .before .before .loop .inv .2 .long)
-    returns-2
-    (λ c κs. inside (c .before .before) .1)
-    (λ c κs. search needs)
-    (λ c. search needs)
-    fill-range-requires
-    same-length-2
-    returns-3
-    (λ c. let w = ahead (c .before .before .before) in omega arith)
-    fill-range-requires-2
-    (λ c. search needs)
-    (λ c. search needs)
-    loop-again
-    (λ c. c .before .before .loop .inv .2 .long)
-    returns-4)
+    Inv-loop μ-loop (λ c. search needs) (λ c. search needs) returns (λ c. search needs) loop-holds (λ c κs. inside c .0)
+    (λ c. c .before .before .before .before .loop .inv .2 .long) returns-2 (λ c κs. inside (c .before .before) .1)
+    (λ c κs. search needs) (λ c. search needs) fill-range-requires same-length-2 returns-3
+    (λ c. let w = ahead (c .before .before .before) in omega arith) fill-range-requires-2 (λ c. search needs)
+    (λ c. search needs) loop-again (λ c. c .before .before .loop .inv .2 .long) returns-4)

@@ -91,19 +91,7 @@ pub fill-singles-spec : {M : Type 1} → statement M
 fill-singles-spec =
     tie.close
     (tie.spec
-    Inv-loop
-    μ-loop
-    (λ c. search needs)
-    (λ c. search needs)
-    (λ c. search needs)
-    loop-holds
-    number-at-requires
-    (λ c. c .before .before .before .before .loop .inv .2 .long)
-    returns
-    (λ c. let w = ahead (c .before .before) in omega arith)
-    set-bit-requires
-    (λ c. search needs)
-    (λ c. search needs)
-    loop-again
-    (λ c. c .before .before .loop .inv .2 .long)
-    returns-2)
+    Inv-loop μ-loop (λ c. search needs) (λ c. search needs) (λ c. search needs) loop-holds number-at-requires
+    (λ c. c .before .before .before .before .loop .inv .2 .long) returns
+    (λ c. let w = ahead (c .before .before) in omega arith) set-bit-requires (λ c. search needs) (λ c. search needs)
+    loop-again (λ c. c .before .before .loop .inv .2 .long) returns-2)

@@ -7,23 +7,11 @@ use borrow.Author.Needs.{needs}
 use Rattle.heap.proofs.drop_least.Statement.{statement}
 use Rattle.heap.proofs.drop_least.Tie as tie
 
-sub-left : tie.Need-sub-left
-sub-left c = search needs
-
-mul-last : tie.Need-mul-last
-mul-last c = search needs
-
-slice-read-last : tie.Need-slice-read-last
-slice-read-last c = search needs
-
 replace-least-requires : tie.Need-replace-least-requires
 replace-least-requires c κs =
     let at = c .before .before .before .before in
     let a = at .args in
     (search needs, search needs, heap-fewer (a .size - 1) (a .size) (now (a .heap)) (omega arith) (at .pre .1) (at .pre .2))
-
-same-length : tie.Need-same-length
-same-length c = search needs
 
 returns : tie.Need-returns
 returns c =
@@ -41,10 +29,5 @@ pub drop-least-spec : {M : Type 1} → statement M
 drop-least-spec =
     tie.close
     (tie.spec
-    sub-left
-    mul-last
-    slice-read-last
-    replace-least-requires
-    same-length
-    returns
+    (λ c. search needs) (λ c. search needs) (λ c. search needs) replace-least-requires (λ c. search needs) returns
     returns-2)

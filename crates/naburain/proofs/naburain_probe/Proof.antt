@@ -5,14 +5,8 @@ use borrow.Author.Needs.{needs}
 use Rattle.naburain.proofs.naburain_probe.Statement.{statement}
 use Rattle.naburain.proofs.naburain_probe.Tie as tie
 
-probe-entry-requires : tie.Need-probe-entry-requires
-probe-entry-requires c κs = search needs
-
-probe-result-requires : tie.Need-probe-result-requires
-probe-result-requires c κs = search needs
-
 returns : tie.Need-returns
 returns c = c .probe-result .ensures ∙ ap probeResult (c .before .probe-entry .ensures)
 
 pub naburain-probe-spec : {M : Type 1} → statement M
-naburain-probe-spec = tie.close (tie.spec probe-entry-requires probe-result-requires returns)
+naburain-probe-spec = tie.close (tie.spec (λ c κs. search needs) (λ c κs. search needs) returns)

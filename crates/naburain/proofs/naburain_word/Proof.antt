@@ -6,26 +6,11 @@ use borrow.Author.Needs.{needs}
 use Rattle.naburain.proofs.naburain_word.Statement.{statement}
 use Rattle.naburain.proofs.naburain_word.Tie as tie
 
-entry-refusal-requires : tie.Need-entry-refusal-requires
-entry-refusal-requires c κs = search needs
-
-enum-told : tie.Need-enum-told
-enum-told c = search needs
-
 sound-entry-requires : tie.Need-sound-entry-requires
 sound-entry-requires c κs =
     let asked = c .before .before in
     let good = sym (asked .entry-refusal .ensures) ∙ c .enum-told .given .1 in
     entry-good (now (asked .before .before .args .index)) (asked .before .before .args .entry) good
-
-enum-known-refusal : tie.Need-enum-known-refusal
-enum-known-refusal c = search needs
-
-number-of-requires : tie.Need-number-of-requires
-number-of-requires c κs = search needs
-
-value-of-requires : tie.Need-value-of-requires
-value-of-requires c κs = search needs
 
 returns : tie.Need-returns
 returns c =
@@ -44,11 +29,5 @@ pub naburain-word-spec : {M : Type 1} → statement M
 naburain-word-spec =
     tie.close
     (tie.spec
-    entry-refusal-requires
-    enum-told
-    sound-entry-requires
-    enum-known-refusal
-    number-of-requires
-    value-of-requires
-    returns
-    returns-2)
+    (λ c κs. search needs) (λ c. search needs) sound-entry-requires (λ c. search needs) (λ c κs. search needs)
+    (λ c κs. search needs) returns returns-2)

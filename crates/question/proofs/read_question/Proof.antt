@@ -9,27 +9,6 @@ use Rattle.question.proofs.read_question.Tie as tie
 returns : tie.Need-returns
 returns c = sym (reading-length (c .before .before .args .question .now) (c .if1 .taken))
 
-first-foreign-requires : tie.Need-first-foreign-requires
-first-foreign-requires c κs = search needs
-
-enum-known-place : tie.Need-enum-known-place
-enum-known-place c = search needs
-
-enum-told : tie.Need-enum-told
-enum-told c = search needs
-
-first-long-requires : tie.Need-first-long-requires
-first-long-requires c κs = search needs
-
-enum-known-place-2 : tie.Need-enum-known-place-2
-enum-known-place-2 c = search needs
-
-enum-told-2 : tie.Need-enum-told-2
-enum-told-2 c = search needs
-
-read-whole-requires : tie.Need-read-whole-requires
-read-whole-requires c κs = search needs
-
 returns-2 : tie.Need-returns-2
 returns-2 c = sym (reading-foreign (c .before .before .before .before .before .before .args .question .now) (c .before .before .before .before .if1 .left) (c .before .place .given .0 .0) (sym (c .before .before .before .first-foreign .ensures) ∙ c .before .place .given .1))
 
@@ -43,14 +22,5 @@ pub read-question-spec : {M : Type 1} → statement M
 read-question-spec =
     tie.close
     (tie.spec
-    returns
-    first-foreign-requires
-    enum-known-place
-    enum-told
-    first-long-requires
-    enum-known-place-2
-    enum-told-2
-    read-whole-requires
-    returns-2
-    returns-3
-    returns-4)
+    returns (λ c κs. search needs) (λ c. search needs) (λ c. search needs) (λ c κs. search needs) (λ c. search needs)
+    (λ c. search needs) (λ c κs. search needs) returns-2 returns-3 returns-4)

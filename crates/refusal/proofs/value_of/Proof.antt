@@ -2,72 +2,6 @@ use borrow.Author.Needs.{needs}
 use Rattle.refusal.proofs.value_of.Statement.{statement}
 use Rattle.refusal.proofs.value_of.Tie as tie
 
-enum-known-refusal : tie.Need-enum-known-refusal
-enum-known-refusal c = search needs
-
-enum-known-refusal-2 : tie.Need-enum-known-refusal-2
-enum-known-refusal-2 c = search needs
-
-cast-result : tie.Need-cast-result
-cast-result c = search needs
-
-enum-told : tie.Need-enum-told
-enum-told c = search needs
-
-enum-known-refusal-3 : tie.Need-enum-known-refusal-3
-enum-known-refusal-3 c = search needs
-
-enum-known-refusal-4 : tie.Need-enum-known-refusal-4
-enum-known-refusal-4 c = search needs
-
-enum-known-refusal-5 : tie.Need-enum-known-refusal-5
-enum-known-refusal-5 c = search needs
-
-enum-known-refusal-6 : tie.Need-enum-known-refusal-6
-enum-known-refusal-6 c = search needs
-
-enum-known-refusal-7 : tie.Need-enum-known-refusal-7
-enum-known-refusal-7 c = search needs
-
-enum-known-refusal-8 : tie.Need-enum-known-refusal-8
-enum-known-refusal-8 c = search needs
-
-enum-known-refusal-9 : tie.Need-enum-known-refusal-9
-enum-known-refusal-9 c = search needs
-
-enum-known-refusal-10 : tie.Need-enum-known-refusal-10
-enum-known-refusal-10 c = search needs
-
-enum-known-refusal-11 : tie.Need-enum-known-refusal-11
-enum-known-refusal-11 c = search needs
-
-enum-known-refusal-12 : tie.Need-enum-known-refusal-12
-enum-known-refusal-12 c = search needs
-
-enum-known-refusal-13 : tie.Need-enum-known-refusal-13
-enum-known-refusal-13 c = search needs
-
-enum-known-refusal-14 : tie.Need-enum-known-refusal-14
-enum-known-refusal-14 c = search needs
-
-enum-known-refusal-15 : tie.Need-enum-known-refusal-15
-enum-known-refusal-15 c = search needs
-
-enum-known-refusal-16 : tie.Need-enum-known-refusal-16
-enum-known-refusal-16 c = search needs
-
-enum-known-refusal-17 : tie.Need-enum-known-refusal-17
-enum-known-refusal-17 c = search needs
-
-enum-known-refusal-18 : tie.Need-enum-known-refusal-18
-enum-known-refusal-18 c = search needs
-
-enum-told-2 : tie.Need-enum-told-2
-enum-told-2 c = search needs
-
-enum-told-3 : tie.Need-enum-told-3
-enum-told-3 c = search needs
-
 returns : tie.Need-returns
 returns c = rw (c .before .refusal .given .1)
 
@@ -135,46 +69,10 @@ pub value-of-spec : {M : Type 1} → statement M
 value-of-spec =
     tie.close
     (tie.spec
-    enum-known-refusal
-    enum-known-refusal-2
-    cast-result
-    enum-told
-    enum-known-refusal-3
-    enum-known-refusal-4
-    enum-known-refusal-5
-    enum-known-refusal-6
-    enum-known-refusal-7
-    enum-known-refusal-8
-    enum-known-refusal-9
-    enum-known-refusal-10
-    enum-known-refusal-11
-    enum-known-refusal-12
-    enum-known-refusal-13
-    enum-known-refusal-14
-    enum-known-refusal-15
-    enum-known-refusal-16
-    enum-known-refusal-17
-    enum-known-refusal-18
-    enum-told-2
-    enum-told-3
-    returns
-    returns-2
-    returns-3
-    returns-4
-    returns-5
-    returns-6
-    returns-7
-    returns-8
-    returns-9
-    returns-10
-    returns-11
-    returns-12
-    returns-13
-    returns-14
-    returns-15
-    returns-16
-    returns-17
-    returns-18
-    returns-19
-    returns-20
-    returns-21)
+    (λ c. search needs) (λ c. search needs) (λ c. search needs) (λ c. search needs) (λ c. search needs)
+    (λ c. search needs) (λ c. search needs) (λ c. search needs) (λ c. search needs) (λ c. search needs)
+    (λ c. search needs) (λ c. search needs) (λ c. search needs) (λ c. search needs) (λ c. search needs)
+    (λ c. search needs) (λ c. search needs) (λ c. search needs) (λ c. search needs) (λ c. search needs)
+    (λ c. search needs) (λ c. search needs) returns returns-2 returns-3 returns-4 returns-5 returns-6 returns-7
+    returns-8 returns-9 returns-10 returns-11 returns-12 returns-13 returns-14 returns-15 returns-16 returns-17
+    returns-18 returns-19 returns-20 returns-21)

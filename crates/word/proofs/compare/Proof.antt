@@ -15,32 +15,14 @@ Inv-loop a b shared i₀ i = (i ≤ shared) × (shared ≡ min (length a) (lengt
 abbrev μ-loop : tie.MeasureT-loop
 μ-loop a b shared i₀ i = shared - i
 
-smaller-requires : tie.Need-smaller-requires Inv-loop μ-loop
-smaller-requires c κs = search needs
-
 loop-holds : tie.Need-loop-holds Inv-loop μ-loop
 loop-holds c = (search needs, c .smaller .ensures, order-start (c .before .before .before .args .a .now) (c .before .before .before .args .b .now))
-
-shared-slice-read-x : tie.Need-shared-slice-read-x Inv-loop μ-loop
-shared-slice-read-x c = search needs
-
-shared-slice-read-y : tie.Need-shared-slice-read-y Inv-loop μ-loop
-shared-slice-read-y c = search needs
-
-order-of-bytes-requires : tie.Need-order-of-bytes-requires Inv-loop μ-loop
-order-of-bytes-requires c κs = search needs
 
 returns : tie.Need-returns Inv-loop μ-loop
 returns c =
     let start = c .before .before .before .before .before .before .before .before .before in
     let at = c .before .before .before .before .before .loop in
     c .order-of-bytes .ensures ∙ sym (at .inv .2 ∙ order-differ (start .args .a .now) (start .args .b .now) (at .i) (omega arith) (omega arith) (c .before .if1 .taken))
-
-add-i : tie.Need-add-i Inv-loop μ-loop
-add-i c = search needs
-
-loop-less : tie.Need-loop-less Inv-loop μ-loop
-loop-less c = search needs
 
 loop-again : tie.Need-loop-again Inv-loop μ-loop
 loop-again c =
@@ -70,17 +52,5 @@ pub compare-spec : {M : Type 1} → statement M
 compare-spec =
     tie.close
     (tie.spec
-    Inv-loop
-    μ-loop
-    smaller-requires
-    loop-holds
-    shared-slice-read-x
-    shared-slice-read-y
-    order-of-bytes-requires
-    returns
-    add-i
-    loop-less
-    loop-again
-    returns-2
-    returns-3
-    returns-4)
+    Inv-loop μ-loop (λ c κs. search needs) loop-holds (λ c. search needs) (λ c. search needs) (λ c κs. search needs)
+    returns (λ c. search needs) (λ c. search needs) loop-again returns-2 returns-3 returns-4)

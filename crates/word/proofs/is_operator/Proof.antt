@@ -5,21 +5,6 @@ use borrow.Author.Needs.{needs}
 use Rattle.word.proofs.is_operator.Statement.{statement}
 use Rattle.word.proofs.is_operator.Tie as tie
 
-operator-of-requires : tie.Need-operator-of-requires
-operator-of-requires c κs = search needs
-
-enum-told : tie.Need-enum-told
-enum-told c = search needs
-
-enum-told-2 : tie.Need-enum-told-2
-enum-told-2 c = search needs
-
-enum-told-3 : tie.Need-enum-told-3
-enum-told-3 c = search needs
-
-enum-told-4 : tie.Need-enum-told-4
-enum-told-4 c = search needs
-
 returns : tie.Need-returns
 returns c = sym (operator-some (c .before .before .before .before .args .s .now) ∙ ap some (sym (c .before .before .operator-of .ensures) ∙ c .enum-told .given .1))
 
@@ -36,12 +21,5 @@ pub is-operator-spec : {M : Type 1} → statement M
 is-operator-spec =
     tie.close
     (tie.spec
-    operator-of-requires
-    enum-told
-    enum-told-2
-    enum-told-3
-    enum-told-4
-    returns
-    returns-2
-    returns-3
-    returns-4)
+    (λ c κs. search needs) (λ c. search needs) (λ c. search needs) (λ c. search needs) (λ c. search needs) returns
+    returns-2 returns-3 returns-4)

@@ -5,12 +5,6 @@ use borrow.Author.Needs.{needs}
 use Rattle.word.proofs.operator_of.Statement.{statement}
 use Rattle.word.proofs.operator_of.Tie as tie
 
-shared-slice-read-if2 : tie.Need-shared-slice-read-if2
-shared-slice-read-if2 c = search needs
-
-shared-slice-read-if2-2 : tie.Need-shared-slice-read-if2-2
-shared-slice-read-if2-2 c = search needs
-
 returns : tie.Need-returns
 returns c = rw (operator-two (c .before .before .before .before .args .s .now) (c .before .before .before .if1 .taken), c .if2 .taken)
 
@@ -20,26 +14,8 @@ returns-2 c = rw (operator-two (c .before .before .before .before .args .s .now)
 returns-3 : tie.Need-returns-3
 returns-3 c = sym (operator-other (c .before .before .args .s .now) (c .before .if1 .left) (c .if3 .taken))
 
-shared-slice-read-if4 : tie.Need-shared-slice-read-if4
-shared-slice-read-if4 c = search needs
-
-shared-slice-read-if4-2 : tie.Need-shared-slice-read-if4-2
-shared-slice-read-if4-2 c = search needs
-
-shared-slice-read-if4-3 : tie.Need-shared-slice-read-if4-3
-shared-slice-read-if4-3 c = search needs
-
 returns-4 : tie.Need-returns-4
 returns-4 c = rw (operator-three (c .before .before .before .before .before .before .args .s .now) (c .before .before .before .before .if3 .left), c .if4 .taken)
-
-shared-slice-read-if5 : tie.Need-shared-slice-read-if5
-shared-slice-read-if5 c = search needs
-
-shared-slice-read-if5-2 : tie.Need-shared-slice-read-if5-2
-shared-slice-read-if5-2 c = search needs
-
-shared-slice-read-if5-3 : tie.Need-shared-slice-read-if5-3
-shared-slice-read-if5-3 c = search needs
 
 returns-5 : tie.Need-returns-5
 returns-5 c =
@@ -55,17 +31,5 @@ pub operator-of-spec : {M : Type 1} → statement M
 operator-of-spec =
     tie.close
     (tie.spec
-    shared-slice-read-if2
-    shared-slice-read-if2-2
-    returns
-    returns-2
-    returns-3
-    shared-slice-read-if4
-    shared-slice-read-if4-2
-    shared-slice-read-if4-3
-    returns-4
-    shared-slice-read-if5
-    shared-slice-read-if5-2
-    shared-slice-read-if5-3
-    returns-5
-    returns-6)
+    (λ c. search needs) (λ c. search needs) returns returns-2 returns-3 (λ c. search needs) (λ c. search needs)
+    (λ c. search needs) returns-4 (λ c. search needs) (λ c. search needs) (λ c. search needs) returns-5 returns-6)

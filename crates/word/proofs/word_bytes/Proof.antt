@@ -19,18 +19,6 @@ abbrev μ-loop : tie.MeasureT-loop
 loop-holds : tie.Need-loop-holds Inv-loop μ-loop
 loop-holds c = (search needs, bytes-start (c .before .args .s .now))
 
-shared-slice-read-word-byte : tie.Need-shared-slice-read-word-byte Inv-loop μ-loop
-shared-slice-read-word-byte c = search needs
-
-word-byte-requires : tie.Need-word-byte-requires Inv-loop μ-loop
-word-byte-requires c κs = search needs
-
-add-i : tie.Need-add-i Inv-loop μ-loop
-add-i c = search needs
-
-loop-less : tie.Need-loop-less Inv-loop μ-loop
-loop-less c = search needs
-
 loop-again : tie.Need-loop-again Inv-loop μ-loop
 loop-again c =
     let s = c .before .before .before .before .before .args .s .now in
@@ -49,12 +37,5 @@ pub word-bytes-spec : {M : Type 1} → statement M
 word-bytes-spec =
     tie.close
     (tie.spec
-    Inv-loop
-    μ-loop
-    loop-holds
-    shared-slice-read-word-byte
-    word-byte-requires
-    add-i
-    loop-less
-    loop-again
-    returns)
+    Inv-loop μ-loop loop-holds (λ c. search needs) (λ c κs. search needs) (λ c. search needs) (λ c. search needs)
+    loop-again returns)

@@ -6,20 +6,11 @@ use Rattle.ask.proofs.OutputLaws.{file-sound}
 use Rattle.ask.proofs.answer.answer_line.Statement.{statement}
 use Rattle.ask.proofs.answer.answer_line.Tie as tie
 
-enum-told : tie.Need-enum-told
-enum-told c = search needs
-
 answer-question-requires : tie.Need-answer-question-requires
 answer-question-requires c κs =
     let told = c .before in
     let start = told .before .before .before .before .before in
     file-sound (now (start .args .index)) (sym (start .pre) ∙ told .enum-told .given .1)
-
-enum-known-checked : tie.Need-enum-known-checked
-enum-known-checked c = search needs
-
-same-length : tie.Need-same-length
-same-length c = search needs
 
 returns : tie.Need-returns
 returns c =
@@ -37,4 +28,5 @@ returns-2 c =
 pub answer-line-spec : {M : Type 1} → statement M
 answer-line-spec =
     tie.close
-    (tie.spec enum-told answer-question-requires enum-known-checked same-length returns returns-2)
+    (tie.spec
+    (λ c. search needs) answer-question-requires (λ c. search needs) (λ c. search needs) returns returns-2)

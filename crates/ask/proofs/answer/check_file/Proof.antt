@@ -6,12 +6,6 @@ use borrow.Author.Tests.{lt-ltb, le-ltb}
 use Rattle.ask.proofs.answer.check_file.Statement.{statement}
 use Rattle.ask.proofs.answer.check_file.Tie as tie
 
-add-t5 : tie.Need-add-t5
-add-t5 c = search needs
-
-check-index-requires : tie.Need-check-index-requires
-check-index-requires c κs = search needs
-
 returns : tie.Need-returns
 returns c = rw (lt-ltb 65536 (length (now (c .before .before .args .index))) (c .if1 .taken))
 
@@ -19,4 +13,4 @@ returns-2 : tie.Need-returns-2
 returns-2 c = rw (le-ltb 65536 (length (now (c .before .before .before .args .index))) (c .before .if1 .left)) (c .check-index .ensures)
 
 pub check-file-spec : {M : Type 1} → statement M
-check-file-spec = tie.close (tie.spec add-t5 check-index-requires returns returns-2)
+check-file-spec = tie.close (tie.spec (λ c. search needs) (λ c κs. search needs) returns returns-2)

@@ -5,21 +5,12 @@ use Rattle.ask.proofs.OutputLaws.{answer-within, line-room, question-li
 use Rattle.ask.proofs.answer.write_answer.Statement.{statement}
 use Rattle.ask.proofs.answer.write_answer.Tie as tie
 
-answer-line-requires : tie.Need-answer-line-requires
-answer-line-requires c κs = search needs
-
 write-line-requires : tie.Need-write-line-requires
 write-line-requires c κs =
     let called = c .before .before .before .before in
     let start = called .before .before .before .before .before .before in
     let p = called .answer-line .ensures in
     (omega (arith, answer-within _ _ _ _ _ p), omega (arith, line-room _ _ _ _ _ p (start .args .number) (omega arith)))
-
-same-length : tie.Need-same-length
-same-length c = search needs
-
-same-length-2 : tie.Need-same-length-2
-same-length-2 c = search needs
 
 returns : tie.Need-returns
 returns c =
@@ -31,4 +22,6 @@ returns c =
 
 pub write-answer-spec : {M : Type 1} → statement M
 write-answer-spec =
-    tie.close (tie.spec answer-line-requires write-line-requires same-length same-length-2 returns)
+    tie.close
+    (tie.spec
+    (λ c κs. search needs) write-line-requires (λ c. search needs) (λ c. search needs) returns)

@@ -15,27 +15,6 @@ Inv-loop fd bytes₀ done₀ bytes done = (length bytes ≡ length bytes₀) × 
 abbrev μ-loop : tie.MeasureT-loop
 μ-loop fd bytes₀ done₀ bytes done = length bytes - done
 
-loop-holds : tie.Need-loop-holds Inv-loop μ-loop
-loop-holds c = search needs
-
-read-on-requires : tie.Need-read-on-requires Inv-loop μ-loop
-read-on-requires c κs = search needs
-
-enum-told : tie.Need-enum-told Inv-loop μ-loop
-enum-told c = search needs
-
-same-length : tie.Need-same-length Inv-loop μ-loop
-same-length c = search needs
-
-returns : tie.Need-returns Inv-loop μ-loop
-returns c = search needs
-
-enum-known-more : tie.Need-enum-known-more Inv-loop μ-loop
-enum-known-more c = search needs
-
-same-length-2 : tie.Need-same-length-2 Inv-loop μ-loop
-same-length-2 c = search needs
-
 returns-2 : tie.Need-returns-2 Inv-loop μ-loop
 returns-2 c = within-counts _ _ (omega arith)
 
@@ -57,9 +36,6 @@ loop-again c =
     let more = ap readCount (c .before .before .more .given .1) in
     (omega arith, omega (arith, more, read .read-on .ensures .within))
 
-same-length-3 : tie.Need-same-length-3 Inv-loop μ-loop
-same-length-3 c = search needs
-
 returns-3 : tie.Need-returns-3 Inv-loop μ-loop
 returns-3 c = within-counts _ _ (omega arith)
 
@@ -67,18 +43,6 @@ pub read-whole-spec : {M : Type 1} → statement M
 read-whole-spec =
     tie.close
     (tie.spec
-    Inv-loop
-    μ-loop
-    loop-holds
-    read-on-requires
-    enum-told
-    same-length
-    returns
-    enum-known-more
-    same-length-2
-    returns-2
-    add-done
-    loop-less
-    loop-again
-    same-length-3
-    returns-3)
+    Inv-loop μ-loop (λ c. search needs) (λ c κs. search needs) (λ c. search needs) (λ c. search needs)
+    (λ c. search needs) (λ c. search needs) (λ c. search needs) returns-2 add-done loop-less loop-again
+    (λ c. search needs) returns-3)

@@ -7,9 +7,6 @@ use Rattle.ask.proofs.TransferLaws.{failed-reading, counted-reading}
 use Rattle.ask.proofs.transfer.reading_of.Statement.{statement}
 use Rattle.ask.proofs.transfer.reading_of.Tie as tie
 
-count-requires : tie.Need-count-requires
-count-requires c κs = search needs
-
 returns : tie.Need-returns
 returns c =
     let start = c .before .before in
@@ -24,4 +21,4 @@ returns-2 c =
     (counted-reading (start .args .got) (length (now (start .args .bytes))) (c .count .result) whole count, search needs)
 
 pub reading-of-spec : {M : Type 1} → statement M
-reading-of-spec = tie.close (tie.spec count-requires returns returns-2)
+reading-of-spec = tie.close (tie.spec (λ c κs. search needs) returns returns-2)

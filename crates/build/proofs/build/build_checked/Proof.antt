@@ -137,9 +137,6 @@ write-index-requires c κs =
     let room = length (now (start .args .out)) in
     (start .pre, omega (arith, c .before .before .if2 .left), omega (arith, c .before .if3 .left), lists .ensures ∙ sym (ap length (good-lists n words counts numbers good)))
 
-same-length : tie.Need-same-length
-same-length c = search needs
-
 returns-4 : tie.Need-returns-4
 returns-4 c =
     let start = c .before .before .before .before .before .before .before .before .before .before .before .before in
@@ -158,15 +155,5 @@ pub build-checked-spec : {M : Type 1} → statement M
 build-checked-spec =
     tie.close
     (tie.spec
-    lists-size-requires
-    returns
-    sub-size
-    add-size
-    mul-size
-    add-size-2
-    add-size-3
-    returns-2
-    returns-3
-    write-index-requires
-    same-length
-    returns-4)
+    lists-size-requires returns sub-size add-size mul-size add-size-2 add-size-3 returns-2 returns-3
+    write-index-requires (λ c. search needs) returns-4)

@@ -7,15 +7,6 @@ use Rattle.build.proofs.GoodLaws.{refused-lent, sized-lent}
 use Rattle.build.proofs.build.build_index.Statement.{statement}
 use Rattle.build.proofs.build.build_index.Tie as tie
 
-check-lent-requires : tie.Need-check-lent-requires
-check-lent-requires c κs = search needs
-
-enum-known-refusal : tie.Need-enum-known-refusal
-enum-known-refusal c = search needs
-
-enum-told : tie.Need-enum-told
-enum-told c = search needs
-
 build-checked-requires : tie.Need-build-checked-requires
 build-checked-requires c κs = sym (c .before .before .before .check-lent .ensures) ∙ c .before .enum-told .given .1
 
@@ -25,9 +16,6 @@ returns c =
     let e = sym (c .before .before .before .check-lent .ensures) ∙ c .before .refusal .given .1 in
     let after = refused-lent (start .n) (now (start .words)) (now (start .counts)) (now (start .numbers)) _ (length (now (start .out))) e in
     record { answer = sym after; bytes = rw after }
-
-same-length : tie.Need-same-length
-same-length c = search needs
 
 returns-2 : tie.Need-returns-2
 returns-2 c =
@@ -41,10 +29,5 @@ pub build-index-spec : {M : Type 1} → statement M
 build-index-spec =
     tie.close
     (tie.spec
-    check-lent-requires
-    enum-known-refusal
-    enum-told
-    build-checked-requires
-    returns
-    same-length
+    (λ c κs. search needs) (λ c. search needs) (λ c. search needs) build-checked-requires returns (λ c. search needs)
     returns-2)

@@ -15,24 +15,6 @@ returns c =
     let start = c .before .before .before .before .args in
     sym (refused-limit (start .n) (now (start .words)) (now (start .counts)) (now (start .numbers)) (c .if1 .taken))
 
-check-words-requires : tie.Need-check-words-requires
-check-words-requires c κs = search needs
-
-enum-known-i : tie.Need-enum-known-i
-enum-known-i c = search needs
-
-enum-known-count : tie.Need-enum-known-count
-enum-known-count c = search needs
-
-check-counts-requires : tie.Need-check-counts-requires
-check-counts-requires c κs = search needs
-
-enum-known-i-2 : tie.Need-enum-known-i-2
-enum-known-i-2 c = search needs
-
-enum-told : tie.Need-enum-told
-enum-told c = search needs
-
 check-numbers-requires : tie.Need-check-numbers-requires
 check-numbers-requires c κs =
     let start = c .before .before .before .before .before .before .before .before .before .before .before .args in
@@ -42,12 +24,6 @@ check-numbers-requires c κs =
     let fair = sym (c .before .before .check-counts .ensures) ∙ c .enum-told .given .1 in
     let each = place-none _ _ _ fair in
     fair-counts counts (length numbers) _ (each .0) (each .1)
-
-enum-known-i-3 : tie.Need-enum-known-i-3
-enum-known-i-3 c = search needs
-
-enum-told-2 : tie.Need-enum-told-2
-enum-told-2 c = search needs
 
 returns-2 : tie.Need-returns-2
 returns-2 c =
@@ -100,17 +76,6 @@ pub check-lent-spec : {M : Type 1} → statement M
 check-lent-spec =
     tie.close
     (tie.spec
-    returns
-    check-words-requires
-    enum-known-i
-    enum-known-count
-    check-counts-requires
-    enum-known-i-2
-    enum-told
-    check-numbers-requires
-    enum-known-i-3
-    enum-told-2
-    returns-2
-    returns-3
-    returns-4
+    returns (λ c κs. search needs) (λ c. search needs) (λ c. search needs) (λ c κs. search needs) (λ c. search needs)
+    (λ c. search needs) check-numbers-requires (λ c. search needs) (λ c. search needs) returns-2 returns-3 returns-4
     returns-5)

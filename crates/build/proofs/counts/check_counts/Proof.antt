@@ -30,12 +30,6 @@ returns c =
     let counts = now (start .counts) in
     rw (at .inv .2 ∙ first-hit (badCount counts (start .total)) (at .i) (start .words) (c .before .loop-test .taken) (count-missing counts (start .total) (at .i) (c .if1 .taken)))
 
-mul-count : tie.Need-mul-count Inv-loop μ-loop
-mul-count c = search needs
-
-shared-slice-read-count : tie.Need-shared-slice-read-count Inv-loop μ-loop
-shared-slice-read-count c = search needs
-
 cast-count : tie.Need-cast-count Inv-loop μ-loop
 cast-count c = omega (arith, c .shared-slice-known .given (c .before .before .before .loop .i))
 
@@ -52,12 +46,6 @@ returns-3 c =
     let start = c .before .before .before .before .before .before .args in
     let counts = now (start .counts) in
     rw (at .inv .2 ∙ first-hit (badCount counts (start .total)) (at .i) (start .words) (c .before .before .before .before .loop-test .taken) (count-past counts (start .total) (at .i) (at .left) (c .before .before .before .if1 .left) (c .before .if2 .left) (at .inv .1) (c .if3 .taken)))
-
-add-i : tie.Need-add-i Inv-loop μ-loop
-add-i c = search needs
-
-loop-less : tie.Need-loop-less Inv-loop μ-loop
-loop-less c = search needs
 
 loop-again : tie.Need-loop-again Inv-loop μ-loop
 loop-again c =
@@ -103,18 +91,5 @@ pub check-counts-spec : {M : Type 1} → statement M
 check-counts-spec =
     tie.close
     (tie.spec
-    Inv-loop
-    μ-loop
-    loop-holds
-    returns
-    mul-count
-    shared-slice-read-count
-    cast-count
-    returns-2
-    returns-3
-    add-i
-    loop-less
-    loop-again
-    returns-4
-    returns-5
-    returns-6)
+    Inv-loop μ-loop loop-holds returns (λ c. search needs) (λ c. search needs) cast-count returns-2 returns-3
+    (λ c. search needs) (λ c. search needs) loop-again returns-4 returns-5 returns-6)

@@ -13,42 +13,6 @@ use Rattle.build.proofs.WriteLaws.{tail-sets, word-entered, tail-length
 use Rattle.build.proofs.entry.write_word.Statement.{statement}
 use Rattle.build.proofs.entry.write_word.Tie as tie
 
-count-kept-requires : tie.Need-count-kept-requires
-count-kept-requires c κs = search needs
-
-sub-write-list : tie.Need-sub-write-list
-sub-write-list c = search needs
-
-part-write-list-start : tie.Need-part-write-list-start
-part-write-list-start c = search needs
-
-part-write-list-end : tie.Need-part-write-list-end
-part-write-list-end c = search needs
-
-write-list-requires : tie.Need-write-list-requires
-write-list-requires c κs = search needs
-
-sub-write-bytes : tie.Need-sub-write-bytes
-sub-write-bytes c = search needs
-
-part-write-bytes-start : tie.Need-part-write-bytes-start
-part-write-bytes-start c = search needs
-
-part-write-bytes-end : tie.Need-part-write-bytes-end
-part-write-bytes-end c = search needs
-
-write-bytes-requires : tie.Need-write-bytes-requires
-write-bytes-requires c κs = search needs
-
-cast-put-five : tie.Need-cast-put-five
-cast-put-five c = search needs
-
-cast-put-five-2 : tie.Need-cast-put-five-2
-cast-put-five-2 c = search needs
-
-cast-put-five-3 : tie.Need-cast-put-five-3
-cast-put-five-3 c = search needs
-
 cast-put-five-4 : tie.Need-cast-put-five-4
 cast-put-five-4 c =
     let kept = c .before .before .before .before .before .before .before .before .before .before .count-kept .ensures in
@@ -62,24 +26,6 @@ cast-put-five-5 c =
     let start = c .before .before .before .before .before .before .before .before .before .before .before .before .before .before .before in
     let long = kept-length (intervalsOf (now (start .args .numbers))) in
     omega (arith, kept .singles, kept .pairs, start .pre .1 .list, start .pre .1 .bytes, start .pre .1 .small)
-
-put-five-requires : tie.Need-put-five-requires
-put-five-requires c κs = search needs
-
-list-size-requires : tie.Need-list-size-requires
-list-size-requires c κs = search needs
-
-add-t23 : tie.Need-add-t23
-add-t23 c = search needs
-
-add-t25 : tie.Need-add-t25
-add-t25 c = search needs
-
-add-t26 : tie.Need-add-t26
-add-t26 c = search needs
-
-same-length : tie.Need-same-length
-same-length c = search needs
 
 returns : tie.Need-returns
 returns c =
@@ -106,24 +52,7 @@ pub write-word-spec : {M : Type 1} → statement M
 write-word-spec =
     tie.close
     (tie.spec
-    count-kept-requires
-    sub-write-list
-    part-write-list-start
-    part-write-list-end
-    write-list-requires
-    sub-write-bytes
-    part-write-bytes-start
-    part-write-bytes-end
-    write-bytes-requires
-    cast-put-five
-    cast-put-five-2
-    cast-put-five-3
-    cast-put-five-4
-    cast-put-five-5
-    put-five-requires
-    list-size-requires
-    add-t23
-    add-t25
-    add-t26
-    same-length
-    returns)
+    (λ c κs. search needs) (λ c. search needs) (λ c. search needs) (λ c. search needs) (λ c κs. search needs)
+    (λ c. search needs) (λ c. search needs) (λ c. search needs) (λ c κs. search needs) (λ c. search needs)
+    (λ c. search needs) (λ c. search needs) cast-put-five-4 cast-put-five-5 (λ c κs. search needs)
+    (λ c κs. search needs) (λ c. search needs) (λ c. search needs) (λ c. search needs) (λ c. search needs) returns)

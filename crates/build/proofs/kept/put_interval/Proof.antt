@@ -52,17 +52,11 @@ add-t17 c =
     let w = rw e at (start .pre) in
     omega arith
 
-same-length : tie.Need-same-length
-same-length c = search needs
-
 returns : tie.Need-returns
 returns c =
     let start = c .before .before .before .before .before .before .before in
     let e = eq-eqb (start .args .l) (start .args .u) (c .before .before .before .before .before .if1 .taken) in
     rw e (c .before .before .before .put-cell .ensures, refl)
-
-same-length-2 : tie.Need-same-length-2
-same-length-2 c = search needs
 
 returns-2 : tie.Need-returns-2
 returns-2 c =
@@ -74,13 +68,5 @@ pub put-interval-spec : {M : Type 1} → statement M
 put-interval-spec =
     tie.close
     (tie.spec
-    put-cell-requires
-    add-t10
-    put-cell-requires-2
-    put-cell-requires-3
-    add-t16
-    add-t17
-    same-length
-    returns
-    same-length-2
-    returns-2)
+    put-cell-requires add-t10 put-cell-requires-2 put-cell-requires-3 add-t16 add-t17 (λ c. search needs) returns
+    (λ c. search needs) returns-2)

@@ -56,9 +56,6 @@ mul-t12 c =
     let long = kept-length (intervalsOf (now (start .args .numbers))) in
     omega (arith, kept .singles, kept .pairs, start .pre .2)
 
-shared-slice-read-l : tie.Need-shared-slice-read-l Inv-loop μ-loop
-shared-slice-read-l c = search needs
-
 loop-holds : tie.Need-loop-holds Inv-loop μ-loop
 loop-holds c =
     let start = c .before .before .before .before .before .before in
@@ -72,21 +69,6 @@ loop-holds c =
       rw (sym e ∙ g) (placed-start (intervalsOf xs) (start .args .kept .singles) (start .args .kept .pairs) (kept .singles) (kept .pairs) (length (now (start .args .out))) (start .pre .2)),
       ap (keptPlan (now (start .args .out)) (keptPlaces (start .args .kept .singles) (start .args .kept .pairs))) e,
     )
-
-mul-x : tie.Need-mul-x Inv-loop μ-loop
-mul-x c = search needs
-
-shared-slice-read-x : tie.Need-shared-slice-read-x Inv-loop μ-loop
-shared-slice-read-x c = search needs
-
-add-if2 : tie.Need-add-if2 Inv-loop μ-loop
-add-if2 c = search needs
-
-add-i : tie.Need-add-i Inv-loop μ-loop
-add-i c = search needs
-
-loop-less : tie.Need-loop-less Inv-loop μ-loop
-loop-less c = search needs
 
 loop-again : tie.Need-loop-again Inv-loop μ-loop
 loop-again c =
@@ -113,12 +95,6 @@ put-interval-requires c κs =
     let e = runsFrom-off (at .l) (at .u) xs (at .i) (omega arith) (c .before .if2 .left) in
     let here = rw e at (at .inv .3) in
     rw (at .inv .2) (laid-within (at .out) (at .at) (at .l) (at .u) rest room here)
-
-add-i-2 : tie.Need-add-i-2 Inv-loop μ-loop
-add-i-2 c = search needs
-
-loop-less-2 : tie.Need-loop-less-2 Inv-loop μ-loop
-loop-less-2 c = search needs
 
 loop-again-2 : tie.Need-loop-again-2 Inv-loop μ-loop
 loop-again-2 c =
@@ -176,24 +152,6 @@ pub write-list-spec : {M : Type 1} → statement M
 write-list-spec =
     tie.close
     (tie.spec
-    Inv-loop
-    μ-loop
-    returns
-    mul-t9
-    add-t11
-    mul-t12
-    shared-slice-read-l
-    loop-holds
-    mul-x
-    shared-slice-read-x
-    add-if2
-    add-i
-    loop-less
-    loop-again
-    put-interval-requires
-    add-i-2
-    loop-less-2
-    loop-again-2
-    put-interval-requires-2
-    same-length
-    returns-2)
+    Inv-loop μ-loop returns mul-t9 add-t11 mul-t12 (λ c. search needs) loop-holds (λ c. search needs)
+    (λ c. search needs) (λ c. search needs) (λ c. search needs) (λ c. search needs) loop-again put-interval-requires
+    (λ c. search needs) (λ c. search needs) loop-again-2 put-interval-requires-2 same-length returns-2)

@@ -25,12 +25,6 @@ abbrev μ-loop : tie.MeasureT-loop
 loop-holds : tie.Need-loop-holds Inv-loop μ-loop
 loop-holds c = (search needs, sum-first-none (now (c .before .before .args .counts)), search needs, λ j h. absurd (omega arith))
 
-mul-end : tie.Need-mul-end Inv-loop μ-loop
-mul-end c = search needs
-
-shared-slice-read-end : tie.Need-shared-slice-read-end Inv-loop μ-loop
-shared-slice-read-end c = search needs
-
 cast-end : tie.Need-cast-end Inv-loop μ-loop
 cast-end c = omega (arith, c .shared-slice-known3 .given (c .before .before .loop .i))
 
@@ -44,15 +38,6 @@ add-end c =
     let room = fair-count n counts numbers (start .pre) (at .i) (c .before .loop-test .taken) .room in
     omega arith
 
-mul-first-bad-number : tie.Need-mul-first-bad-number Inv-loop μ-loop
-mul-first-bad-number c = search needs
-
-sub-first-bad-number : tie.Need-sub-first-bad-number Inv-loop μ-loop
-sub-first-bad-number c = search needs
-
-part-first-bad-number-start : tie.Need-part-first-bad-number-start Inv-loop μ-loop
-part-first-bad-number-start c = search needs
-
 part-first-bad-number-end : tie.Need-part-first-bad-number-end Inv-loop μ-loop
 part-first-bad-number-end c =
     let at = c .before .before .loop in
@@ -62,12 +47,6 @@ part-first-bad-number-end c =
     let numbers = now (start .args .numbers) in
     let room = fair-count n counts numbers (start .pre) (at .i) (c .before .loop-test .taken) .room in
     omega arith
-
-first-bad-number-requires : tie.Need-first-bad-number-requires Inv-loop μ-loop
-first-bad-number-requires c κs = search needs
-
-enum-known-bad : tie.Need-enum-known-bad Inv-loop μ-loop
-enum-known-bad c = search needs
 
 add-t17 : tie.Need-add-t17 Inv-loop μ-loop
 add-t17 c =
@@ -87,15 +66,6 @@ returns c =
     let counts = now (start .args .counts) in
     let numbers = now (start .args .numbers) in
     sym (list-hit n counts numbers (start .pre) (at .i) (at .start) (at .start + getD counts (at .i) 0) (c .before .before .before .before .before .before .loop-test .taken) (at .inv .1) refl _ (sym (c .before .before .before .first-bad-number .ensures) ∙ c .before .bad .given .1) (at .inv .3))
-
-enum-told : tie.Need-enum-told Inv-loop μ-loop
-enum-told c = search needs
-
-add-i : tie.Need-add-i Inv-loop μ-loop
-add-i c = search needs
-
-loop-less : tie.Need-loop-less Inv-loop μ-loop
-loop-less c = search needs
 
 loop-again : tie.Need-loop-again Inv-loop μ-loop
 loop-again c =
@@ -124,23 +94,6 @@ pub check-numbers-spec : {M : Type 1} → statement M
 check-numbers-spec =
     tie.close
     (tie.spec
-    Inv-loop
-    μ-loop
-    loop-holds
-    mul-end
-    shared-slice-read-end
-    cast-end
-    add-end
-    mul-first-bad-number
-    sub-first-bad-number
-    part-first-bad-number-start
-    part-first-bad-number-end
-    first-bad-number-requires
-    enum-known-bad
-    add-t17
-    returns
-    enum-told
-    add-i
-    loop-less
-    loop-again
-    returns-2)
+    Inv-loop μ-loop loop-holds (λ c. search needs) (λ c. search needs) cast-end add-end (λ c. search needs)
+    (λ c. search needs) (λ c. search needs) part-first-bad-number-end (λ c κs. search needs) (λ c. search needs) add-t17
+    returns (λ c. search needs) (λ c. search needs) (λ c. search needs) loop-again returns-2)

@@ -38,9 +38,6 @@ returns c =
       most = omega arith;
     }
 
-shared-slice-read-l : tie.Need-shared-slice-read-l Inv-loop μ-loop
-shared-slice-read-l c = search needs
-
 loop-holds : tie.Need-loop-holds Inv-loop μ-loop
 loop-holds c =
     let start = c .before .before .before in
@@ -53,21 +50,6 @@ loop-holds c =
       omega (arith, ap (λ (cells : List ℕ). length (singlesIn cells)) e),
       omega (arith, ap (λ (cells : List ℕ). length (lowersIn cells)) e),
     )
-
-mul-x : tie.Need-mul-x Inv-loop μ-loop
-mul-x c = search needs
-
-shared-slice-read-x : tie.Need-shared-slice-read-x Inv-loop μ-loop
-shared-slice-read-x c = search needs
-
-add-if2 : tie.Need-add-if2 Inv-loop μ-loop
-add-if2 c = search needs
-
-add-i : tie.Need-add-i Inv-loop μ-loop
-add-i c = search needs
-
-loop-less : tie.Need-loop-less Inv-loop μ-loop
-loop-less c = search needs
 
 loop-again : tie.Need-loop-again Inv-loop μ-loop
 loop-again c =
@@ -82,24 +64,6 @@ loop-again c =
       at .inv .4 ∙ ap (λ (cells : List ℕ). at .singles + length (singlesIn cells)) e,
       at .inv .5 ∙ ap (λ (cells : List ℕ). at .pairs + length (lowersIn cells)) e,
     )
-
-single-requires : tie.Need-single-requires Inv-loop μ-loop
-single-requires c κs = search needs
-
-add-singles : tie.Need-add-singles Inv-loop μ-loop
-add-singles c = search needs
-
-sub-pairs : tie.Need-sub-pairs Inv-loop μ-loop
-sub-pairs c = search needs
-
-add-pairs : tie.Need-add-pairs Inv-loop μ-loop
-add-pairs c = search needs
-
-add-i-2 : tie.Need-add-i-2 Inv-loop μ-loop
-add-i-2 c = search needs
-
-loop-less-2 : tie.Need-loop-less-2 Inv-loop μ-loop
-loop-less-2 c = search needs
 
 loop-again-2 : tie.Need-loop-again-2 Inv-loop μ-loop
 loop-again-2 c =
@@ -119,18 +83,6 @@ loop-again-2 c =
       omega (arith, singles-next (at .l) (at .u) rest),
       omega (arith, pairs-next (at .l) (at .u) rest),
     )
-
-single-requires-2 : tie.Need-single-requires-2 Inv-loop μ-loop
-single-requires-2 c κs = search needs
-
-add-t10 : tie.Need-add-t10 Inv-loop μ-loop
-add-t10 c = search needs
-
-sub-t19 : tie.Need-sub-t19 Inv-loop μ-loop
-sub-t19 c = search needs
-
-add-t20 : tie.Need-add-t20 Inv-loop μ-loop
-add-t20 c = search needs
 
 returns-2 : tie.Need-returns-2 Inv-loop μ-loop
 returns-2 c =
@@ -152,26 +104,7 @@ pub count-kept-spec : {M : Type 1} → statement M
 count-kept-spec =
     tie.close
     (tie.spec
-    Inv-loop
-    μ-loop
-    returns
-    shared-slice-read-l
-    loop-holds
-    mul-x
-    shared-slice-read-x
-    add-if2
-    add-i
-    loop-less
-    loop-again
-    single-requires
-    add-singles
-    sub-pairs
-    add-pairs
-    add-i-2
-    loop-less-2
-    loop-again-2
-    single-requires-2
-    add-t10
-    sub-t19
-    add-t20
-    returns-2)
+    Inv-loop μ-loop returns (λ c. search needs) loop-holds (λ c. search needs) (λ c. search needs) (λ c. search needs)
+    (λ c. search needs) (λ c. search needs) loop-again (λ c κs. search needs) (λ c. search needs) (λ c. search needs)
+    (λ c. search needs) (λ c. search needs) (λ c. search needs) loop-again-2 (λ c κs. search needs) (λ c. search needs)
+    (λ c. search needs) (λ c. search needs) returns-2)

@@ -30,12 +30,6 @@ abbrev μ-loop : tie.MeasureT-loop
 loop-holds : tie.Need-loop-holds Inv-loop μ-loop
 loop-holds c = (search needs, sum-first-none (now (c .before .before .args .counts)), search needs, search needs, omega arith)
 
-mul-end : tie.Need-mul-end Inv-loop μ-loop
-mul-end c = search needs
-
-shared-slice-read-end : tie.Need-shared-slice-read-end Inv-loop μ-loop
-shared-slice-read-end c = search needs
-
 cast-end : tie.Need-cast-end Inv-loop μ-loop
 cast-end c = omega (arith, c .shared-slice-known3 .given (c .before .before .loop .i))
 
@@ -48,15 +42,6 @@ add-end c =
     let end = at .start + getD counts (at .i) 0 in
     let within = list-within counts numbers (at .i) (at .start) end (omega arith) (at .inv .1) refl (start .pre) in
     omega arith
-
-mul-count-kept : tie.Need-mul-count-kept Inv-loop μ-loop
-mul-count-kept c = search needs
-
-sub-count-kept : tie.Need-sub-count-kept Inv-loop μ-loop
-sub-count-kept c = search needs
-
-part-count-kept-start : tie.Need-part-count-kept-start Inv-loop μ-loop
-part-count-kept-start c = search needs
 
 part-count-kept-end : tie.Need-part-count-kept-end Inv-loop μ-loop
 part-count-kept-end c =
@@ -101,12 +86,6 @@ add-size c =
     let most = c .before .count-kept .ensures .most in
     omega (arith, c .list-size .ensures)
 
-add-i : tie.Need-add-i Inv-loop μ-loop
-add-i c = search needs
-
-loop-less : tie.Need-loop-less Inv-loop μ-loop
-loop-less c = search needs
-
 loop-again : tie.Need-loop-again Inv-loop μ-loop
 loop-again c =
     let at = c .before .before .before .before .before .loop in
@@ -140,21 +119,6 @@ pub lists-size-spec : {M : Type 1} → statement M
 lists-size-spec =
     tie.close
     (tie.spec
-    Inv-loop
-    μ-loop
-    loop-holds
-    mul-end
-    shared-slice-read-end
-    cast-end
-    add-end
-    mul-count-kept
-    sub-count-kept
-    part-count-kept-start
-    part-count-kept-end
-    count-kept-requires
-    list-size-requires
-    add-size
-    add-i
-    loop-less
-    loop-again
-    returns)
+    Inv-loop μ-loop loop-holds (λ c. search needs) (λ c. search needs) cast-end add-end (λ c. search needs)
+    (λ c. search needs) (λ c. search needs) part-count-kept-end count-kept-requires list-size-requires add-size
+    (λ c. search needs) (λ c. search needs) loop-again returns)

@@ -24,9 +24,6 @@ abbrev μ-loop : tie.MeasureT-loop
 loop-holds : tie.Need-loop-holds Inv-loop μ-loop
 loop-holds c = pass-start (now (c .before .args .words))
 
-word-end-requires : tie.Need-word-end-requires Inv-loop μ-loop
-word-end-requires c κs = search needs
-
 returns : tie.Need-returns Inv-loop μ-loop
 returns c =
     let at = c .before .before .before .loop in
@@ -41,42 +38,12 @@ returns-2 c =
     let end = c .before .before .word-end in
     rw (pass-full bytes (at .prior) (at .prior-end) (at .start) (at .count) (at .inv) (end .result) (end .ensures .0) (less bytes (end .result) (end .ensures .2) (c .before .if1 .left)) (c .if2 .taken))
 
-sub-word-good : tie.Need-sub-word-good Inv-loop μ-loop
-sub-word-good c = search needs
-
-part-word-good-start : tie.Need-part-word-good-start Inv-loop μ-loop
-part-word-good-start c = search needs
-
-part-word-good-end : tie.Need-part-word-good-end Inv-loop μ-loop
-part-word-good-end c = search needs
-
-sub-word-good-2 : tie.Need-sub-word-good-2 Inv-loop μ-loop
-sub-word-good-2 c = search needs
-
-part-word-good-start-2 : tie.Need-part-word-good-start-2 Inv-loop μ-loop
-part-word-good-start-2 c = search needs
-
-part-word-good-end-2 : tie.Need-part-word-good-end-2 Inv-loop μ-loop
-part-word-good-end-2 c = search needs
-
-word-good-requires : tie.Need-word-good-requires Inv-loop μ-loop
-word-good-requires c κs = search needs
-
 returns-3 : tie.Need-returns-3 Inv-loop μ-loop
 returns-3 c =
     let at = c .before .before .before .before .before .before .before .before .loop in
     let bytes = now (c .before .before .before .before .before .before .before .before .before .before .args .words) in
     let end = c .before .before .before .before .before .before .word-end in
     rw (pass-bad bytes (at .prior) (at .prior-end) (at .start) (at .count) (at .inv) (end .result) (end .ensures .0) (less bytes (end .result) (end .ensures .2) (c .before .before .before .before .before .if1 .left)) (sym (c .before .word-good .ensures) ∙ not-true _ (c .if3 .taken)))
-
-add-start : tie.Need-add-start Inv-loop μ-loop
-add-start c = search needs
-
-add-count : tie.Need-add-count Inv-loop μ-loop
-add-count c = search needs
-
-loop-less : tie.Need-loop-less Inv-loop μ-loop
-loop-less c = search needs
 
 loop-again : tie.Need-loop-again Inv-loop μ-loop
 loop-again c =
@@ -96,22 +63,6 @@ pub check-words-spec : {M : Type 1} → statement M
 check-words-spec =
     tie.close
     (tie.spec
-    Inv-loop
-    μ-loop
-    loop-holds
-    word-end-requires
-    returns
-    returns-2
-    sub-word-good
-    part-word-good-start
-    part-word-good-end
-    sub-word-good-2
-    part-word-good-start-2
-    part-word-good-end-2
-    word-good-requires
-    returns-3
-    add-start
-    add-count
-    loop-less
-    loop-again
-    returns-4)
+    Inv-loop μ-loop loop-holds (λ c κs. search needs) returns returns-2 (λ c. search needs) (λ c. search needs)
+    (λ c. search needs) (λ c. search needs) (λ c. search needs) (λ c. search needs) (λ c κs. search needs) returns-3
+    (λ c. search needs) (λ c. search needs) (λ c. search needs) loop-again returns-4)

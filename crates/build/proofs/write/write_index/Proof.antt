@@ -114,9 +114,6 @@ put-five-requires c κs =
     let size = good-size n words counts numbers good in
     omega (arith, start .pre .1, start .pre .2, start .pre .3)
 
-same-length : tie.Need-same-length
-same-length c = search needs
-
 returns : tie.Need-returns
 returns c =
     let start = c .before .before .before .before .before .before .before .before .before .before .before .before in
@@ -132,14 +129,5 @@ pub write-index-spec : {M : Type 1} → statement M
 write-index-spec =
     tie.close
     (tie.spec
-    sub-directory
-    add-directory
-    write-words-requires
-    mul-put-five
-    add-put-five
-    cast-put-five
-    cast-put-five-2
-    cast-put-five-3
-    put-five-requires
-    same-length
-    returns)
+    sub-directory add-directory write-words-requires mul-put-five add-put-five cast-put-five cast-put-five-2
+    cast-put-five-3 put-five-requires (λ c. search needs) returns)

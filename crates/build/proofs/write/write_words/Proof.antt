@@ -29,15 +29,6 @@ loop-holds c =
     let start = c .before .before .before .before in
     (refl, enter-start (now (start .args .words)) (now (start .args .counts)) (now (start .args .numbers)) (length (now (start .args .out))) (start .args .from) (start .pre .1) (start .pre .2), refl)
 
-word-end-requires : tie.Need-word-end-requires Inv-loop μ-loop
-word-end-requires c κs = search needs
-
-mul-last : tie.Need-mul-last Inv-loop μ-loop
-mul-last c = search needs
-
-shared-slice-read-last : tie.Need-shared-slice-read-last Inv-loop μ-loop
-shared-slice-read-last c = search needs
-
 cast-last : tie.Need-cast-last Inv-loop μ-loop
 cast-last c = omega (arith, c .shared-slice-known4 .given (c .before .before .before .loop .i))
 
@@ -51,15 +42,6 @@ add-last c =
     let room = length (now (start .args .out)) in
     let within = list-within counts numbers (at .i) (at .first) (at .first + getD counts (at .i) 0) (omega arith) (at .inv .1 .number) refl (start .pre .0) in
     omega arith
-
-sub-write-word : tie.Need-sub-write-word Inv-loop μ-loop
-sub-write-word c = search needs
-
-part-write-word-start : tie.Need-part-write-word-start Inv-loop μ-loop
-part-write-word-start c = search needs
-
-part-write-word-end : tie.Need-part-write-word-end Inv-loop μ-loop
-part-write-word-end c = search needs
 
 mul-write-word : tie.Need-mul-write-word Inv-loop μ-loop
 mul-write-word c =
@@ -132,12 +114,6 @@ add-start c =
     let within = word-ended words counts numbers room (at .at) (at .start) (at .first) (at .i) (at .inv .1) (end .result) last (end .ensures .0) (end .ensures .2) refl (omega arith) in
     omega arith
 
-add-i : tie.Need-add-i Inv-loop μ-loop
-add-i c = search needs
-
-loop-less : tie.Need-loop-less Inv-loop μ-loop
-loop-less c = search needs
-
 loop-again : tie.Need-loop-again Inv-loop μ-loop
 loop-again c =
     let at = c .before .before .before .before .before .before .before .before .before .loop in
@@ -171,25 +147,7 @@ pub write-words-spec : {M : Type 1} → statement M
 write-words-spec =
     tie.close
     (tie.spec
-    Inv-loop
-    μ-loop
-    loop-holds
-    word-end-requires
-    mul-last
-    shared-slice-read-last
-    cast-last
-    add-last
-    sub-write-word
-    part-write-word-start
-    part-write-word-end
-    mul-write-word
-    sub-write-word-2
-    part-write-word-start-2
-    part-write-word-end-2
-    write-word-requires
-    add-start
-    add-i
-    loop-less
-    loop-again
-    same-length
+    Inv-loop μ-loop loop-holds (λ c κs. search needs) (λ c. search needs) (λ c. search needs) cast-last add-last
+    (λ c. search needs) (λ c. search needs) (λ c. search needs) mul-write-word sub-write-word-2 part-write-word-start-2
+    part-write-word-end-2 write-word-requires add-start (λ c. search needs) (λ c. search needs) loop-again same-length
     returns)

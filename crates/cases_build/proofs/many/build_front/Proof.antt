@@ -21,26 +21,9 @@ slice-aggregate-build-many-3 c =
     let start = c .before .before .before .before .before .before .before .before in
     sym (length-take-le _ (now (start .args .ones)) (c .before .before .before .if2 .taken))
 
-build-many-requires : tie.Need-build-many-requires
-build-many-requires c κs = search needs
-
-returns : tie.Need-returns
-returns c = search needs
-
-returns-2 : tie.Need-returns-2
-returns-2 c = search needs
-
-returns-3 : tie.Need-returns-3
-returns-3 c = search needs
-
 pub build-front-spec : {M : Type 1} → statement M
 build-front-spec =
     tie.close
     (tie.spec
-    slice-aggregate-build-many
-    slice-aggregate-build-many-2
-    slice-aggregate-build-many-3
-    build-many-requires
-    returns
-    returns-2
-    returns-3)
+    slice-aggregate-build-many slice-aggregate-build-many-2 slice-aggregate-build-many-3 (λ c κs. search needs)
+    (λ c. search needs) (λ c. search needs) (λ c. search needs))

@@ -5,71 +5,20 @@ use borrow.Author.Needs.{needs}
 use Rattle.cases_index.proofs.change.put_cell.Statement.{statement}
 use Rattle.cases_index.proofs.change.put_cell.Tie as tie
 
-returns : tie.Need-returns
-returns c = search needs
-
-sub-if2 : tie.Need-sub-if2
-sub-if2 c = search needs
-
-returns-2 : tie.Need-returns-2
-returns-2 c = search needs
-
-cast-bytes : tie.Need-cast-bytes
-cast-bytes c = search needs
-
-slice-write-bytes : tie.Need-slice-write-bytes
-slice-write-bytes c = search needs
-
-cast-bytes-2 : tie.Need-cast-bytes-2
-cast-bytes-2 c = search needs
-
-add-bytes : tie.Need-add-bytes
-add-bytes c = search needs
-
 slice-write-bytes-2 : tie.Need-slice-write-bytes-2
 slice-write-bytes-2 c = simp length-set (omega arith)
-
-cast-bytes-3 : tie.Need-cast-bytes-3
-cast-bytes-3 c = search needs
-
-add-bytes-2 : tie.Need-add-bytes-2
-add-bytes-2 c = search needs
 
 slice-write-bytes-3 : tie.Need-slice-write-bytes-3
 slice-write-bytes-3 c = simp length-set (omega arith)
 
-cast-bytes-4 : tie.Need-cast-bytes-4
-cast-bytes-4 c = search needs
-
-add-bytes-3 : tie.Need-add-bytes-3
-add-bytes-3 c = search needs
-
 slice-write-bytes-4 : tie.Need-slice-write-bytes-4
 slice-write-bytes-4 c = simp length-set (omega arith)
-
-same-length : tie.Need-same-length
-same-length c = search needs
-
-returns-3 : tie.Need-returns-3
-returns-3 c = search needs
 
 pub put-cell-spec : {M : Type 1} → statement M
 put-cell-spec =
     tie.close
     (tie.spec
-    returns
-    sub-if2
-    returns-2
-    cast-bytes
-    slice-write-bytes
-    cast-bytes-2
-    add-bytes
-    slice-write-bytes-2
-    cast-bytes-3
-    add-bytes-2
-    slice-write-bytes-3
-    cast-bytes-4
-    add-bytes-3
-    slice-write-bytes-4
-    same-length
-    returns-3)
+    (λ c. search needs) (λ c. search needs) (λ c. search needs) (λ c. search needs) (λ c. search needs)
+    (λ c. search needs) (λ c. search needs) slice-write-bytes-2 (λ c. search needs) (λ c. search needs)
+    slice-write-bytes-3 (λ c. search needs) (λ c. search needs) slice-write-bytes-4 (λ c. search needs)
+    (λ c. search needs))

@@ -27,24 +27,12 @@ loop-holds : tie.Need-loop-holds Inv-loop μ-loop
 unfolding tokens
 loop-holds c = (search needs, search needs, refl, refl)
 
-next-token-requires : tie.Need-next-token-requires Inv-loop μ-loop
-next-token-requires c κs = search needs
-
-enum-told : tie.Need-enum-told Inv-loop μ-loop
-enum-told c = search needs
-
-same-length : tie.Need-same-length Inv-loop μ-loop
-same-length c = search needs
-
 returns : tie.Need-returns Inv-loop μ-loop
 returns c =
     let at = c .before .before .before .loop in
     let s = c .before .before .before .before .before .before .args .question .now in
     let none = code-none s (at .at) (c .before .before .next-token .result) (c .before .before .next-token .ensures) (c .before .match .keys1) in
     record { long = at .inv .2; within = omega arith; are = write-end (at .codes) (codesOf (tokensAt s (at .at))) (codesOf (tokens s)) (at .count) none (at .inv .3) }
-
-token-code-requires : tie.Need-token-code-requires Inv-loop μ-loop
-token-code-requires c κs = search needs
 
 slice-write-codes : tie.Need-slice-write-codes Inv-loop μ-loop
 slice-write-codes c =
@@ -87,16 +75,5 @@ pub write-codes-spec : {M : Type 1} → statement M
 write-codes-spec =
     tie.close
     (tie.spec
-    Inv-loop
-    μ-loop
-    loop-holds
-    next-token-requires
-    enum-told
-    same-length
-    returns
-    token-code-requires
-    slice-write-codes
-    add-count
-    token-end-requires
-    loop-less
-    loop-again)
+    Inv-loop μ-loop loop-holds (λ c κs. search needs) (λ c. search needs) (λ c. search needs) returns
+    (λ c κs. search needs) slice-write-codes add-count token-end-requires loop-less loop-again)

@@ -25,12 +25,6 @@ loop-holds c =
     let xs = now (c .args .numbers) in
     (search needs, refl, first-start (badNumber (c .args .limit) xs) (length xs))
 
-mul-x : tie.Need-mul-x Inv-loop μ-loop
-mul-x c = search needs
-
-shared-slice-read-x : tie.Need-shared-slice-read-x Inv-loop μ-loop
-shared-slice-read-x c = search needs
-
 returns : tie.Need-returns Inv-loop μ-loop
 returns c =
     let at = c .before .before .before in
@@ -46,12 +40,6 @@ returns-2 c =
     let limit = at .before .args .limit in
     let bad = bad-number-high limit xs (at .loop .i) (at .loop .before) (at .loop .inv .1) (c .before .if1 .left) (c .if2 .taken) in
     sym (at .loop .inv .2 ∙ first-hit (badNumber limit xs) (at .loop .i) (length xs) (c .before .before .before .loop-test .taken) bad)
-
-add-i : tie.Need-add-i Inv-loop μ-loop
-add-i c = search needs
-
-loop-less : tie.Need-loop-less Inv-loop μ-loop
-loop-less c = search needs
 
 loop-again : tie.Need-loop-again Inv-loop μ-loop
 loop-again c =
@@ -72,14 +60,5 @@ pub first-bad-number-spec : {M : Type 1} → statement M
 first-bad-number-spec =
     tie.close
     (tie.spec
-    Inv-loop
-    μ-loop
-    loop-holds
-    mul-x
-    shared-slice-read-x
-    returns
-    returns-2
-    add-i
-    loop-less
-    loop-again
-    returns-3)
+    Inv-loop μ-loop loop-holds (λ c. search needs) (λ c. search needs) returns returns-2 (λ c. search needs)
+    (λ c. search needs) loop-again returns-3)

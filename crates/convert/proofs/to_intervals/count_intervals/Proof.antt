@@ -25,32 +25,11 @@ returns c =
     let xs = now (start .args .listed) in
     sym (ap (λ (cells : List ℕ). intervals cells) (sym (runs-cells top xs (start .pre)) ∙ runs-none xs (c .if1 .taken)))
 
-shared-slice-read-u : tie.Need-shared-slice-read-u Inv-loop μ-loop
-shared-slice-read-u c = search needs
-
 loop-holds : tie.Need-loop-holds Inv-loop μ-loop
 loop-holds c =
     let start = c .before .before .before in
     let xs = now (start .args .listed) in
     (search needs, search needs, good-number-small top xs (start .pre) 0 (omega arith), runs-count xs (omega arith))
-
-mul-x : tie.Need-mul-x Inv-loop μ-loop
-mul-x c = search needs
-
-shared-slice-read-x : tie.Need-shared-slice-read-x Inv-loop μ-loop
-shared-slice-read-x c = search needs
-
-gap-requires : tie.Need-gap-requires Inv-loop μ-loop
-gap-requires c κs = search needs
-
-add-n : tie.Need-add-n Inv-loop μ-loop
-add-n c = search needs
-
-add-i : tie.Need-add-i Inv-loop μ-loop
-add-i c = search needs
-
-loop-less : tie.Need-loop-less Inv-loop μ-loop
-loop-less c = search needs
 
 loop-again : tie.Need-loop-again Inv-loop μ-loop
 loop-again c =
@@ -71,16 +50,5 @@ pub count-intervals-spec : {M : Type 1} → statement M
 count-intervals-spec =
     tie.close
     (tie.spec
-    Inv-loop
-    μ-loop
-    returns
-    shared-slice-read-u
-    loop-holds
-    mul-x
-    shared-slice-read-x
-    gap-requires
-    add-n
-    add-i
-    loop-less
-    loop-again
-    returns-2)
+    Inv-loop μ-loop returns (λ c. search needs) loop-holds (λ c. search needs) (λ c. search needs)
+    (λ c κs. search needs) (λ c. search needs) (λ c. search needs) (λ c. search needs) loop-again returns-2)

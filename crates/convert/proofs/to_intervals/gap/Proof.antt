@@ -5,9 +5,6 @@ use borrow.Author.Needs.{needs}
 use Rattle.convert.proofs.to_intervals.gap.Statement.{statement}
 use Rattle.convert.proofs.to_intervals.gap.Tie as tie
 
-add-if1 : tie.Need-add-if1
-add-if1 c = search needs
-
 returns : tie.Need-returns
 returns c =
     let a = c .before .args in
@@ -19,4 +16,4 @@ returns-2 c =
     (rw (ne-eqb (a .x) (a .u + 1) (c .if1 .left)), search needs)
 
 pub gap-spec : {M : Type 1} → statement M
-gap-spec = tie.close (tie.spec add-if1 returns returns-2)
+gap-spec = tie.close (tie.spec (λ c. search needs) returns returns-2)

@@ -10,20 +10,11 @@ use Rattle.list.proofs.StretchLaws.{cells-even}
 use Rattle.convert.proofs.to_intervals.to_intervals.Statement.{statement}
 use Rattle.convert.proofs.to_intervals.to_intervals.Tie as tie
 
-first-bad-number-requires : tie.Need-first-bad-number-requires
-first-bad-number-requires c κs = search needs
-
-enum-known-bad : tie.Need-enum-known-bad
-enum-known-bad c = search needs
-
 returns : tie.Need-returns
 returns c =
     let at = c .before .before .before in
     let e = sym (at .first-bad-number .ensures) ∙ c .before .bad .given .1 in
     record { answer = rw e; cells = rw e }
-
-enum-told : tie.Need-enum-told
-enum-told c = search needs
 
 count-intervals-requires : tie.Need-count-intervals-requires
 count-intervals-requires c κs =
@@ -44,9 +35,6 @@ write-intervals-requires c κs =
     let xs = now (at .before .before .before .args .numbers) in
     (e, omega (arith, cells-even (among xs) top, c .before .before .count-intervals .ensures))
 
-same-length : tie.Need-same-length
-same-length c = search needs
-
 returns-3 : tie.Need-returns-3
 returns-3 c =
     let called = c .before .before in
@@ -61,12 +49,5 @@ pub to-intervals-spec : {M : Type 1} → statement M
 to-intervals-spec =
     tie.close
     (tie.spec
-    first-bad-number-requires
-    enum-known-bad
-    returns
-    enum-told
-    count-intervals-requires
-    returns-2
-    write-intervals-requires
-    same-length
-    returns-3)
+    (λ c κs. search needs) (λ c. search needs) returns (λ c. search needs) count-intervals-requires returns-2
+    write-intervals-requires (λ c. search needs) returns-3)

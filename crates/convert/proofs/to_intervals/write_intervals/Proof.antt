@@ -32,9 +32,6 @@ returns c =
     let xs = now (start .args .numbers) in
     rw (sym (runs-cells top xs (start .pre .0)) ∙ runs-none xs (c .if1 .taken))
 
-shared-slice-read-l : tie.Need-shared-slice-read-l Inv-loop μ-loop
-shared-slice-read-l c = search needs
-
 loop-holds : tie.Need-loop-holds Inv-loop μ-loop
 loop-holds c =
     let start = c .before .before in
@@ -45,21 +42,6 @@ loop-holds c =
     let room = start .pre .1 in
     (search needs, good-number-small top xs (start .pre .0) 0 (omega arith), refl, omega (arith, ap length e), omega (arith, ap length e), ap (sets (now (start .args .out)) 0) e)
 
-mul-x : tie.Need-mul-x Inv-loop μ-loop
-mul-x c = search needs
-
-shared-slice-read-x : tie.Need-shared-slice-read-x Inv-loop μ-loop
-shared-slice-read-x c = search needs
-
-add-if2 : tie.Need-add-if2 Inv-loop μ-loop
-add-if2 c = search needs
-
-add-i : tie.Need-add-i Inv-loop μ-loop
-add-i c = search needs
-
-loop-less : tie.Need-loop-less Inv-loop μ-loop
-loop-less c = search needs
-
 loop-again : tie.Need-loop-again Inv-loop μ-loop
 loop-again c =
     let at = c .before .before .before in
@@ -68,29 +50,8 @@ loop-again c =
     let e = runsFrom-on (at .loop .l) (at .loop .u) xs (at .loop .i) (omega arith) (c .if2 .taken) in
     (search needs, good-number-small top xs (start .pre .0) (at .loop .i) (omega arith), at .loop .inv .2, at .loop .inv .3, omega (arith, ap length e), at .loop .inv .5 ∙ ap (sets (at .loop .out) (at .loop .k)) e)
 
-mul-out : tie.Need-mul-out Inv-loop μ-loop
-mul-out c = search needs
-
-slice-write-out : tie.Need-slice-write-out Inv-loop μ-loop
-slice-write-out c = search needs
-
-add-out : tie.Need-add-out Inv-loop μ-loop
-add-out c = search needs
-
-mul-out-2 : tie.Need-mul-out-2 Inv-loop μ-loop
-mul-out-2 c = search needs
-
 slice-write-out-2 : tie.Need-slice-write-out-2 Inv-loop μ-loop
 slice-write-out-2 c = simp length-set (omega arith)
-
-add-k : tie.Need-add-k Inv-loop μ-loop
-add-k c = search needs
-
-add-i-2 : tie.Need-add-i-2 Inv-loop μ-loop
-add-i-2 c = search needs
-
-loop-less-2 : tie.Need-loop-less-2 Inv-loop μ-loop
-loop-less-2 c = search needs
 
 loop-again-2 : tie.Need-loop-again-2 Inv-loop μ-loop
 loop-again-2 c =
@@ -109,18 +70,6 @@ loop-again-2 c =
       simp length-set (omega (arith, ap length e)),
       at .loop .inv .5 ∙ ap (sets (at .loop .out) (at .loop .k)) e ∙ sets-two (at .loop .out) (at .loop .k) (at .loop .l) (at .loop .u) (runsFrom x x r),
     )
-
-mul-out-3 : tie.Need-mul-out-3 Inv-loop μ-loop
-mul-out-3 c = search needs
-
-slice-write-out-3 : tie.Need-slice-write-out-3 Inv-loop μ-loop
-slice-write-out-3 c = search needs
-
-add-out-2 : tie.Need-add-out-2 Inv-loop μ-loop
-add-out-2 c = search needs
-
-mul-out-4 : tie.Need-mul-out-4 Inv-loop μ-loop
-mul-out-4 c = search needs
 
 slice-write-out-4 : tie.Need-slice-write-out-4 Inv-loop μ-loop
 slice-write-out-4 c = simp length-set (omega arith)
@@ -145,30 +94,8 @@ pub write-intervals-spec : {M : Type 1} → statement M
 write-intervals-spec =
     tie.close
     (tie.spec
-    Inv-loop
-    μ-loop
-    returns
-    shared-slice-read-l
-    loop-holds
-    mul-x
-    shared-slice-read-x
-    add-if2
-    add-i
-    loop-less
-    loop-again
-    mul-out
-    slice-write-out
-    add-out
-    mul-out-2
-    slice-write-out-2
-    add-k
-    add-i-2
-    loop-less-2
-    loop-again-2
-    mul-out-3
-    slice-write-out-3
-    add-out-2
-    mul-out-4
-    slice-write-out-4
-    same-length
+    Inv-loop μ-loop returns (λ c. search needs) loop-holds (λ c. search needs) (λ c. search needs) (λ c. search needs)
+    (λ c. search needs) (λ c. search needs) loop-again (λ c. search needs) (λ c. search needs) (λ c. search needs)
+    (λ c. search needs) slice-write-out-2 (λ c. search needs) (λ c. search needs) (λ c. search needs) loop-again-2
+    (λ c. search needs) (λ c. search needs) (λ c. search needs) (λ c. search needs) slice-write-out-4 same-length
     returns-2)

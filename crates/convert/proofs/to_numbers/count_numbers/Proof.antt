@@ -24,23 +24,11 @@ loop-holds c =
     let cells = now (c .args .cells) in
     (search needs, good-proper-from cells (c .pre), omega arith, records-small top cells (good-proper cells (c .pre)))
 
-add-n : tie.Need-add-n Inv-loop μ-loop
-add-n c = search needs
-
-mul-n : tie.Need-mul-n Inv-loop μ-loop
-mul-n c = search needs
-
 shared-slice-read-n : tie.Need-shared-slice-read-n Inv-loop μ-loop
 shared-slice-read-n c =
     let at = c .before .before in
     let w = proper-next top 0 (at .loop .i) (now (at .before .args .cells)) (omega arith) (at .loop .inv .1) in
     omega arith
-
-mul-n-2 : tie.Need-mul-n-2 Inv-loop μ-loop
-mul-n-2 c = search needs
-
-shared-slice-read-n-2 : tie.Need-shared-slice-read-n-2 Inv-loop μ-loop
-shared-slice-read-n-2 c = search needs
 
 sub-n : tie.Need-sub-n Inv-loop μ-loop
 sub-n c =
@@ -61,12 +49,6 @@ add-n-3 c =
     let w = proper-next top 0 (at .loop .i) cells (omega arith) (at .loop .inv .1) in
     omega (arith, records-at cells (at .loop .i) (w .whole))
 
-add-i : tie.Need-add-i Inv-loop μ-loop
-add-i c = search needs
-
-loop-less : tie.Need-loop-less Inv-loop μ-loop
-loop-less c = search needs
-
 loop-again : tie.Need-loop-again Inv-loop μ-loop
 loop-again c =
     let at = c .before .before .before in
@@ -75,9 +57,6 @@ loop-again c =
     let w = proper-next top 0 i cells (omega arith) (at .loop .inv .1) in
     let more = proper-weaker top top 0 (getD cells (i + 1) 0 + 2) (drop (i + 2) cells) (omega arith) (omega arith) (w .rest) in
     (omega arith, more, omega (arith, records-at cells i (w .whole)), at .loop .inv .3)
-
-cast-result : tie.Need-cast-result Inv-loop μ-loop
-cast-result c = search needs
 
 returns : tie.Need-returns Inv-loop μ-loop
 returns c =
@@ -88,19 +67,6 @@ pub count-numbers-spec : {M : Type 1} → statement M
 count-numbers-spec =
     tie.close
     (tie.spec
-    Inv-loop
-    μ-loop
-    loop-holds
-    add-n
-    mul-n
-    shared-slice-read-n
-    mul-n-2
-    shared-slice-read-n-2
-    sub-n
-    add-n-2
-    add-n-3
-    add-i
-    loop-less
-    loop-again
-    cast-result
+    Inv-loop μ-loop loop-holds (λ c. search needs) (λ c. search needs) shared-slice-read-n (λ c. search needs)
+    (λ c. search needs) sub-n add-n-2 add-n-3 (λ c. search needs) (λ c. search needs) loop-again (λ c. search needs)
     returns)

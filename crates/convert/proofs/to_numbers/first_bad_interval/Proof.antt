@@ -27,27 +27,6 @@ loop-holds c =
     let cells = now (c .args .cells) in
     (search needs, refl, first-start (badInterval cells) ((length cells + 1) / 2))
 
-mul-l : tie.Need-mul-l Inv-loop μ-loop
-mul-l c = search needs
-
-mul-l-2 : tie.Need-mul-l-2 Inv-loop μ-loop
-mul-l-2 c = search needs
-
-shared-slice-read-l : tie.Need-shared-slice-read-l Inv-loop μ-loop
-shared-slice-read-l c = search needs
-
-mul-u : tie.Need-mul-u Inv-loop μ-loop
-mul-u c = search needs
-
-add-u : tie.Need-add-u Inv-loop μ-loop
-add-u c = search needs
-
-mul-u-2 : tie.Need-mul-u-2 Inv-loop μ-loop
-mul-u-2 c = search needs
-
-shared-slice-read-u : tie.Need-shared-slice-read-u Inv-loop μ-loop
-shared-slice-read-u c = search needs
-
 returns : tie.Need-returns Inv-loop μ-loop
 returns c =
     let at = c .before .before .before .before in
@@ -71,15 +50,6 @@ returns-3 c =
     let i = at .loop .i in
     let bad = bad-interval-high cells i (at .loop .least) (at .loop .inv .1) (omega arith) (c .before .before .if1 .left) (c .before .if2 .left) (c .if3 .taken) in
     sym (at .loop .inv .2 ∙ first-hit (badInterval cells) i ((length cells + 1) / 2) (omega arith) bad)
-
-add-least : tie.Need-add-least Inv-loop μ-loop
-add-least c = search needs
-
-add-i : tie.Need-add-i Inv-loop μ-loop
-add-i c = search needs
-
-loop-less : tie.Need-loop-less Inv-loop μ-loop
-loop-less c = search needs
 
 loop-again : tie.Need-loop-again Inv-loop μ-loop
 loop-again c =
@@ -108,22 +78,6 @@ pub first-bad-interval-spec : {M : Type 1} → statement M
 first-bad-interval-spec =
     tie.close
     (tie.spec
-    Inv-loop
-    μ-loop
-    loop-holds
-    mul-l
-    mul-l-2
-    shared-slice-read-l
-    mul-u
-    add-u
-    mul-u-2
-    shared-slice-read-u
-    returns
-    returns-2
-    returns-3
-    add-least
-    add-i
-    loop-less
-    loop-again
-    returns-4
-    returns-5)
+    Inv-loop μ-loop loop-holds (λ c. search needs) (λ c. search needs) (λ c. search needs) (λ c. search needs)
+    (λ c. search needs) (λ c. search needs) (λ c. search needs) returns returns-2 returns-3 (λ c. search needs)
+    (λ c. search needs) (λ c. search needs) loop-again returns-4 returns-5)

@@ -6,20 +6,11 @@ use borrow.Author.Needs.{needs}
 use Rattle.convert.proofs.to_numbers.to_numbers.Statement.{statement}
 use Rattle.convert.proofs.to_numbers.to_numbers.Tie as tie
 
-first-bad-interval-requires : tie.Need-first-bad-interval-requires
-first-bad-interval-requires c κs = search needs
-
-enum-known-bad : tie.Need-enum-known-bad
-enum-known-bad c = search needs
-
 returns : tie.Need-returns
 returns c =
     let at = c .before .before .before in
     let e = sym (at .first-bad-interval .ensures) ∙ c .before .bad .given .1 in
     record { answer = rw e; cells = rw e }
-
-enum-told : tie.Need-enum-told
-enum-told c = search needs
 
 count-numbers-requires : tie.Need-count-numbers-requires
 count-numbers-requires c κs =
@@ -39,9 +30,6 @@ write-numbers-requires c κs =
     let e = sym (at .first-bad-interval .ensures) ∙ c .before .before .before .enum-told .given .1 in
     (e, omega (arith, c .before .before .count-numbers .ensures))
 
-same-length : tie.Need-same-length
-same-length c = search needs
-
 returns-3 : tie.Need-returns-3
 returns-3 c =
     let called = c .before .before in
@@ -56,12 +44,5 @@ pub to-numbers-spec : {M : Type 1} → statement M
 to-numbers-spec =
     tie.close
     (tie.spec
-    first-bad-interval-requires
-    enum-known-bad
-    returns
-    enum-told
-    count-numbers-requires
-    returns-2
-    write-numbers-requires
-    same-length
-    returns-3)
+    (λ c κs. search needs) (λ c. search needs) returns (λ c. search needs) count-numbers-requires returns-2
+    write-numbers-requires (λ c. search needs) returns-3)

@@ -31,18 +31,6 @@ loop-holds c =
     let start = c .before .before in
     (search needs, good-proper-from (now (start .args .cells)) (start .pre .0), refl, omega (arith, start .pre .1), refl)
 
-mul-l : tie.Need-mul-l Inv-loop μ-loop
-mul-l c = search needs
-
-shared-slice-read-l : tie.Need-shared-slice-read-l Inv-loop μ-loop
-shared-slice-read-l c = search needs
-
-add-end : tie.Need-add-end Inv-loop μ-loop
-add-end c = search needs
-
-mul-end : tie.Need-mul-end Inv-loop μ-loop
-mul-end c = search needs
-
 shared-slice-read-end : tie.Need-shared-slice-read-end Inv-loop μ-loop
 shared-slice-read-end c =
     let at = c .before .before .before in
@@ -86,12 +74,6 @@ add-k c =
     let w = proper-next top 0 (at .loop .i) cells (omega arith) (at .loop .inv .1) in
     omega (arith, records-at cells (at .loop .i) (w .whole))
 
-add-i : tie.Need-add-i Inv-loop μ-loop
-add-i c = search needs
-
-loop-less : tie.Need-loop-less Inv-loop μ-loop
-loop-less c = search needs
-
 loop-again : tie.Need-loop-again Inv-loop μ-loop
 loop-again c =
     let at = c .before .before .before .before .before .before .before in
@@ -129,21 +111,6 @@ pub write-numbers-spec : {M : Type 1} → statement M
 write-numbers-spec =
     tie.close
     (tie.spec
-    Inv-loop
-    μ-loop
-    loop-holds
-    mul-l
-    shared-slice-read-l
-    add-end
-    mul-end
-    shared-slice-read-end
-    add-end-2
-    write-range-requires
-    sub-k
-    cast-k
-    add-k
-    add-i
-    loop-less
-    loop-again
-    same-length
-    returns)
+    Inv-loop μ-loop loop-holds (λ c. search needs) (λ c. search needs) (λ c. search needs) (λ c. search needs)
+    shared-slice-read-end add-end-2 write-range-requires sub-k cast-k add-k (λ c. search needs) (λ c. search needs)
+    loop-again same-length returns)

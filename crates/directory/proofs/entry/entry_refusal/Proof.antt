@@ -8,15 +8,6 @@ use Rattle.directory.proofs.entry.entry_refusal.Statement.{statement}
 use Rattle.directory.proofs.entry.entry_refusal.Tie as tie
 use borrow.Author.Needs.{needs}
 
-check-index-requires : tie.Need-check-index-requires
-check-index-requires c κs = search needs
-
-enum-known-refusal : tie.Need-enum-known-refusal
-enum-known-refusal c = search needs
-
-enum-told : tie.Need-enum-told
-enum-told c = search needs
-
 word-count-requires : tie.Need-word-count-requires
 word-count-requires c κs =
     good-sound (c .before .before .before .before .args .index .now) (sym (c .before .before .check-index .ensures) ∙ c .enum-told .given .1)
@@ -44,10 +35,4 @@ pub entry-refusal-spec : {M : Type 1} → statement M
 entry-refusal-spec =
     tie.close
     (tie.spec
-    check-index-requires
-    enum-known-refusal
-    enum-told
-    word-count-requires
-    returns
-    returns-2
-    returns-3)
+    (λ c κs. search needs) (λ c. search needs) (λ c. search needs) word-count-requires returns returns-2 returns-3)

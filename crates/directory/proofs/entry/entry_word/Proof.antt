@@ -7,22 +7,10 @@ use Rattle.directory.proofs.entry.entry_word.Statement.{statement}
 use Rattle.directory.proofs.entry.entry_word.Tie as tie
 use borrow.Author.Needs.{needs}
 
-entry-refusal-requires : tie.Need-entry-refusal-requires
-entry-refusal-requires c κs = search needs
-
-enum-told : tie.Need-enum-told
-enum-told c = search needs
-
 word-of-requires : tie.Need-word-of-requires
 word-of-requires c κs =
     let a = c .before .before .before .before .args in
     entry-good (a .index .now) (a .entry) (sym (c .before .before .entry-refusal .ensures) ∙ c .enum-told .given .1)
-
-enum-told-2 : tie.Need-enum-told-2
-enum-told-2 c = search needs
-
-slice-aggregate-result : tie.Need-slice-aggregate-result
-slice-aggregate-result c = search needs
 
 returns : tie.Need-returns
 returns c =
@@ -41,10 +29,5 @@ pub entry-word-spec : {M : Type 1} → statement M
 entry-word-spec =
     tie.close
     (tie.spec
-    entry-refusal-requires
-    enum-told
-    word-of-requires
-    enum-told-2
-    slice-aggregate-result
-    returns
+    (λ c κs. search needs) (λ c. search needs) word-of-requires (λ c. search needs) (λ c. search needs) returns
     returns-2)

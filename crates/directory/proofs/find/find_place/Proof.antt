@@ -26,22 +26,10 @@ loop-holds c =
     let w = place-splits (start .args .index .now) (start .pre) (start .args .word .now) .within in
     (omega arith, rw n w, rw n (omega arith), c .word-count .ensures .1)
 
-sub-middle : tie.Need-sub-middle Inv-loop μ-loop
-sub-middle c = search needs
-
-add-middle : tie.Need-add-middle Inv-loop μ-loop
-add-middle c = search needs
-
 stands-before-requires : tie.Need-stands-before-requires Inv-loop μ-loop
 stands-before-requires c κs =
     let l = c .before .loop in
     (c .before .before .before .before .before .pre, omega (arith, l .inv .2))
-
-add-low : tie.Need-add-low Inv-loop μ-loop
-add-low c = search needs
-
-loop-less : tie.Need-loop-less Inv-loop μ-loop
-loop-less c = search needs
 
 loop-again : tie.Need-loop-again Inv-loop μ-loop
 loop-again c =
@@ -53,9 +41,6 @@ loop-again c =
     let g = place-behind (start .args .index .now) (start .pre) (start .args .word .now) middle (omega (arith, l .inv .2)) e in
     (g, l .inv .1, l .inv .2, l .inv .3)
 
-loop-less-2 : tie.Need-loop-less-2 Inv-loop μ-loop
-loop-less-2 c = search needs
-
 loop-again-2 : tie.Need-loop-again-2 Inv-loop μ-loop
 loop-again-2 c =
     let at = c .before .before .before in
@@ -66,23 +51,9 @@ loop-again-2 c =
     let g = place-not-behind (start .args .index .now) (start .pre) (start .args .word .now) middle e in
     (l .inv .0, g, omega (arith, l .inv .2), omega (arith, l .inv .3))
 
-returns : tie.Need-returns Inv-loop μ-loop
-returns c = search needs
-
 pub find-place-spec : {M : Type 1} → statement M
 find-place-spec =
     tie.close
     (tie.spec
-    Inv-loop
-    μ-loop
-    word-count-requires
-    loop-holds
-    sub-middle
-    add-middle
-    stands-before-requires
-    add-low
-    loop-less
-    loop-again
-    loop-less-2
-    loop-again-2
-    returns)
+    Inv-loop μ-loop word-count-requires loop-holds (λ c. search needs) (λ c. search needs) stands-before-requires
+    (λ c. search needs) (λ c. search needs) loop-again (λ c. search needs) loop-again-2 (λ c. search needs))

@@ -9,30 +9,12 @@ use Rattle.directory.proofs.find.find_word.Statement.{statement}
 use Rattle.directory.proofs.find.find_word.Tie as tie
 use borrow.Author.Needs.{needs}
 
-find-place-requires : tie.Need-find-place-requires
-find-place-requires c κs = search needs
-
-word-count-requires : tie.Need-word-count-requires
-word-count-requires c κs = search needs
-
 returns : tie.Need-returns
 returns c =
     let found = c .before .before in
     let start = found .before .before .before in
     let n = c .before .word-count .ensures .0 in
     sym (place-nowhere (start .args .index .now) (start .pre) (start .args .word .now) (found .find-place .result) (found .find-place .ensures) (λ h q. omega (arith, c .if1 .taken)))
-
-order-at-requires : tie.Need-order-at-requires
-order-at-requires c κs = search needs
-
-enum-told : tie.Need-enum-told
-enum-told c = search needs
-
-enum-told-2 : tie.Need-enum-told-2
-enum-told-2 c = search needs
-
-enum-told-3 : tie.Need-enum-told-3
-enum-told-3 c = search needs
 
 returns-2 : tie.Need-returns-2
 returns-2 c =
@@ -70,13 +52,5 @@ pub find-word-spec : {M : Type 1} → statement M
 find-word-spec =
     tie.close
     (tie.spec
-    find-place-requires
-    word-count-requires
-    returns
-    order-at-requires
-    enum-told
-    enum-told-2
-    enum-told-3
-    returns-2
-    returns-3
-    returns-4)
+    (λ c κs. search needs) (λ c κs. search needs) returns (λ c κs. search needs) (λ c. search needs) (λ c. search needs)
+    (λ c. search needs) returns-2 returns-3 returns-4)

@@ -6,24 +6,9 @@ use Rattle.directory.proofs.find.look_up.Statement.{statement}
 use Rattle.directory.proofs.find.look_up.Tie as tie
 use borrow.Author.Needs.{needs}
 
-check-index-requires : tie.Need-check-index-requires
-check-index-requires c κs = search needs
-
-enum-known-refusal : tie.Need-enum-known-refusal
-enum-known-refusal c = search needs
-
-enum-told : tie.Need-enum-told
-enum-told c = search needs
-
 find-word-requires : tie.Need-find-word-requires
 find-word-requires c κs =
     good-sound (c .before .before .before .before .before .args .index .now) (sym (c .before .before .check-index .ensures) ∙ c .enum-told .given .1)
-
-enum-known-i : tie.Need-enum-known-i
-enum-known-i c = search needs
-
-enum-told-2 : tie.Need-enum-told-2
-enum-told-2 c = search needs
 
 returns : tie.Need-returns
 returns c =
@@ -46,12 +31,5 @@ pub look-up-spec : {M : Type 1} → statement M
 look-up-spec =
     tie.close
     (tie.spec
-    check-index-requires
-    enum-known-refusal
-    enum-told
-    find-word-requires
-    enum-known-i
-    enum-told-2
-    returns
-    returns-2
-    returns-3)
+    (λ c κs. search needs) (λ c. search needs) (λ c. search needs) find-word-requires (λ c. search needs)
+    (λ c. search needs) returns returns-2 returns-3)

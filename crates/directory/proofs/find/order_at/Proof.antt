@@ -7,12 +7,6 @@ use Rattle.directory.proofs.find.order_at.Statement.{statement}
 use Rattle.directory.proofs.find.order_at.Tie as tie
 use borrow.Author.Needs.{needs}
 
-word-of-requires : tie.Need-word-of-requires
-word-of-requires c κs = search needs
-
-compare-requires : tie.Need-compare-requires
-compare-requires c κs = search needs
-
 returns : tie.Need-returns
 unfolding wordOf
 returns c =
@@ -20,4 +14,4 @@ returns c =
     c .compare .ensures ∙ ap (λ (w : Slice). orderOf (w .bytes) (start .args .word .now)) (c .before .word-of .ensures)
 
 pub order-at-spec : {M : Type 1} → statement M
-order-at-spec = tie.close (tie.spec word-of-requires compare-requires returns)
+order-at-spec = tie.close (tie.spec (λ c κs. search needs) (λ c κs. search needs) returns)

@@ -6,18 +6,6 @@ use Rattle.directory.proofs.find.stands_before.Statement.{statement}
 use Rattle.directory.proofs.find.stands_before.Tie as tie
 use borrow.Author.Needs.{needs}
 
-order-at-requires : tie.Need-order-at-requires
-order-at-requires c κs = search needs
-
-enum-told : tie.Need-enum-told
-enum-told c = search needs
-
-enum-told-2 : tie.Need-enum-told-2
-enum-told-2 c = search needs
-
-enum-told-3 : tie.Need-enum-told-3
-enum-told-3 c = search needs
-
 returns : tie.Need-returns
 returns c =
     let start = c .before .before .before .before .before in
@@ -39,4 +27,5 @@ returns-3 c =
 pub stands-before-spec : {M : Type 1} → statement M
 stands-before-spec =
     tie.close
-    (tie.spec order-at-requires enum-told enum-told-2 enum-told-3 returns returns-2 returns-3)
+    (tie.spec
+    (λ c κs. search needs) (λ c. search needs) (λ c. search needs) (λ c. search needs) returns returns-2 returns-3)

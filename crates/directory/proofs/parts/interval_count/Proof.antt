@@ -8,15 +8,6 @@ use Rattle.directory.proofs.EntryIntervals.{entry-intervals, entry-few}
 use Rattle.directory.proofs.parts.interval_count.Statement.{statement}
 use Rattle.directory.proofs.parts.interval_count.Tie as tie
 
-singles-of-requires : tie.Need-singles-of-requires
-singles-of-requires c κs = search needs
-
-lower-of-requires : tie.Need-lower-of-requires
-lower-of-requires c κs = search needs
-
-add-result : tie.Need-add-result
-add-result c = search needs
-
 returns : tie.Need-returns
 returns c =
     let start = c .before .before .before in
@@ -30,4 +21,4 @@ returns c =
     (omega arith, omega arith)
 
 pub interval-count-spec : {M : Type 1} → statement M
-interval-count-spec = tie.close (tie.spec singles-of-requires lower-of-requires add-result returns)
+interval-count-spec = tie.close (tie.spec (λ c κs. search needs) (λ c κs. search needs) (λ c. search needs) returns)

@@ -6,30 +6,6 @@ use Rattle.directory.proofs.parts.lower_of.Statement.{statement}
 use Rattle.directory.proofs.parts.lower_of.Tie as tie
 use borrow.Author.Needs.{needs}
 
-sound-entry-requires : tie.Need-sound-entry-requires
-sound-entry-requires c κs = search needs
-
-mul-start : tie.Need-mul-start
-mul-start c = search needs
-
-add-start : tie.Need-add-start
-add-start c = search needs
-
-mul-end : tie.Need-mul-end
-mul-end c = search needs
-
-add-end : tie.Need-add-end
-add-end c = search needs
-
-sub-result : tie.Need-sub-result
-sub-result c = search needs
-
-part-result-start : tie.Need-part-result-start
-part-result-start c = search needs
-
-part-result-end : tie.Need-part-result-end
-part-result-end c = search needs
-
 returns : tie.Need-returns
 unfolding lowerOf
 returns c =
@@ -44,12 +20,5 @@ pub lower-of-spec : {M : Type 1} → statement M
 lower-of-spec =
     tie.close
     (tie.spec
-    sound-entry-requires
-    mul-start
-    add-start
-    mul-end
-    add-end
-    sub-result
-    part-result-start
-    part-result-end
-    returns)
+    (λ c κs. search needs) (λ c. search needs) (λ c. search needs) (λ c. search needs) (λ c. search needs)
+    (λ c. search needs) (λ c. search needs) (λ c. search needs) returns)

@@ -6,24 +6,6 @@ use Rattle.directory.proofs.parts.singles_of.Statement.{statement}
 use Rattle.directory.proofs.parts.singles_of.Tie as tie
 use borrow.Author.Needs.{needs}
 
-sound-entry-requires : tie.Need-sound-entry-requires
-sound-entry-requires c κs = search needs
-
-mul-end : tie.Need-mul-end
-mul-end c = search needs
-
-add-end : tie.Need-add-end
-add-end c = search needs
-
-sub-result : tie.Need-sub-result
-sub-result c = search needs
-
-part-result-start : tie.Need-part-result-start
-part-result-start c = search needs
-
-part-result-end : tie.Need-part-result-end
-part-result-end c = search needs
-
 returns : tie.Need-returns
 unfolding singlesOf
 returns c =
@@ -38,10 +20,5 @@ pub singles-of-spec : {M : Type 1} → statement M
 singles-of-spec =
     tie.close
     (tie.spec
-    sound-entry-requires
-    mul-end
-    add-end
-    sub-result
-    part-result-start
-    part-result-end
-    returns)
+    (λ c κs. search needs) (λ c. search needs) (λ c. search needs) (λ c. search needs) (λ c. search needs)
+    (λ c. search needs) returns)

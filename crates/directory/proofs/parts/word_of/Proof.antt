@@ -7,21 +7,6 @@ use Rattle.directory.proofs.parts.word_of.Statement.{statement}
 use Rattle.directory.proofs.parts.word_of.Tie as tie
 use borrow.Author.Needs.{needs}
 
-sound-entry-requires : tie.Need-sound-entry-requires
-sound-entry-requires c κs = search needs
-
-add-end : tie.Need-add-end
-add-end c = search needs
-
-sub-result : tie.Need-sub-result
-sub-result c = search needs
-
-part-result-start : tie.Need-part-result-start
-part-result-start c = search needs
-
-part-result-end : tie.Need-part-result-end
-part-result-end c = search needs
-
 returns : tie.Need-returns
 returns c =
     let a = c .before .before .before .before .args in
@@ -33,4 +18,5 @@ returns c =
 pub word-of-spec : {M : Type 1} → statement M
 word-of-spec =
     tie.close
-    (tie.spec sound-entry-requires add-end sub-result part-result-start part-result-end returns)
+    (tie.spec
+    (λ c κs. search needs) (λ c. search needs) (λ c. search needs) (λ c. search needs) (λ c. search needs) returns)

@@ -5,15 +5,6 @@ use Rattle.directory.proofs.probe.probe_entry.Statement.{statement}
 use Rattle.directory.proofs.probe.probe_entry.Tie as tie
 use borrow.Author.Needs.{needs}
 
-entry-refusal-requires : tie.Need-entry-refusal-requires
-entry-refusal-requires c κs = search needs
-
-enum-known-refusal : tie.Need-enum-known-refusal
-enum-known-refusal c = search needs
-
-enum-told : tie.Need-enum-told
-enum-told c = search needs
-
 probe-sound-requires : tie.Need-probe-sound-requires
 probe-sound-requires c κs =
     let a = c .before .before .before .before .args in
@@ -33,9 +24,4 @@ pub probe-entry-spec : {M : Type 1} → statement M
 probe-entry-spec =
     tie.close
     (tie.spec
-    entry-refusal-requires
-    enum-known-refusal
-    enum-told
-    probe-sound-requires
-    returns
-    returns-2)
+    (λ c κs. search needs) (λ c. search needs) (λ c. search needs) probe-sound-requires returns returns-2)

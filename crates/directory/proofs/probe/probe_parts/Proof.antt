@@ -10,15 +10,6 @@ use Rattle.directory.proofs.probe.probe_parts.Statement.{statement}
 use Rattle.directory.proofs.probe.probe_parts.Tie as tie
 use borrow.Author.Needs.{needs}
 
-singles-of-requires : tie.Need-singles-of-requires
-singles-of-requires c κs = search needs
-
-lower-of-requires : tie.Need-lower-of-requires
-lower-of-requires c κs = search needs
-
-upper-of-requires : tie.Need-upper-of-requires
-upper-of-requires c κs = search needs
-
 probe-list-requires : tie.Need-probe-list-requires
 probe-list-requires c κs =
     let start = c .before .before .before .before in (
@@ -43,4 +34,5 @@ returns c =
 pub probe-parts-spec : {M : Type 1} → statement M
 probe-parts-spec =
     tie.close
-    (tie.spec singles-of-requires lower-of-requires upper-of-requires probe-list-requires returns)
+    (tie.spec
+    (λ c κs. search needs) (λ c κs. search needs) (λ c κs. search needs) probe-list-requires returns)

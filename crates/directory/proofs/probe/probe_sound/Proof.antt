@@ -7,9 +7,6 @@ use Rattle.directory.proofs.probe.probe_sound.Statement.{statement}
 use Rattle.directory.proofs.probe.probe_sound.Tie as tie
 use borrow.Author.Needs.{needs}
 
-bad-range-requires : tie.Need-bad-range-requires
-bad-range-requires c κs = search needs
-
 returns : tie.Need-returns
 returns c =
     let a = c .before .before .before .args in
@@ -31,4 +28,4 @@ returns-2 c =
     (sym (c .before .before .bad-range .ensures) ∙ c .before .if1 .left) (e .0) (e .1)
 
 pub probe-sound-spec : {M : Type 1} → statement M
-probe-sound-spec = tie.close (tie.spec bad-range-requires returns probe-parts-requires returns-2)
+probe-sound-spec = tie.close (tie.spec (λ c κs. search needs) returns probe-parts-requires returns-2)

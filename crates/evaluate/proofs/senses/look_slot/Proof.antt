@@ -12,31 +12,10 @@ use borrow.Author.Needs.{needs}
 use Rattle.evaluate.proofs.senses.look_slot.Statement.{statement}
 use Rattle.evaluate.proofs.senses.look_slot.Tie as tie
 
-mul-entry : tie.Need-mul-entry
-mul-entry c = search needs
-
-shared-slice-read-entry : tie.Need-shared-slice-read-entry
-shared-slice-read-entry c = search needs
-
-word-count-requires : tie.Need-word-count-requires
-word-count-requires c κs = search needs
-
 returns : tie.Need-returns
 returns c =
     let start = c .before .before .before .before .before .before in
     (refl, slot-out (start .args .index .now) (start .args .entries .now) (start .args .k) (start .args .x) (omega (arith, c .before .word-count .ensures .0)) (start .pre .2))
-
-singles-of-requires : tie.Need-singles-of-requires
-singles-of-requires c κs = search needs
-
-lower-of-requires : tie.Need-lower-of-requires
-lower-of-requires c κs = search needs
-
-upper-of-requires : tie.Need-upper-of-requires
-upper-of-requires c κs = search needs
-
-hint-of-requires : tie.Need-hint-of-requires
-hint-of-requires c κs = search needs
 
 place-of-requires : tie.Need-place-of-requires
 place-of-requires c κs =
@@ -46,9 +25,6 @@ place-of-requires c κs =
     let i = getD (start .args .entries .now) (start .args .k) 0 in
     let kept = kept-facts top (numbersIn (singlesOf index i)) (numbersIn (lowerOf index i)) (numbersIn (upperOf index i)) (list-kept index (start .pre .0 .sound) i (omega (arith, found .before .word-count .ensures .0))) in
     rw (c .before .before .before .before .singles-of .ensures, c .before .before .upper-of .ensures) (kept .singles-ascend, kept .upper-ascend)
-
-keep-hint-requires : tie.Need-keep-hint-requires
-keep-hint-requires c κs = search needs
 
 sense-at-requires : tie.Need-sense-at-requires
 sense-at-requires c κs =
@@ -84,16 +60,6 @@ pub look-slot-spec : {M : Type 1} → statement M
 look-slot-spec =
     tie.close
     (tie.spec
-    mul-entry
-    shared-slice-read-entry
-    word-count-requires
-    returns
-    singles-of-requires
-    lower-of-requires
-    upper-of-requires
-    hint-of-requires
-    place-of-requires
-    keep-hint-requires
-    sense-at-requires
-    same-length
+    (λ c. search needs) (λ c. search needs) (λ c κs. search needs) returns (λ c κs. search needs) (λ c κs. search needs)
+    (λ c κs. search needs) (λ c κs. search needs) place-of-requires (λ c κs. search needs) sense-at-requires same-length
     returns-2)

@@ -7,15 +7,6 @@ use borrow.Author.Tests.{eq-eqb, ne-eqb}
 use Rattle.evaluate.proofs.senses.pack.Statement.{statement}
 use Rattle.evaluate.proofs.senses.pack.Tie as tie
 
-mul-result : tie.Need-mul-result
-mul-result c = search needs
-
-add-result : tie.Need-add-result
-add-result c = search needs
-
-mul-result-2 : tie.Need-mul-result-2
-mul-result-2 c = search needs
-
 returns : tie.Need-returns
 returns c =
     let until = c .before .before .args .sense .until in
@@ -27,4 +18,4 @@ returns-2 c =
     (omega arith, ne-eqb (2 * until % 2) 1 (λ (e : 2 * until % 2 ≡ 1). omega arith) ∙ sym (c .before .if1 .left))
 
 pub pack-spec : {M : Type 1} → statement M
-pack-spec = tie.close (tie.spec mul-result add-result mul-result-2 returns returns-2)
+pack-spec = tie.close (tie.spec (λ c. search needs) (λ c. search needs) (λ c. search needs) returns returns-2)

@@ -6,33 +6,6 @@ use borrow.Author.Needs.{needs}
 use Rattle.evaluate.proofs.senses.renew_sense.Statement.{statement}
 use Rattle.evaluate.proofs.senses.renew_sense.Tie as tie
 
-mul-if1 : tie.Need-mul-if1
-mul-if1 c = search needs
-
-slice-read-if1 : tie.Need-slice-read-if1
-slice-read-if1 c = search needs
-
-returns : tie.Need-returns
-returns c = search needs
-
-look-slot-requires : tie.Need-look-slot-requires
-look-slot-requires c κs = search needs
-
-pack-requires : tie.Need-pack-requires
-pack-requires c κs = search needs
-
-mul-senses : tie.Need-mul-senses
-mul-senses c = search needs
-
-slice-write-senses : tie.Need-slice-write-senses
-slice-write-senses c = search needs
-
-same-length : tie.Need-same-length
-same-length c = search needs
-
-same-length-2 : tie.Need-same-length-2
-same-length-2 c = search needs
-
 returns-2 : tie.Need-returns-2
 returns-2 c =
     let start = c .before .before .before .before .before .before .before .before .before .before .before in
@@ -48,13 +21,5 @@ pub renew-sense-spec : {M : Type 1} → statement M
 renew-sense-spec =
     tie.close
     (tie.spec
-    mul-if1
-    slice-read-if1
-    returns
-    look-slot-requires
-    pack-requires
-    mul-senses
-    slice-write-senses
-    same-length
-    same-length-2
-    returns-2)
+    (λ c. search needs) (λ c. search needs) (λ c. search needs) (λ c κs. search needs) (λ c κs. search needs)
+    (λ c. search needs) (λ c. search needs) (λ c. search needs) (λ c. search needs) returns-2)

@@ -76,13 +76,4 @@ pub renew-senses-spec : {M : Type 1} → statement M
 renew-senses-spec =
     tie.close
     (tie.spec
-    Inv-loop
-    μ-loop
-    loop-holds
-    renew-sense-requires
-    add-k
-    loop-less
-    loop-again
-    same-length
-    same-length-2
-    returns)
+    Inv-loop μ-loop loop-holds renew-sense-requires add-k loop-less loop-again same-length same-length-2 returns)

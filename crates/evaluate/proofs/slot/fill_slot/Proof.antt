@@ -16,27 +16,6 @@ use borrow.Author.Needs.{needs}
 use Rattle.evaluate.proofs.slot.fill_slot.Statement.{statement}
 use Rattle.evaluate.proofs.slot.fill_slot.Tie as tie
 
-mul-entry : tie.Need-mul-entry
-mul-entry c = search needs
-
-shared-slice-read-entry : tie.Need-shared-slice-read-entry
-shared-slice-read-entry c = search needs
-
-word-count-requires : tie.Need-word-count-requires
-word-count-requires c κs = search needs
-
-singles-of-requires : tie.Need-singles-of-requires
-singles-of-requires c κs = search needs
-
-lower-of-requires : tie.Need-lower-of-requires
-lower-of-requires c κs = search needs
-
-upper-of-requires : tie.Need-upper-of-requires
-upper-of-requires c κs = search needs
-
-hint-of-requires : tie.Need-hint-of-requires
-hint-of-requires c κs = search needs
-
 place-of-requires : tie.Need-place-of-requires
 place-of-requires c κs =
     let st = c .before .before .before .before .before .before .before .before .before .before .before .before in
@@ -63,9 +42,6 @@ keep-hint-requires c κs = let st = c .before .before .before .before .before .b
 same-length : tie.Need-same-length
 same-length c = search needs
 
-same-length-2 : tie.Need-same-length-2
-same-length-2 c = search needs
-
 returns : tie.Need-returns
 returns c =
     let st = c .before .before .before .before .before .before .before .before .before .before .before .before .before .before .before .before .before .before .before .before .before in
@@ -90,17 +66,6 @@ pub fill-slot-spec : {M : Type 1} → statement M
 fill-slot-spec =
     tie.close
     (tie.spec
-    mul-entry
-    shared-slice-read-entry
-    word-count-requires
-    singles-of-requires
-    lower-of-requires
-    upper-of-requires
-    hint-of-requires
-    place-of-requires
-    fill-list-requires
-    keep-hint-requires
-    same-length
-    same-length-2
-    returns
-    returns-2)
+    (λ c. search needs) (λ c. search needs) (λ c κs. search needs) (λ c κs. search needs) (λ c κs. search needs)
+    (λ c κs. search needs) (λ c κs. search needs) place-of-requires fill-list-requires keep-hint-requires same-length
+    (λ c. search needs) returns returns-2)

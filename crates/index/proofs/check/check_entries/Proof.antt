@@ -6,24 +6,9 @@ use borrow.Author.Needs.{needs}
 use Rattle.index.proofs.check.check_entries.Statement.{statement}
 use Rattle.index.proofs.check.check_entries.Tie as tie
 
-first-bad-entry-requires : tie.Need-first-bad-entry-requires
-first-bad-entry-requires c κs = search needs
-
-enum-known-i : tie.Need-enum-known-i
-enum-known-i c = search needs
-
-enum-told : tie.Need-enum-told
-enum-told c = search needs
-
 first-bad-list-requires : tie.Need-first-bad-list-requires
 first-bad-list-requires c κs =
     (c .before .before .before .before .pre, entries-good (now (c .before .before .before .before .args .index)) (sym (c .before .before .first-bad-entry .ensures) ∙ c .enum-told .given .1))
-
-enum-known-i-2 : tie.Need-enum-known-i-2
-enum-known-i-2 c = search needs
-
-enum-told-2 : tie.Need-enum-told-2
-enum-told-2 c = search needs
 
 returns : tie.Need-returns
 returns c =
@@ -45,12 +30,5 @@ pub check-entries-spec : {M : Type 1} → statement M
 check-entries-spec =
     tie.close
     (tie.spec
-    first-bad-entry-requires
-    enum-known-i
-    enum-told
-    first-bad-list-requires
-    enum-known-i-2
-    enum-told-2
-    returns
-    returns-2
-    returns-3)
+    (λ c κs. search needs) (λ c. search needs) (λ c. search needs) first-bad-list-requires (λ c. search needs)
+    (λ c. search needs) returns returns-2 returns-3)

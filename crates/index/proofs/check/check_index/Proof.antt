@@ -19,18 +19,12 @@ returns-2 : tie.Need-returns-2
 returns-2 c =
     sym (check-long (now (c .before .before .before .args .index)) (omega arith) (omega arith))
 
-read-trailer-requires : tie.Need-read-trailer-requires
-read-trailer-requires c κs = search needs
-
 returns-3 : tie.Need-returns-3
 returns-3 c =
     let index = now (c .before .before .before .before .before .before .args .index) in
     let is = c .before .before .read-trailer .ensures in
     ap (λ n. Refused (Edition n)) (is .edition)
     ∙ sym (check-edition index (length-good index (omega arith) (omega arith)) (λ e. c .if3 .taken (is .edition ∙ e)))
-
-trailer-good-requires : tie.Need-trailer-good-requires
-trailer-good-requires c κs = search needs
 
 returns-4 : tie.Need-returns-4
 returns-4 c =
@@ -62,11 +56,4 @@ pub check-index-spec : {M : Type 1} → statement M
 check-index-spec =
     tie.close
     (tie.spec
-    returns
-    returns-2
-    read-trailer-requires
-    returns-3
-    trailer-good-requires
-    returns-4
-    check-entries-requires
-    returns-5)
+    returns returns-2 (λ c κs. search needs) returns-3 (λ c κs. search needs) returns-4 check-entries-requires returns-5)

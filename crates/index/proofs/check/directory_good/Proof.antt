@@ -4,18 +4,6 @@ use borrow.Author.Needs.{needs}
 use Rattle.index.proofs.check.directory_good.Statement.{statement}
 use Rattle.index.proofs.check.directory_good.Tie as tie
 
-add-result : tie.Need-add-result
-add-result c = search needs
-
-add-result-2 : tie.Need-add-result-2
-add-result-2 c = search needs
-
-list-length-requires : tie.Need-list-length-requires
-list-length-requires c κs = search needs
-
-add-result-3 : tie.Need-add-result-3
-add-result-3 c = search needs
-
 returns : tie.Need-returns
 returns c =
     let a = c .before .before .before .before .before .before .before .args in
@@ -23,4 +11,6 @@ returns c =
 
 pub directory-good-spec : {M : Type 1} → statement M
 directory-good-spec =
-    tie.close (tie.spec add-result add-result-2 list-length-requires add-result-3 returns)
+    tie.close
+    (tie.spec
+    (λ c. search needs) (λ c. search needs) (λ c κs. search needs) (λ c. search needs) returns)

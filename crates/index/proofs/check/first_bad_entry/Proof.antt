@@ -31,12 +31,6 @@ loop-holds : tie.Need-loop-holds Inv-loop μ-loop
 loop-holds c =
     going-start (now (c .before .args .index)) (c .before .args .trailer .words) (c .before .pre .is .words) (omega arith)
 
-entry-at-requires : tie.Need-entry-at-requires Inv-loop μ-loop
-entry-at-requires c κs = search needs
-
-directory-good-requires : tie.Need-directory-good-requires Inv-loop μ-loop
-directory-good-requires c κs = search needs
-
 returns : tie.Need-returns Inv-loop μ-loop
 returns c =
     let start = c .before .before .before .before .before .before .before in
@@ -45,24 +39,6 @@ returns c =
     let entry = c .before .before .entry-at in
     let rule = c .before .directory-good .ensures index (at .i) (start .pre .is) (entry .ensures) (at .inv .words-sum) (at .inv .lists-sum) in
     rw (going-hit index (entry .result) (at .prior) (at .words) (at .lists) (at .i) (at .inv) (omega arith) (entry-misplaced index (at .i) (told-bad _ _ rule (c .if2 .taken))))
-
-add-next : tie.Need-add-next Inv-loop μ-loop
-add-next c = search needs
-
-sub-word-good : tie.Need-sub-word-good Inv-loop μ-loop
-sub-word-good c = search needs
-
-part-word-good-start : tie.Need-part-word-good-start Inv-loop μ-loop
-part-word-good-start c = search needs
-
-part-word-good-end : tie.Need-part-word-good-end Inv-loop μ-loop
-part-word-good-end c = search needs
-
-sub-word-good-2 : tie.Need-sub-word-good-2 Inv-loop μ-loop
-sub-word-good-2 c = search needs
-
-part-word-good-start-2 : tie.Need-part-word-good-start-2 Inv-loop μ-loop
-part-word-good-start-2 c = search needs
 
 part-word-good-end-2 : tie.Need-part-word-good-end-2 Inv-loop μ-loop
 part-word-good-end-2 c =
@@ -74,9 +50,6 @@ part-word-good-end-2 c =
     let room = next-within index (at .i) (told-good _ _ rule (c .before .before .if2 .left)) in
     search needs
 
-word-good-requires : tie.Need-word-good-requires Inv-loop μ-loop
-word-good-requires c κs = search needs
-
 returns-2 : tie.Need-returns-2 Inv-loop μ-loop
 returns-2 c =
     let start = c .before .before .before .before .before .before .before .before .before .before .before .before in
@@ -87,18 +60,6 @@ returns-2 c =
     let placed = told-good _ _ rule (c .before .before .before .before .before .if2 .left) in
     let word = c .before .word-good .ensures ∙ going-word index (entry .result) (at .prior) (at .words) (at .lists) (at .i) (at .inv) (omega arith) (entry .ensures) placed in
     rw (going-hit index (entry .result) (at .prior) (at .words) (at .lists) (at .i) (at .inv) (omega arith) (entry-misspelt index (at .i) placed (told-bad _ _ word (c .if3 .taken))))
-
-list-length-requires : tie.Need-list-length-requires Inv-loop μ-loop
-list-length-requires c κs = search needs
-
-add-lists : tie.Need-add-lists Inv-loop μ-loop
-add-lists c = search needs
-
-add-i : tie.Need-add-i Inv-loop μ-loop
-add-i c = search needs
-
-loop-less : tie.Need-loop-less Inv-loop μ-loop
-loop-less c = search needs
 
 loop-again : tie.Need-loop-again Inv-loop μ-loop
 loop-again c =
@@ -137,26 +98,7 @@ pub first-bad-entry-spec : {M : Type 1} → statement M
 first-bad-entry-spec =
     tie.close
     (tie.spec
-    Inv-loop
-    μ-loop
-    loop-holds
-    entry-at-requires
-    directory-good-requires
-    returns
-    add-next
-    sub-word-good
-    part-word-good-start
-    part-word-good-end
-    sub-word-good-2
-    part-word-good-start-2
-    part-word-good-end-2
-    word-good-requires
-    returns-2
-    list-length-requires
-    add-lists
-    add-i
-    loop-less
-    loop-again
-    returns-3
-    returns-4
-    returns-5)
+    Inv-loop μ-loop loop-holds (λ c κs. search needs) (λ c κs. search needs) returns (λ c. search needs)
+    (λ c. search needs) (λ c. search needs) (λ c. search needs) (λ c. search needs) (λ c. search needs)
+    part-word-good-end-2 (λ c κs. search needs) returns-2 (λ c κs. search needs) (λ c. search needs) (λ c. search needs)
+    (λ c. search needs) loop-again returns-3 returns-4 returns-5)

@@ -22,9 +22,6 @@ loop-holds : tie.Need-loop-holds Inv-loop μ-loop
 loop-holds c =
     (omega arith, let index = now (c .before .args .index) in first-start (badList index) (wordCount index))
 
-entry-at-requires : tie.Need-entry-at-requires Inv-loop μ-loop
-entry-at-requires c κs = search needs
-
 list-good-requires : tie.Need-list-good-requires Inv-loop μ-loop
 list-good-requires c κs =
     let start = c .before .before .before .before .before in
@@ -40,12 +37,6 @@ returns c =
     let index = now (start .args .index) in
     let rule = c .before .list-good .ensures (at .k) (c .before .before .entry-at .ensures) (start .pre .0 .is .highest) in
     sym (at .inv .1 ∙ first-hit (badList index) (at .k) (wordCount index) (omega arith) (told-bad _ _ rule (c .if2 .taken)))
-
-add-k : tie.Need-add-k Inv-loop μ-loop
-add-k c = search needs
-
-loop-less : tie.Need-loop-less Inv-loop μ-loop
-loop-less c = search needs
 
 loop-again : tie.Need-loop-again Inv-loop μ-loop
 loop-again c =
@@ -65,13 +56,5 @@ pub first-bad-list-spec : {M : Type 1} → statement M
 first-bad-list-spec =
     tie.close
     (tie.spec
-    Inv-loop
-    μ-loop
-    loop-holds
-    entry-at-requires
-    list-good-requires
-    returns
-    add-k
-    loop-less
-    loop-again
-    returns-2)
+    Inv-loop μ-loop loop-holds (λ c κs. search needs) list-good-requires returns (λ c. search needs) (λ c. search needs)
+    loop-again returns-2)

@@ -23,12 +23,6 @@ returns-3 c =
     let index = now (c .before .before .before .before .before .before .before .args .index) in
     sym (ap not (trailer-order index (omega arith) (omega arith) (omega arith)))
 
-place-of-requires : tie.Need-place-of-requires
-place-of-requires c κs = search needs
-
-add-result : tie.Need-add-result
-add-result c = search needs
-
 returns-4 : tie.Need-returns-4
 returns-4 c =
     let index = now (c .before .before .before .before .before .before .before .before .args .index) in
@@ -37,4 +31,6 @@ returns-4 c =
 
 pub trailer-good-spec : {M : Type 1} → statement M
 trailer-good-spec =
-    tie.close (tie.spec returns returns-2 returns-3 place-of-requires add-result returns-4)
+    tie.close
+    (tie.spec
+    returns returns-2 returns-3 (λ c κs. search needs) (λ c. search needs) returns-4)

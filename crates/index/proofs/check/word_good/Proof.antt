@@ -7,23 +7,8 @@ use borrow.Author.Needs.{needs}
 use Rattle.index.proofs.check.word_good.Statement.{statement}
 use Rattle.index.proofs.check.word_good.Tie as tie
 
-is-word-requires : tie.Need-is-word-requires
-is-word-requires c κs = search needs
-
 returns : tie.Need-returns
 returns c = rw (sym (c .before .is-word .ensures) ∙ not-true _ (c .if1 .taken))
-
-compare-requires : tie.Need-compare-requires
-compare-requires c κs = search needs
-
-enum-told : tie.Need-enum-told
-enum-told c = search needs
-
-enum-told-2 : tie.Need-enum-told-2
-enum-told-2 c = search needs
-
-enum-told-3 : tie.Need-enum-told-3
-enum-told-3 c = search needs
 
 returns-2 : tie.Need-returns-2
 returns-2 c =
@@ -53,12 +38,5 @@ pub word-good-spec : {M : Type 1} → statement M
 word-good-spec =
     tie.close
     (tie.spec
-    is-word-requires
-    returns
-    compare-requires
-    enum-told
-    enum-told-2
-    enum-told-3
-    returns-2
-    returns-3
-    returns-4)
+    (λ c κs. search needs) returns (λ c κs. search needs) (λ c. search needs) (λ c. search needs) (λ c. search needs)
+    returns-2 returns-3 returns-4)

@@ -9,51 +9,6 @@ use borrow.Author.Needs.{needs}
 use Rattle.index.proofs.entry.entry_at.Statement.{statement}
 use Rattle.index.proofs.entry.entry_at.Tie as tie
 
-place-of-requires : tie.Need-place-of-requires
-place-of-requires c κs = search needs
-
-cell-at-requires : tie.Need-cell-at-requires
-cell-at-requires c κs = search needs
-
-cast-t6 : tie.Need-cast-t6
-cast-t6 c = search needs
-
-add-cell-at : tie.Need-add-cell-at
-add-cell-at c = search needs
-
-cell-at-requires-2 : tie.Need-cell-at-requires-2
-cell-at-requires-2 c κs = search needs
-
-cast-t9 : tie.Need-cast-t9
-cast-t9 c = search needs
-
-add-cell-at-2 : tie.Need-add-cell-at-2
-add-cell-at-2 c = search needs
-
-cell-at-requires-3 : tie.Need-cell-at-requires-3
-cell-at-requires-3 c κs = search needs
-
-cast-t12 : tie.Need-cast-t12
-cast-t12 c = search needs
-
-add-cell-at-3 : tie.Need-add-cell-at-3
-add-cell-at-3 c = search needs
-
-cell-at-requires-4 : tie.Need-cell-at-requires-4
-cell-at-requires-4 c κs = search needs
-
-cast-t15 : tie.Need-cast-t15
-cast-t15 c = search needs
-
-add-cell-at-4 : tie.Need-add-cell-at-4
-add-cell-at-4 c = search needs
-
-cell-at-requires-5 : tie.Need-cell-at-requires-5
-cell-at-requires-5 c κs = search needs
-
-cast-t18 : tie.Need-cast-t18
-cast-t18 c = search needs
-
 returns : tie.Need-returns
 returns c =
     let start = c .before .before .before .before .before .before .before in
@@ -79,19 +34,6 @@ pub entry-at-spec : {M : Type 1} → statement M
 entry-at-spec =
     tie.close
     (tie.spec
-    place-of-requires
-    cell-at-requires
-    cast-t6
-    add-cell-at
-    cell-at-requires-2
-    cast-t9
-    add-cell-at-2
-    cell-at-requires-3
-    cast-t12
-    add-cell-at-3
-    cell-at-requires-4
-    cast-t15
-    add-cell-at-4
-    cell-at-requires-5
-    cast-t18
-    returns)
+    (λ c κs. search needs) (λ c κs. search needs) (λ c. search needs) (λ c. search needs) (λ c κs. search needs)
+    (λ c. search needs) (λ c. search needs) (λ c κs. search needs) (λ c. search needs) (λ c. search needs)
+    (λ c κs. search needs) (λ c. search needs) (λ c. search needs) (λ c κs. search needs) (λ c. search needs) returns)

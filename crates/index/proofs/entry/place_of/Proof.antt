@@ -4,9 +4,6 @@ use borrow.Author.Needs.{needs}
 use Rattle.index.proofs.entry.place_of.Statement.{statement}
 use Rattle.index.proofs.entry.place_of.Tie as tie
 
-entry-size-requires : tie.Need-entry-size-requires
-entry-size-requires c κs = search needs
-
 mul-result : tie.Need-mul-result
 mul-result c = rw (c .entry-size .ensures) (omega arith)
 
@@ -17,4 +14,4 @@ returns : tie.Need-returns
 returns c = rw (c .before .entry-size .ensures)
 
 pub place-of-spec : {M : Type 1} → statement M
-place-of-spec = tie.close (tie.spec entry-size-requires mul-result add-result returns)
+place-of-spec = tie.close (tie.spec (λ c κs. search needs) mul-result add-result returns)

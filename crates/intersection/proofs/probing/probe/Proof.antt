@@ -31,9 +31,6 @@ sense-of-requires c κs =
 add-smaller : tie.Need-add-smaller Inv-loop μ-loop
 add-smaller c = let m = c .before .before .before .before .before .before .before .pre .0 .high in omega arith
 
-smaller-requires : tie.Need-smaller-requires Inv-loop μ-loop
-smaller-requires c κs = search needs
-
 returns : tie.Need-returns Inv-loop μ-loop
 returns c =
     let sense = c .before .before .before in
@@ -46,15 +43,6 @@ returns c =
           (sense .before .loop-test .taken) (start .pre .1) (start .pre .0 .high) (not-true (sense .sense-of .result .inside) (c .before .if1 .taken)) (sense .sense-of .ensures)),
       omega arith,
     )
-
-smaller-requires-2 : tie.Need-smaller-requires-2 Inv-loop μ-loop
-smaller-requires-2 c κs = search needs
-
-add-k : tie.Need-add-k Inv-loop μ-loop
-add-k c = search needs
-
-loop-less : tie.Need-loop-less Inv-loop μ-loop
-loop-less c = search needs
 
 loop-again : tie.Need-loop-again Inv-loop μ-loop
 loop-again c =
@@ -76,16 +64,5 @@ pub probe-spec : {M : Type 1} → statement M
 probe-spec =
     tie.close
     (tie.spec
-    Inv-loop
-    μ-loop
-    add-until
-    loop-holds
-    sense-of-requires
-    add-smaller
-    smaller-requires
-    returns
-    smaller-requires-2
-    add-k
-    loop-less
-    loop-again
-    returns-2)
+    Inv-loop μ-loop add-until loop-holds sense-of-requires add-smaller (λ c κs. search needs) returns
+    (λ c κs. search needs) (λ c. search needs) (λ c. search needs) loop-again returns-2)

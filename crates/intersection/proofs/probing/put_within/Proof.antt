@@ -35,9 +35,6 @@ close-piece-requires c κs =
     let s = c .before .probe in
     (at .inv .begun, cut-fits (inAll (now (a .index)) (now (a .entries))) (a .within .lower) (a .within .upper) (a .writing) (now (a .out)) (a .before) (at .out) (at .tally) (at .piece .«open») (at .piece .lower) (at .x) (at .inv) (s .result .inside) (s .result .until) (start .pre .0 .high) (start .pre .2) (s .ensures .0) (s .ensures .1))
 
-next-piece-requires : tie.Need-next-piece-requires Inv-loop μ-loop
-next-piece-requires c κs = search needs
-
 loop-less : tie.Need-loop-less Inv-loop μ-loop
 loop-less c =
     let s = c .before .before .before .before .before .probe .ensures .0 .later in
@@ -75,14 +72,5 @@ pub put-within-spec : {M : Type 1} → statement M
 put-within-spec =
     tie.close
     (tie.spec
-    Inv-loop
-    μ-loop
-    loop-holds
-    probe-requires
-    close-piece-requires
-    next-piece-requires
-    loop-less
-    loop-again
-    close-piece-requires-2
-    same-length
-    returns)
+    Inv-loop μ-loop loop-holds probe-requires close-piece-requires (λ c κs. search needs) loop-less loop-again
+    close-piece-requires-2 same-length returns)

@@ -5,15 +5,6 @@ use borrow.Author.Needs.{needs}
 use Rattle.intersection.proofs.probing.sense_in.Statement.{statement}
 use Rattle.intersection.proofs.probing.sense_in.Tie as tie
 
-singles-of-requires : tie.Need-singles-of-requires
-singles-of-requires c κs = search needs
-
-lower-of-requires : tie.Need-lower-of-requires
-lower-of-requires c κs = search needs
-
-upper-of-requires : tie.Need-upper-of-requires
-upper-of-requires c κs = search needs
-
 place-of-requires : tie.Need-place-of-requires
 place-of-requires c κs =
     let start = c .before .before .before .before in
@@ -41,9 +32,4 @@ pub sense-in-spec : {M : Type 1} → statement M
 sense-in-spec =
     tie.close
     (tie.spec
-    singles-of-requires
-    lower-of-requires
-    upper-of-requires
-    place-of-requires
-    sense-at-requires
-    returns)
+    (λ c κs. search needs) (λ c κs. search needs) (λ c κs. search needs) place-of-requires sense-at-requires returns)

@@ -4,9 +4,6 @@ use borrow.Author.Needs.{needs}
 use Rattle.intersection.proofs.probing.sense_of.Statement.{statement}
 use Rattle.intersection.proofs.probing.sense_of.Tie as tie
 
-add-t8 : tie.Need-add-t8
-add-t8 c = search needs
-
 returns : tie.Need-returns
 returns c =
     let start = c .before .before .before in
@@ -19,12 +16,6 @@ returns c =
       same = λ y f g. rw (c .if1 .taken) (w .covers y f (omega arith));
     }
 
-mul-sense-in : tie.Need-mul-sense-in
-mul-sense-in c = search needs
-
-shared-slice-read-sense-in : tie.Need-shared-slice-read-sense-in
-shared-slice-read-sense-in c = search needs
-
 cast-sense-in : tie.Need-cast-sense-in
 cast-sense-in c = omega (arith, c .shared-slice-known3 .given (c .before .before .before .before .args .k))
 
@@ -36,17 +27,9 @@ sense-in-requires c κs =
     let m = w .high in
     ((w .asked .sound, w .asked .below (start .args .k) (start .pre .2)), omega arith)
 
-returns-2 : tie.Need-returns-2
-returns-2 c = search needs
-
 pub sense-of-spec : {M : Type 1} → statement M
 sense-of-spec =
     tie.close
     (tie.spec
-    add-t8
-    returns
-    mul-sense-in
-    shared-slice-read-sense-in
-    cast-sense-in
-    sense-in-requires
-    returns-2)
+    (λ c. search needs) returns (λ c. search needs) (λ c. search needs) cast-sense-in sense-in-requires
+    (λ c. search needs))

@@ -29,12 +29,6 @@ loop-holds c =
     let start = c .before .before .before .before in
     best-start (now (start .args .index)) (now (start .args .entries)) (c .interval-count .result) (start .pre .some) (c .interval-count .ensures .0)
 
-mul-interval-count : tie.Need-mul-interval-count Inv-loop μ-loop
-mul-interval-count c = search needs
-
-shared-slice-read-interval-count-2 : tie.Need-shared-slice-read-interval-count-2 Inv-loop μ-loop
-shared-slice-read-interval-count-2 c = search needs
-
 cast-interval-count-2 : tie.Need-cast-interval-count-2 Inv-loop μ-loop
 cast-interval-count-2 c = omega (arith, c .shared-slice-known4 .given (c .before .before .loop .j))
 
@@ -42,12 +36,6 @@ interval-count-requires-2 : tie.Need-interval-count-requires-2 Inv-loop μ-loop
 interval-count-requires-2 c κs =
     let a = c .before .before .before .before .before .before .before .pre in
     (a .sound, a .below (c .before .before .loop .j) (c .before .loop-test .taken))
-
-add-j : tie.Need-add-j Inv-loop μ-loop
-add-j c = search needs
-
-loop-less : tie.Need-loop-less Inv-loop μ-loop
-loop-less c = search needs
 
 loop-again : tie.Need-loop-again Inv-loop μ-loop
 loop-again c =
@@ -73,17 +61,6 @@ pub shortest-spec : {M : Type 1} → statement M
 shortest-spec =
     tie.close
     (tie.spec
-    Inv-loop
-    μ-loop
-    shared-slice-read-interval-count
-    cast-interval-count
-    interval-count-requires
-    loop-holds
-    mul-interval-count
-    shared-slice-read-interval-count-2
-    cast-interval-count-2
-    interval-count-requires-2
-    add-j
-    loop-less
-    loop-again
-    returns)
+    Inv-loop μ-loop shared-slice-read-interval-count cast-interval-count interval-count-requires loop-holds
+    (λ c. search needs) (λ c. search needs) cast-interval-count-2 interval-count-requires-2 (λ c. search needs)
+    (λ c. search needs) loop-again returns)

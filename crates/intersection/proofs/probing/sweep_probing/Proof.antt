@@ -58,9 +58,6 @@ upper-of-requires c κs =
     let a = c .before .before .before .before .before .before .before .pre .0 in
     (a .sound, a .below (c .before .before .before .shortest .result) (c .before .before .before .shortest .ensures .inside))
 
-add-count : tie.Need-add-count Inv-loop μ-loop
-add-count c = search needs
-
 loop-holds : tie.Need-loop-holds Inv-loop μ-loop
 loop-holds c =
     let first = c .before .before .before .before in
@@ -133,12 +130,6 @@ next-place-requires c κs =
     let loop = c .before .before .before .before .before .before in
     rw (loop .before .before .before .singles-of .ensures, loop .before .before .lower-of .ensures) (left (c .before .before .before .before .before))
 
-add-i : tie.Need-add-i Inv-loop μ-loop
-add-i c = search needs
-
-loop-less : tie.Need-loop-less Inv-loop μ-loop
-loop-less c = search needs
-
 loop-again : tie.Need-loop-again Inv-loop μ-loop
 loop-again c =
     let loop = c .before .before .before .before .before .before .before in
@@ -187,22 +178,6 @@ pub sweep-probing-spec : {M : Type 1} → statement M
 sweep-probing-spec =
     tie.close
     (tie.spec
-    Inv-loop
-    μ-loop
-    shortest-requires
-    mul-entry
-    shared-slice-read-entry
-    cast-entry
-    singles-of-requires
-    lower-of-requires
-    upper-of-requires
-    add-count
-    loop-holds
-    interval-at-requires
-    put-within-requires
-    next-place-requires
-    add-i
-    loop-less
-    loop-again
-    same-length
-    returns)
+    Inv-loop μ-loop shortest-requires mul-entry shared-slice-read-entry cast-entry singles-of-requires lower-of-requires
+    upper-of-requires (λ c. search needs) loop-holds interval-at-requires put-within-requires next-place-requires
+    (λ c. search needs) (λ c. search needs) loop-again same-length returns)

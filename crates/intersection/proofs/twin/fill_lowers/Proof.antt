@@ -23,17 +23,11 @@ loop-holds c =
     let begin = c .before .before .before in
     (omega arith, lowers-start (now (begin .args .index)) (now (begin .args .entries)) (λ i. getD (begin .args .t3) i start) (now (begin .args .lowers)), begin .pre .2)
 
-mul-next-interval : tie.Need-mul-next-interval Inv-loop μ-loop
-mul-next-interval c = search needs
-
 shared-slice-read-next-interval : tie.Need-shared-slice-read-next-interval Inv-loop μ-loop
 shared-slice-read-next-interval c = omega arith
 
 cast-next-interval : tie.Need-cast-next-interval Inv-loop μ-loop
 cast-next-interval c = omega (arith, c .shared-slice-known3 .given (c .before .before .loop .j))
-
-mul-next-interval-2 : tie.Need-mul-next-interval-2 Inv-loop μ-loop
-mul-next-interval-2 c = search needs
 
 array-copy-out-next-interval : tie.Need-array-copy-out-next-interval Inv-loop μ-loop
 array-copy-out-next-interval c =
@@ -101,19 +95,6 @@ pub fill-lowers-spec : {M : Type 1} → statement M
 fill-lowers-spec =
     tie.close
     (tie.spec
-    Inv-loop
-    μ-loop
-    loop-holds
-    mul-next-interval
-    shared-slice-read-next-interval
-    cast-next-interval
-    mul-next-interval-2
-    array-copy-out-next-interval
-    next-interval-requires
-    sub-push
-    push-requires
-    add-j
-    loop-less
-    loop-again
-    same-length
-    returns)
+    Inv-loop μ-loop loop-holds (λ c. search needs) shared-slice-read-next-interval cast-next-interval
+    (λ c. search needs) array-copy-out-next-interval next-interval-requires sub-push push-requires add-j loop-less
+    loop-again same-length returns)

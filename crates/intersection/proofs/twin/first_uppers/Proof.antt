@@ -22,9 +22,6 @@ abbrev μ-loop : tie.MeasureT-loop
 loop-holds : tie.Need-loop-holds Inv-loop μ-loop
 loop-holds c = let pre = c .before .before .before .pre in (omega arith, frontier-start (now (c .before .before .before .args .index)) (now (c .before .before .before .args .entries)) (λ i. start) (now (c .before .before .before .args .uppers)), pre .1)
 
-mul-next-interval : tie.Need-mul-next-interval Inv-loop μ-loop
-mul-next-interval c = search needs
-
 shared-slice-read-next-interval : tie.Need-shared-slice-read-next-interval Inv-loop μ-loop
 shared-slice-read-next-interval c = omega arith
 
@@ -97,17 +94,5 @@ pub first-uppers-spec : {M : Type 1} → statement M
 first-uppers-spec =
     tie.close
     (tie.spec
-    Inv-loop
-    μ-loop
-    loop-holds
-    mul-next-interval
-    shared-slice-read-next-interval
-    cast-next-interval
-    next-interval-requires
-    key-of-requires
-    push-requires
-    add-j
-    loop-less
-    loop-again
-    same-length
-    returns)
+    Inv-loop μ-loop loop-holds (λ c. search needs) shared-slice-read-next-interval cast-next-interval
+    next-interval-requires key-of-requires push-requires add-j loop-less loop-again same-length returns)

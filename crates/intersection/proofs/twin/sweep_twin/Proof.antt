@@ -20,17 +20,8 @@ abbrev μ-loop : tie.MeasureT-loop
 μ-loop index entries writing out₀ uppers₀ places₀ lowers₀ size₀ tally₀ out uppers places lowers size tally =
     268435456 - getD uppers 0 0
 
-slice-aggregate-first-uppers : tie.Need-slice-aggregate-first-uppers Inv-loop μ-loop
-slice-aggregate-first-uppers c = search needs
-
 first-uppers-requires : tie.Need-first-uppers-requires Inv-loop μ-loop
 first-uppers-requires c κs = (c .before .before .before .before .pre .0, refl)
-
-all-at-start-requires : tie.Need-all-at-start-requires Inv-loop μ-loop
-all-at-start-requires c κs = search needs
-
-slice-aggregate-fill-lowers : tie.Need-slice-aggregate-fill-lowers Inv-loop μ-loop
-slice-aggregate-fill-lowers c = search needs
 
 fill-lowers-requires : tie.Need-fill-lowers-requires Inv-loop μ-loop
 fill-lowers-requires c κs =
@@ -49,9 +40,6 @@ loop-holds c =
     let first = c .before .before .before .before .before .first-uppers .ensures in
     let filled = c .before .fill-lowers .ensures in
     (rw (c .before .before .before .all-at-start .ensures) (turning-start index entries asked (begin .args .writing) (now (begin .args .out)) _ (first .1) (first .0)), filled .0, filled .1)
-
-slice-aggregate-with-room : tie.Need-slice-aggregate-with-room Inv-loop μ-loop
-slice-aggregate-with-room c = search needs
 
 with-room-requires : tie.Need-with-room-requires Inv-loop μ-loop
 with-room-requires c κs =
@@ -79,9 +67,6 @@ array-read-least c = let l = c .before .before .before .loop .inv .0 .uppers-lon
 
 cast-j : tie.Need-cast-j Inv-loop μ-loop
 cast-j c = omega arith
-
-mul-entry : tie.Need-mul-entry Inv-loop μ-loop
-mul-entry c = search needs
 
 shared-slice-read-entry : tie.Need-shared-slice-read-entry Inv-loop μ-loop
 shared-slice-read-entry c =
@@ -114,9 +99,6 @@ moved-on-requires c κs =
     let h = turn-list asked w refl in
     let few = asked .few in
     ((asked .sound, asked .below j h), omega arith, turn-goes asked w refl)
-
-mul-at : tie.Need-mul-at Inv-loop μ-loop
-mul-at c = search needs
 
 array-copy-out-at : tie.Need-array-copy-out-at Inv-loop μ-loop
 array-copy-out-at c = omega arith
@@ -170,9 +152,6 @@ next-interval-requires c κs =
     let e = sym (c .before .used-up .ensures) ∙ c .if1 .left in
     ((asked .sound, asked .below j h), turn-next-goes asked w refl moved e)
 
-slice-aggregate-replace-least : tie.Need-slice-aggregate-replace-least Inv-loop μ-loop
-slice-aggregate-replace-least c = search needs
-
 key-of-requires : tie.Need-key-of-requires Inv-loop μ-loop
 key-of-requires c κs =
     let at = c .before .before .before .before .before .before .before .before .before .before .before .before .before .before in
@@ -192,9 +171,6 @@ replace-least-requires c κs =
     let l = w .uppers-long in
     let few = asked .few in
     (asked .some, omega arith, w .frontier .heap)
-
-slice-aggregate-push : tie.Need-slice-aggregate-push Inv-loop μ-loop
-slice-aggregate-push c = search needs
 
 sub-push : tie.Need-sub-push Inv-loop μ-loop
 sub-push c =
@@ -248,37 +224,9 @@ pub sweep-twin-spec : {M : Type 1} → statement M
 sweep-twin-spec =
     tie.close
     (tie.spec
-    Inv-loop
-    μ-loop
-    slice-aggregate-first-uppers
-    first-uppers-requires
-    all-at-start-requires
-    slice-aggregate-fill-lowers
-    fill-lowers-requires
-    loop-holds
-    slice-aggregate-with-room
-    with-room-requires
-    array-read-largest
-    sub-largest
-    array-read-least
-    cast-j
-    mul-entry
-    shared-slice-read-entry
-    cast-entry
-    put-overlap-requires
-    moved-on-requires
-    mul-at
-    array-copy-out-at
-    used-up-requires
-    same-length
-    returns
-    next-interval-requires
-    slice-aggregate-replace-least
-    key-of-requires
-    replace-least-requires
-    slice-aggregate-push
-    sub-push
-    push-requires
-    add-size
-    loop-less
-    loop-again)
+    Inv-loop μ-loop (λ c. search needs) first-uppers-requires (λ c κs. search needs) (λ c. search needs)
+    fill-lowers-requires loop-holds (λ c. search needs) with-room-requires array-read-largest sub-largest
+    array-read-least cast-j (λ c. search needs) shared-slice-read-entry cast-entry put-overlap-requires
+    moved-on-requires (λ c. search needs) array-copy-out-at used-up-requires same-length returns next-interval-requires
+    (λ c. search needs) key-of-requires replace-least-requires (λ c. search needs) sub-push push-requires add-size
+    loop-less loop-again)

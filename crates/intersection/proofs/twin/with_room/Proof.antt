@@ -26,10 +26,4 @@ returns-2 c =
     (filled .fill-lowers .ensures .0, filled .fill-lowers .ensures .1, omega arith)
 
 pub with-room-spec : {M : Type 1} → statement M
-with-room-spec =
-    tie.close
-    (tie.spec
-    returns
-    fill-lowers-requires
-    same-length
-    returns-2)
+with-room-spec = tie.close (tie.spec returns fill-lowers-requires same-length returns-2)

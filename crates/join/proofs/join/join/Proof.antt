@@ -8,15 +8,6 @@ use borrow.Author.Needs.{needs}
 use Rattle.join.proofs.join.join.Statement.{statement}
 use Rattle.join.proofs.join.join.Tie as tie
 
-check-request-requires : tie.Need-check-request-requires
-check-request-requires c κs = search needs
-
-enum-known-refusal : tie.Need-enum-known-refusal
-enum-known-refusal c = search needs
-
-enum-told : tie.Need-enum-told
-enum-told c = search needs
-
 join-asked-requires : tie.Need-join-asked-requires
 join-asked-requires c κs =
     let a = c .before .before .before .before .before .before .before .args in
@@ -26,9 +17,6 @@ returns : tie.Need-returns
 returns c =
     let a = c .before .before .before .before .before .before .before .args in
     joins-refused (joinOf (a .method)) (now (a .index)) (now (a .entries)) (now (a .out)) _ (sym (c .before .before .before .check-request .ensures) ∙ c .before .refusal .given .1)
-
-same-length : tie.Need-same-length
-same-length c = search needs
 
 returns-2 : tie.Need-returns-2
 returns-2 c =
@@ -42,10 +30,5 @@ pub join-spec : {M : Type 1} → statement M
 join-spec =
     tie.close
     (tie.spec
-    check-request-requires
-    enum-known-refusal
-    enum-told
-    join-asked-requires
-    returns
-    same-length
+    (λ c κs. search needs) (λ c. search needs) (λ c. search needs) join-asked-requires returns (λ c. search needs)
     returns-2)

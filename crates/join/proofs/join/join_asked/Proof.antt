@@ -10,9 +10,6 @@ use borrow.Author.Needs.{needs}
 use Rattle.join.proofs.join.join_asked.Statement.{statement}
 use Rattle.join.proofs.join.join_asked.Tie as tie
 
-interval-sum-requires : tie.Need-interval-sum-requires
-interval-sum-requires c κs = search needs
-
 sweep-requires : tie.Need-sweep-requires
 sweep-requires c κs =
     let start = c .before .before .before .before .before .before in
@@ -21,9 +18,6 @@ sweep-requires c κs =
     let s = c .before .before .interval-sum .ensures .0 in
     let r = c .before .if1 .taken in
     (start .pre, λ w. room-cells (joinOf (a .method) (listsOf (now (a .index)) (now (a .entries)))) (now (a .out)) (join-whole (a .method) (listsOf (now (a .index)) (now (a .entries)))) (omega arith))
-
-same-length : tie.Need-same-length
-same-length c = search needs
 
 returns : tie.Need-returns
 returns c =
@@ -37,9 +31,6 @@ returns c =
 
 sweep-requires-2 : tie.Need-sweep-requires-2
 sweep-requires-2 c κs = (c .before .before .before .before .before .before .pre, λ w. true-false (sym w))
-
-same-length-2 : tie.Need-same-length-2
-same-length-2 c = search needs
 
 returns-2 : tie.Need-returns-2
 returns-2 c =
@@ -55,9 +46,6 @@ sweep-requires-3 c κs =
     let whole = join-whole (a .method) (listsOf (now (a .index)) (now (a .entries))) in
     (start .pre, λ w. counted-room (joinOf (a .method) (listsOf (now (a .index)) (now (a .entries)))) (now (a .out)) _ (count .sweep2 .result) (count .sweep2 .ensures) (c .before .if2 .left) whole)
 
-same-length-3 : tie.Need-same-length-3
-same-length-3 c = search needs
-
 returns-3 : tie.Need-returns-3
 returns-3 c =
     let sweep = c .before .before in
@@ -70,13 +58,5 @@ pub join-asked-spec : {M : Type 1} → statement M
 join-asked-spec =
     tie.close
     (tie.spec
-    interval-sum-requires
-    sweep-requires
-    same-length
-    returns
-    sweep-requires-2
-    same-length-2
-    returns-2
-    sweep-requires-3
-    same-length-3
-    returns-3)
+    (λ c κs. search needs) sweep-requires (λ c. search needs) returns sweep-requires-2 (λ c. search needs) returns-2
+    sweep-requires-3 (λ c. search needs) returns-3)

@@ -16,15 +16,6 @@ returns-2 c =
     let args = c .before .before .before .before .args in
     sym (entries-many (now (args .index)) (now (args .entries)) (c .if2 .taken))
 
-first-bad-number-requires : tie.Need-first-bad-number-requires
-first-bad-number-requires c κs = search needs
-
-enum-known-i : tie.Need-enum-known-i
-enum-known-i c = search needs
-
-enum-told : tie.Need-enum-told
-enum-told c = search needs
-
 returns-3 : tie.Need-returns-3
 returns-3 c =
     let past = c .before .before .before .before in
@@ -41,10 +32,4 @@ pub check-entries-spec : {M : Type 1} → statement M
 check-entries-spec =
     tie.close
     (tie.spec
-    returns
-    returns-2
-    first-bad-number-requires
-    enum-known-i
-    enum-told
-    returns-3
-    returns-4)
+    returns returns-2 (λ c κs. search needs) (λ c. search needs) (λ c. search needs) returns-3 returns-4)

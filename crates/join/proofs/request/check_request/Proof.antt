@@ -7,15 +7,6 @@ use borrow.Author.Needs.{needs}
 use Rattle.join.proofs.request.check_request.Statement.{statement}
 use Rattle.join.proofs.request.check_request.Tie as tie
 
-check-index-requires : tie.Need-check-index-requires
-check-index-requires c κs = search needs
-
-enum-known-refusal : tie.Need-enum-known-refusal
-enum-known-refusal c = search needs
-
-enum-told : tie.Need-enum-told
-enum-told c = search needs
-
 check-entries-requires : tie.Need-check-entries-requires
 check-entries-requires c κs =
     good-sound (now (c .before .before .before .before .before .args .index)) (sym (c .before .before .check-index .ensures) ∙ c .enum-told .given .1)
@@ -35,9 +26,4 @@ pub check-request-spec : {M : Type 1} → statement M
 check-request-spec =
     tie.close
     (tie.spec
-    check-index-requires
-    enum-known-refusal
-    enum-told
-    check-entries-requires
-    returns
-    returns-2)
+    (λ c κs. search needs) (λ c. search needs) (λ c. search needs) check-entries-requires returns returns-2)

@@ -19,19 +19,10 @@ Inv-loop index entries count i₀ i =
 abbrev μ-loop : tie.MeasureT-loop
 μ-loop index entries count i₀ i = length entries - i
 
-word-count-requires : tie.Need-word-count-requires Inv-loop μ-loop
-word-count-requires c κs = search needs
-
 loop-holds : tie.Need-loop-holds Inv-loop μ-loop
 loop-holds c =
     let args = c .before .before .before .args in
     (omega arith, first-start (badEntryNumber (now (args .index)) (now (args .entries))) (length (now (args .entries))))
-
-mul-if1 : tie.Need-mul-if1 Inv-loop μ-loop
-mul-if1 c = search needs
-
-shared-slice-read-if1 : tie.Need-shared-slice-read-if1 Inv-loop μ-loop
-shared-slice-read-if1 c = search needs
 
 cast-if1 : tie.Need-cast-if1 Inv-loop μ-loop
 cast-if1 c = omega (arith, c .shared-slice-known3 .given (c .before .before .loop .i))
@@ -45,12 +36,6 @@ returns c =
     let n = at .before .word-count .ensures in
     let b = number-bad index entries (at .loop .i) (let h = c .if1 .taken in omega arith) in
     sym (at .loop .inv .1 ∙ first-hit (badEntryNumber index entries) (at .loop .i) (length entries) (c .before .before .loop-test .taken) b)
-
-add-i : tie.Need-add-i Inv-loop μ-loop
-add-i c = search needs
-
-loop-less : tie.Need-loop-less Inv-loop μ-loop
-loop-less c = search needs
 
 loop-again : tie.Need-loop-again Inv-loop μ-loop
 loop-again c =
@@ -72,15 +57,5 @@ pub first-bad-number-spec : {M : Type 1} → statement M
 first-bad-number-spec =
     tie.close
     (tie.spec
-    Inv-loop
-    μ-loop
-    word-count-requires
-    loop-holds
-    mul-if1
-    shared-slice-read-if1
-    cast-if1
-    returns
-    add-i
-    loop-less
-    loop-again
-    returns-2)
+    Inv-loop μ-loop (λ c κs. search needs) loop-holds (λ c. search needs) (λ c. search needs) cast-if1 returns
+    (λ c. search needs) (λ c. search needs) loop-again returns-2)

@@ -21,9 +21,6 @@ abbrev μ-loop : tie.MeasureT-loop
 loop-holds : tie.Need-loop-holds Inv-loop μ-loop
 loop-holds c = (omega arith, omega arith, omega arith)
 
-mul-interval-count : tie.Need-mul-interval-count Inv-loop μ-loop
-mul-interval-count c = search needs
-
 shared-slice-read-interval-count : tie.Need-shared-slice-read-interval-count Inv-loop μ-loop
 shared-slice-read-interval-count c = omega arith
 
@@ -67,15 +64,5 @@ pub interval-sum-spec : {M : Type 1} → statement M
 interval-sum-spec =
     tie.close
     (tie.spec
-    Inv-loop
-    μ-loop
-    loop-holds
-    mul-interval-count
-    shared-slice-read-interval-count
-    cast-interval-count
-    interval-count-requires
-    add-sum
-    add-j
-    loop-less
-    loop-again
-    returns)
+    Inv-loop μ-loop loop-holds (λ c. search needs) shared-slice-read-interval-count cast-interval-count
+    interval-count-requires add-sum add-j loop-less loop-again returns)

@@ -29,9 +29,6 @@ put-field-requires-2 c κs =
     let start = first .before .before .before in
     room-behind (field (start .args .value)) (puts-then (first .put-number .ensures) (second .put-field .ensures)) (start .pre)
 
-same-length : tie.Need-same-length
-same-length c = search needs
-
 returns : tie.Need-returns
 returns c =
     let third = c .before .before in
@@ -42,4 +39,5 @@ returns c =
 pub put-head-spec : {M : Type 1} → statement M
 put-head-spec =
     tie.close
-    (tie.spec put-number-requires put-field-requires put-field-requires-2 same-length returns)
+    (tie.spec
+    put-number-requires put-field-requires put-field-requires-2 (λ c. search needs) returns)

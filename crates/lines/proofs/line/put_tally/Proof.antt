@@ -32,9 +32,6 @@ put-field-requires-2 c κs =
     let each = intervalsText (take (2 * tally .intervals) cells) in
     room-behind records (first .put-field .ensures) (room-front (intervals ++ records) each (start .args .at) _ (start .pre .1))
 
-mul-put-intervals : tie.Need-mul-put-intervals
-mul-put-intervals c = search needs
-
 slice-aggregate-put-intervals : tie.Need-slice-aggregate-put-intervals
 slice-aggregate-put-intervals c =
     let first = c .before .before .before .before .before .before .before .before .before in
@@ -53,9 +50,6 @@ put-intervals-requires c κs =
     let each = intervalsText (take (2 * tally .intervals) cells) in
     room-behind each (puts-then (first .put-field .ensures) (second .put-field2 .ensures)) (start .pre .1)
 
-same-length : tie.Need-same-length
-same-length c = search needs
-
 returns : tie.Need-returns
 returns c =
     let third = c .before .before in
@@ -67,10 +61,5 @@ pub put-tally-spec : {M : Type 1} → statement M
 put-tally-spec =
     tie.close
     (tie.spec
-    put-field-requires
-    put-field-requires-2
-    mul-put-intervals
-    slice-aggregate-put-intervals
-    put-intervals-requires
-    same-length
-    returns)
+    put-field-requires put-field-requires-2 (λ c. search needs) slice-aggregate-put-intervals put-intervals-requires
+    (λ c. search needs) returns)

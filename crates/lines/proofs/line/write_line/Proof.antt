@@ -12,9 +12,6 @@ use Rattle.lines.proofs.PutLaws.{puts-then, puts-byte, puts-length, put
 use Rattle.lines.proofs.line.write_line.Statement.{statement}
 use Rattle.lines.proofs.line.write_line.Tie as tie
 
-enum-known-answer : tie.Need-enum-known-answer
-enum-known-answer c = search needs
-
 put-head-requires : tie.Need-put-head-requires
 put-head-requires c κs =
     let told = c .before .before in
@@ -65,15 +62,6 @@ add-result c =
     let room : 0 + length (headText number 0 0 ++ tallyText tally cells ++ (10 ∷ [])) ≤ length (now (start .args .out)) = omega (arith, ap length e, start .pre .1) in
     let both = puts-then (first .put-head .ensures) (second .put-tally .ensures) in
     omega (arith, room-behind (10 ∷ []) both room)
-
-enum-known-answer-2 : tie.Need-enum-known-answer-2
-enum-known-answer-2 c = search needs
-
-number-of-requires : tie.Need-number-of-requires
-number-of-requires c κs = search needs
-
-value-of-requires : tie.Need-value-of-requires
-value-of-requires c κs = search needs
 
 put-head-requires-2 : tie.Need-put-head-requires-2
 put-head-requires-2 c κs =
@@ -138,9 +126,6 @@ returns c =
     let both = puts-then (first .put-head .ensures) (second .put-tally .ensures) in
     rw e (puts-written (headText number 0 0 ++ tallyText tally cells ++ (10 ∷ [])) (puts-then both (puts-byte _ (second .put-tally .result) 10)) (omega arith))
 
-same-length-2 : tie.Need-same-length-2
-same-length-2 c = search needs
-
 returns-2 : tie.Need-returns-2
 returns-2 c =
     let called = c .before .before in
@@ -160,18 +145,6 @@ pub write-line-spec : {M : Type 1} → statement M
 write-line-spec =
     tie.close
     (tie.spec
-    enum-known-answer
-    put-head-requires
-    put-tally-requires
-    slice-write-out
-    add-result
-    enum-known-answer-2
-    number-of-requires
-    value-of-requires
-    put-head-requires-2
-    slice-write-out-2
-    add-result-2
-    same-length
-    returns
-    same-length-2
-    returns-2)
+    (λ c. search needs) put-head-requires put-tally-requires slice-write-out add-result (λ c. search needs)
+    (λ c κs. search needs) (λ c κs. search needs) put-head-requires-2 slice-write-out-2 add-result-2 same-length returns
+    (λ c. search needs) returns-2)

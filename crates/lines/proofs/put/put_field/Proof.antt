@@ -7,12 +7,6 @@ use Rattle.lines.proofs.PutLaws.{puts-then, puts-byte, puts-length}
 use Rattle.lines.proofs.put.put_field.Statement.{statement}
 use Rattle.lines.proofs.put.put_field.Tie as tie
 
-slice-write-out : tie.Need-slice-write-out
-slice-write-out c = search needs
-
-add-put-number : tie.Need-add-put-number
-add-put-number c = search needs
-
 put-number-requires : tie.Need-put-number-requires
 put-number-requires c κs = simp length-set (omega arith)
 
@@ -27,5 +21,4 @@ returns c =
     puts-then (puts-byte (now (start .args .out)) (start .args .at) 32) (c .before .before .put-number .ensures)
 
 pub put-field-spec : {M : Type 1} → statement M
-put-field-spec =
-    tie.close (tie.spec slice-write-out add-put-number put-number-requires same-length returns)
+put-field-spec = tie.close (tie.spec (λ c. search needs) (λ c. search needs) put-number-requires same-length returns)

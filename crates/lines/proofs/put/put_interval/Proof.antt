@@ -50,9 +50,4 @@ pub put-interval-spec : {M : Type 1} → statement M
 put-interval-spec =
     tie.close
     (tie.spec
-    put-field-requires
-    slice-write-out
-    add-put-number
-    put-number-requires
-    same-length
-    returns)
+    put-field-requires slice-write-out add-put-number put-number-requires same-length returns)

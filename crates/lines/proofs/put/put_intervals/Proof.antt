@@ -25,24 +25,6 @@ abbrev μ-loop : tie.MeasureT-loop
 loop-holds : tie.Need-loop-holds Inv-loop μ-loop
 loop-holds c = (omega arith, refl, refl, refl)
 
-sub-loop : tie.Need-sub-loop Inv-loop μ-loop
-sub-loop c = search needs
-
-mul-put-interval : tie.Need-mul-put-interval Inv-loop μ-loop
-mul-put-interval c = search needs
-
-shared-slice-read-put-interval : tie.Need-shared-slice-read-put-interval Inv-loop μ-loop
-shared-slice-read-put-interval c = search needs
-
-add-put-interval : tie.Need-add-put-interval Inv-loop μ-loop
-add-put-interval c = search needs
-
-mul-put-interval-2 : tie.Need-mul-put-interval-2 Inv-loop μ-loop
-mul-put-interval-2 c = search needs
-
-shared-slice-read-put-interval-2 : tie.Need-shared-slice-read-put-interval-2 Inv-loop μ-loop
-shared-slice-read-put-interval-2 c = search needs
-
 put-interval-requires : tie.Need-put-interval-requires Inv-loop μ-loop
 put-interval-requires c κs =
     let turn = c .before .before .before .before in
@@ -51,12 +33,6 @@ put-interval-requires c κs =
     let i = turn .loop .i in
     let e = intervals-next cells i (omega arith) in
     room-front (intervalText (getD cells i 0) (getD cells (i + 1) 0)) (intervalsText (drop (i + 2) cells)) (turn .loop .k) _ (omega (arith, ap length e))
-
-add-i : tie.Need-add-i Inv-loop μ-loop
-add-i c = search needs
-
-loop-less : tie.Need-loop-less Inv-loop μ-loop
-loop-less c = search needs
 
 loop-again : tie.Need-loop-again Inv-loop μ-loop
 loop-again c =
@@ -89,18 +65,6 @@ pub put-intervals-spec : {M : Type 1} → statement M
 put-intervals-spec =
     tie.close
     (tie.spec
-    Inv-loop
-    μ-loop
-    loop-holds
-    sub-loop
-    mul-put-interval
-    shared-slice-read-put-interval
-    add-put-interval
-    mul-put-interval-2
-    shared-slice-read-put-interval-2
-    put-interval-requires
-    add-i
-    loop-less
-    loop-again
-    same-length
-    returns)
+    Inv-loop μ-loop loop-holds (λ c. search needs) (λ c. search needs) (λ c. search needs) (λ c. search needs)
+    (λ c. search needs) (λ c. search needs) put-interval-requires (λ c. search needs) (λ c. search needs) loop-again
+    same-length returns)

@@ -10,9 +10,6 @@ use Rattle.lines.specs.Lines.{isPast}
 use Rattle.lines.proofs.split.answered_end.Statement.{statement}
 use Rattle.lines.proofs.split.answered_end.Tie as tie
 
-is-past-requires : tie.Need-is-past-requires
-is-past-requires c κs = search needs
-
 whole-end-requires : tie.Need-whole-end-requires
 whole-end-requires c κs =
     let start = c .before .before .before in
@@ -36,4 +33,4 @@ returns-2 c =
     (rw past, omega arith, omega arith)
 
 pub answered-end-spec : {M : Type 1} → statement M
-answered-end-spec = tie.close (tie.spec is-past-requires whole-end-requires returns returns-2)
+answered-end-spec = tie.close (tie.spec (λ c κs. search needs) whole-end-requires returns returns-2)

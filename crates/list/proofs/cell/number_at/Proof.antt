@@ -6,16 +6,10 @@ use Rattle.list.proofs.CellLaws.{numbersIn-at}
 use Rattle.list.proofs.cell.number_at.Statement.{statement}
 use Rattle.list.proofs.cell.number_at.Tie as tie
 
-mul-cell-at : tie.Need-mul-cell-at
-mul-cell-at c = search needs
-
-cell-at-requires : tie.Need-cell-at-requires
-cell-at-requires c κs = search needs
-
 returns : tie.Need-returns
 returns c =
     let a = c .before .before .args in
     c .cell-at .ensures ∙ sym (numbersIn-at (now (a .region)) (a .i) (c .before .before .pre))
 
 pub number-at-spec : {M : Type 1} → statement M
-number-at-spec = tie.close (tie.spec mul-cell-at cell-at-requires returns)
+number-at-spec = tie.close (tie.spec (λ c. search needs) (λ c κs. search needs) returns)

@@ -130,19 +130,6 @@ pub is-kept-spec : {M : Type 1} → statement M
 is-kept-spec =
     tie.close
     (tie.spec
-    Inv-loop
-    μ-loop
-    loop-holds
-    (λ c κs. search needs)
-    (λ c κs. search needs)
-    returns
-    returns-2
-    (λ c κs. search needs)
-    returns-3
-    (λ c. search needs)
-    (λ c. search needs)
-    (λ c. search needs)
-    loop-again
-    (λ c. search needs)
-    (λ c κs. search needs)
-    returns-4)
+    Inv-loop μ-loop loop-holds (λ c κs. search needs) (λ c κs. search needs) returns returns-2 (λ c κs. search needs)
+    returns-3 (λ c. search needs) (λ c. search needs) (λ c. search needs) loop-again (λ c. search needs)
+    (λ c κs. search needs) returns-4)

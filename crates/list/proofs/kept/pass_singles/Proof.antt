@@ -70,14 +70,5 @@ pub pass-singles-spec : {M : Type 1} → statement M
 pass-singles-spec =
     tie.close
     (tie.spec
-    Inv-loop
-    μ-loop
-    (λ c. (refl, refl))
-    (λ c κs. search needs)
-    returns
-    returns-2
-    (λ c. search needs)
-    (λ c. search needs)
-    (λ c. search needs)
-    loop-again
-    returns-3)
+    Inv-loop μ-loop (λ c. (refl, refl)) (λ c κs. search needs) returns returns-2 (λ c. search needs) (λ c. search needs)
+    (λ c. search needs) loop-again returns-3)

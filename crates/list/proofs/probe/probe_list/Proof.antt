@@ -98,13 +98,7 @@ pub probe-list-spec : {M : Type 1} → statement M
 probe-list-spec =
     tie.close
     (tie.spec
-    count-below-requires
-    count-below-requires-2
-    (λ c. search needs)
-    count-below-requires-3
-    (λ c. search needs)
-    count-below-requires-4
-    (λ c. let s = sums (c .before .before) in omega arith)
+    count-below-requires count-below-requires-2 (λ c. search needs) count-below-requires-3 (λ c. search needs)
+    count-below-requires-4 (λ c. let s = sums (c .before .before) in omega arith)
     (λ c. let s = sums (c .before .before .before .before) in omega arith)
-    (λ c. let s = sums (c .before .before .before .before) in omega arith)
-    returns)
+    (λ c. let s = sums (c .before .before .before .before) in omega arith) returns)

@@ -20,24 +20,11 @@ mul-out-2 c = omega (arith, c .before .pre (c .if1 .taken))
 slice-write-out-2 : tie.Need-slice-write-out-2
 slice-write-out-2 c = simp length-set (omega (arith, c .before .pre (c .if1 .taken)))
 
-same-length : tie.Need-same-length
-same-length c = search needs
-
 returns : tie.Need-returns
 returns c = rw (c .if1 .taken)
-
-returns-2 : tie.Need-returns-2
-returns-2 c = search needs
 
 pub put-interval-spec : {M : Type 1} → statement M
 put-interval-spec =
     tie.close
     (tie.spec
-    mul-out
-    slice-write-out
-    add-out
-    mul-out-2
-    slice-write-out-2
-    same-length
-    returns
-    returns-2)
+    mul-out slice-write-out add-out mul-out-2 slice-write-out-2 (λ c. search needs) returns (λ c. search needs))

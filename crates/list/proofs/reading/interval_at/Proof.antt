@@ -10,9 +10,6 @@ use borrow.Author.Needs.{needs}
 use Rattle.list.proofs.reading.interval_at.Statement.{statement}
 use Rattle.list.proofs.reading.interval_at.Tie as tie
 
-single-next-requires : tie.Need-single-next-requires
-single-next-requires c κs = search needs
-
 number-at-requires : tie.Need-number-at-requires
 number-at-requires c κs =
     let a = c .before .before .before .before .before .before .before .args in
@@ -60,9 +57,4 @@ pub interval-at-spec : {M : Type 1} → statement M
 interval-at-spec =
     tie.close
     (tie.spec
-    single-next-requires
-    number-at-requires
-    number-at-requires-2
-    number-at-requires-3
-    returns
-    returns-2)
+    (λ c κs. search needs) number-at-requires number-at-requires-2 number-at-requires-3 returns returns-2)

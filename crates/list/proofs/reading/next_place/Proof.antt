@@ -10,9 +10,6 @@ use borrow.Author.Needs.{needs}
 use Rattle.list.proofs.reading.next_place.Statement.{statement}
 use Rattle.list.proofs.reading.next_place.Tie as tie
 
-single-next-requires : tie.Need-single-next-requires
-single-next-requires c κs = search needs
-
 add-t8 : tie.Need-add-t8
 add-t8 c =
     let a = c .before .before .before .before .before .before .before .args in
@@ -41,4 +38,4 @@ returns-2 : tie.Need-returns-2
 returns-2 c = rw (sym (c .before .before .single-next .ensures) ∙ c .before .if1 .left)
 
 pub next-place-spec : {M : Type 1} → statement M
-next-place-spec = tie.close (tie.spec single-next-requires add-t8 add-t12 returns returns-2)
+next-place-spec = tie.close (tie.spec (λ c κs. search needs) add-t8 add-t12 returns returns-2)

@@ -6,14 +6,8 @@ use borrow.Author.Needs.{needs}
 use Rattle.list.proofs.reading.place_of.Statement.{statement}
 use Rattle.list.proofs.reading.place_of.Tie as tie
 
-seek-requires : tie.Need-seek-requires
-seek-requires c κs = search needs
-
-seek-requires-2 : tie.Need-seek-requires-2
-seek-requires-2 c κs = search needs
-
 returns : tie.Need-returns
 returns c = ap₂ placeAt (c .before .seek .ensures) (c .seek2 .ensures)
 
 pub place-of-spec : {M : Type 1} → statement M
-place-of-spec = tie.close (tie.spec seek-requires seek-requires-2 returns)
+place-of-spec = tie.close (tie.spec (λ c κs. search needs) (λ c κs. search needs) returns)

@@ -40,5 +40,4 @@ returns-3 c =
     rw (le-ltb (a .p .0) (length S) (omega (arith, c .if1 .left)))
 
 pub single-next-spec : {M : Type 1} → statement M
-single-next-spec =
-    tie.close (tie.spec (λ c κs. search needs) (λ c κs. search needs) returns returns-2 returns-3)
+single-next-spec = tie.close (tie.spec (λ c κs. search needs) (λ c κs. search needs) returns returns-2 returns-3)

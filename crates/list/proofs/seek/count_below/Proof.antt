@@ -26,9 +26,6 @@ loop-holds c =
     let l = count-length (a .x) xs in
     (c .before .pre .1, omega arith, omega arith, refl)
 
-number-at-requires : tie.Need-number-at-requires Inv-loop μ-loop
-number-at-requires c κs = search needs
-
 halve-requires : tie.Need-halve-requires Inv-loop μ-loop
 halve-requires c κs =
     let at = c .before .before .before in
@@ -43,27 +40,6 @@ halve-requires c κs =
 
 returns : tie.Need-returns Inv-loop μ-loop
 returns c = c .halve .ensures
-
-add-lo : tie.Need-add-lo Inv-loop μ-loop
-add-lo c = search needs
-
-sub-smaller : tie.Need-sub-smaller Inv-loop μ-loop
-sub-smaller c = search needs
-
-smaller-requires : tie.Need-smaller-requires Inv-loop μ-loop
-smaller-requires c κs = search needs
-
-add-hi : tie.Need-add-hi Inv-loop μ-loop
-add-hi c = search needs
-
-smaller-requires-2 : tie.Need-smaller-requires-2 Inv-loop μ-loop
-smaller-requires-2 c κs = search needs
-
-mul-step : tie.Need-mul-step Inv-loop μ-loop
-mul-step c = search needs
-
-loop-less : tie.Need-loop-less Inv-loop μ-loop
-loop-less c = search needs
 
 loop-again : tie.Need-loop-again Inv-loop μ-loop
 loop-again c =
@@ -93,19 +69,6 @@ pub count-below-spec : {M : Type 1} → statement M
 count-below-spec =
     tie.close
     (tie.spec
-    Inv-loop
-    μ-loop
-    loop-holds
-    number-at-requires
-    halve-requires
-    returns
-    add-lo
-    sub-smaller
-    smaller-requires
-    add-hi
-    smaller-requires-2
-    mul-step
-    loop-less
-    loop-again
-    halve-requires-2
-    returns-2)
+    Inv-loop μ-loop loop-holds (λ c κs. search needs) halve-requires returns (λ c. search needs) (λ c. search needs)
+    (λ c κs. search needs) (λ c. search needs) (λ c κs. search needs) (λ c. search needs) (λ c. search needs) loop-again
+    halve-requires-2 returns-2)

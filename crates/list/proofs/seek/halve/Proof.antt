@@ -18,23 +18,8 @@ Inv-loop region lo0 hi0 x lo₀ hi₀ lo hi =
 abbrev μ-loop : tie.MeasureT-loop
 μ-loop region lo0 hi0 x lo₀ hi₀ lo hi = hi - lo
 
-loop-holds : tie.Need-loop-holds Inv-loop μ-loop
-loop-holds c = search needs
-
-sub-mid : tie.Need-sub-mid Inv-loop μ-loop
-sub-mid c = search needs
-
-add-mid : tie.Need-add-mid Inv-loop μ-loop
-add-mid c = search needs
-
 number-at-requires : tie.Need-number-at-requires Inv-loop μ-loop
 number-at-requires c κs = omega arith
-
-add-lo : tie.Need-add-lo Inv-loop μ-loop
-add-lo c = search needs
-
-loop-less : tie.Need-loop-less Inv-loop μ-loop
-loop-less c = search needs
 
 loop-again : tie.Need-loop-again Inv-loop μ-loop
 loop-again c =
@@ -49,9 +34,6 @@ loop-again c =
     let g = count-over 0 (a .x) xs (at .before .before .pre .0 .0) mid (omega arith) h in
     (omega arith, omega arith, omega arith)
 
-loop-less-2 : tie.Need-loop-less-2 Inv-loop μ-loop
-loop-less-2 c = search needs
-
 loop-again-2 : tie.Need-loop-again-2 Inv-loop μ-loop
 loop-again-2 c =
     let at = c .before .before .before in
@@ -64,22 +46,9 @@ loop-again-2 c =
     let h : a .x ≤ getD xs mid 0 = omega (arith, c .if1 .left) in
     (omega arith, count-under 0 (a .x) xs (at .before .before .pre .0 .0) mid (omega arith) h, omega arith)
 
-returns : tie.Need-returns Inv-loop μ-loop
-returns c = search needs
-
 pub halve-spec : {M : Type 1} → statement M
 halve-spec =
     tie.close
     (tie.spec
-    Inv-loop
-    μ-loop
-    loop-holds
-    sub-mid
-    add-mid
-    number-at-requires
-    add-lo
-    loop-less
-    loop-again
-    loop-less-2
-    loop-again-2
-    returns)
+    Inv-loop μ-loop (λ c. search needs) (λ c. search needs) (λ c. search needs) number-at-requires (λ c. search needs)
+    (λ c. search needs) loop-again (λ c. search needs) loop-again-2 (λ c. search needs))

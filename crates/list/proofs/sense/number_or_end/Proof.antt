@@ -9,9 +9,6 @@ use borrow.Author.Needs.{needs}
 use Rattle.list.proofs.sense.number_or_end.Statement.{statement}
 use Rattle.list.proofs.sense.number_or_end.Tie as tie
 
-number-at-requires : tie.Need-number-at-requires
-number-at-requires c κs = search needs
-
 returns : tie.Need-returns
 returns c =
     let a = c .before .before .before .args in
@@ -27,4 +24,4 @@ returns-2 c =
     sym (end-is xs (a .i) (omega (arith, c .if1 .left)))
 
 pub number-or-end-spec : {M : Type 1} → statement M
-number-or-end-spec = tie.close (tie.spec number-at-requires returns returns-2)
+number-or-end-spec = tie.close (tie.spec (λ c κs. search needs) returns returns-2)

@@ -16,12 +16,6 @@ use borrow.Author.Needs.{needs}
 use Rattle.list.proofs.sense.sense_at.Statement.{statement}
 use Rattle.list.proofs.sense.sense_at.Tie as tie
 
-number-or-end-requires : tie.Need-number-or-end-requires
-number-or-end-requires c κs = search needs
-
-add-t11 : tie.Need-add-t11
-add-t11 c = search needs
-
 returns : tie.Need-returns
 returns c =
     let start = c .before .before .before .before .before .before .before in
@@ -38,9 +32,6 @@ returns c =
     let h = number-inside S (countBelow (a .x) S) (a .x) (omega arith) m in
     let i = number-is S (countBelow (a .x) S) h in
     sense-single S L U top (a .x) k (omega arith) h (omega arith)
-
-number-or-end-requires-2 : tie.Need-number-or-end-requires-2
-number-or-end-requires-2 c κs = search needs
 
 number-at-requires : tie.Need-number-at-requires
 number-at-requires c κs =
@@ -95,9 +86,6 @@ returns-2 c =
     let i = number-is L (countBelow (a .x) U) h in
     rw (c .number-at .ensures ∙ ap (λ (i : ℕ). getD U i 0) eq) (sense-pair S L U top (a .x) k (omega arith) h (omega arith))
 
-smaller-requires : tie.Need-smaller-requires
-smaller-requires c κs = search needs
-
 returns-3 : tie.Need-returns-3
 returns-3 c =
     let start = c .before .before .before .before .before .before .before .before .before .before in
@@ -120,12 +108,5 @@ pub sense-at-spec : {M : Type 1} → statement M
 sense-at-spec =
     tie.close
     (tie.spec
-    number-or-end-requires
-    add-t11
-    returns
-    number-or-end-requires-2
-    number-at-requires
-    add-t13
-    returns-2
-    smaller-requires
-    returns-3)
+    (λ c κs. search needs) (λ c. search needs) returns (λ c κs. search needs) number-at-requires add-t13 returns-2
+    (λ c κs. search needs) returns-3)

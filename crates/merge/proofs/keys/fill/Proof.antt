@@ -23,12 +23,6 @@ loop-holds c =
     let start = c .before .before .before in
     (omega arith, start .pre .1, fill-start (now (start .args .keys)) (dueAt (now (start .args .index)) (now (start .args .entries)) (replicate 16 S.start)))
 
-mul-lower-key : tie.Need-mul-lower-key Inv-loop μ-loop
-mul-lower-key c = search needs
-
-shared-slice-read-lower-key : tie.Need-shared-slice-read-lower-key Inv-loop μ-loop
-shared-slice-read-lower-key c = search needs
-
 cast-lower-key : tie.Need-cast-lower-key Inv-loop μ-loop
 cast-lower-key c = omega (arith, c .shared-slice-known3 .given (c .before .before .loop .j))
 
@@ -41,15 +35,6 @@ lower-key-requires c κs =
     let b = asked .below (at .loop .j) (c .before .loop-test .taken) in
     let few = asked .few in
     ((asked .sound, b), goes-start index (asked .sound) (getD (now (start .args .entries)) (at .loop .j) 0) b, omega arith)
-
-push-requires : tie.Need-push-requires Inv-loop μ-loop
-push-requires c κs = search needs
-
-add-j : tie.Need-add-j Inv-loop μ-loop
-add-j c = search needs
-
-loop-less : tie.Need-loop-less Inv-loop μ-loop
-loop-less c = search needs
 
 loop-again : tie.Need-loop-again Inv-loop μ-loop
 loop-again c =
@@ -76,16 +61,5 @@ pub fill-spec : {M : Type 1} → statement M
 fill-spec =
     tie.close
     (tie.spec
-    Inv-loop
-    μ-loop
-    loop-holds
-    mul-lower-key
-    shared-slice-read-lower-key
-    cast-lower-key
-    lower-key-requires
-    push-requires
-    add-j
-    loop-less
-    loop-again
-    same-length
-    returns)
+    Inv-loop μ-loop loop-holds (λ c. search needs) (λ c. search needs) cast-lower-key lower-key-requires
+    (λ c κs. search needs) (λ c. search needs) (λ c. search needs) loop-again same-length returns)

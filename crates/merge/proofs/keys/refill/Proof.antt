@@ -9,18 +9,6 @@ use borrow.Author.Needs.{needs}
 use Rattle.merge.proofs.keys.refill.Statement.{statement}
 use Rattle.merge.proofs.keys.refill.Tie as tie
 
-used-up-requires : tie.Need-used-up-requires
-used-up-requires c κs = search needs
-
-drop-least-requires : tie.Need-drop-least-requires
-drop-least-requires c κs = search needs
-
-sub-result : tie.Need-sub-result
-sub-result c = search needs
-
-same-length : tie.Need-same-length
-same-length c = search needs
-
 returns : tie.Need-returns
 returns c =
     let start = c .before .before .before .before .before .before .before .before in
@@ -36,12 +24,6 @@ lower-key-requires c κs =
     let used = sym (c .before .used-up .ensures) ∙ c .if1 .left in
     (pre .0, used-up-not (now (start .args .index)) (start .args .entry) (start .args .at) used (pre .1) (pre .2), pre .3)
 
-replace-least-requires : tie.Need-replace-least-requires
-replace-least-requires c κs = search needs
-
-same-length-2 : tie.Need-same-length-2
-same-length-2 c = search needs
-
 returns-2 : tie.Need-returns-2
 returns-2 c =
     let start = c .before .before .before .before .before .before .before .before .before in
@@ -55,12 +37,5 @@ pub refill-spec : {M : Type 1} → statement M
 refill-spec =
     tie.close
     (tie.spec
-    used-up-requires
-    drop-least-requires
-    sub-result
-    same-length
-    returns
-    lower-key-requires
-    replace-least-requires
-    same-length-2
-    returns-2)
+    (λ c κs. search needs) (λ c κs. search needs) (λ c. search needs) (λ c. search needs) returns lower-key-requires
+    (λ c κs. search needs) (λ c. search needs) returns-2)

@@ -8,9 +8,6 @@ use borrow.Author.Needs.{needs}
 use Rattle.merge.proofs.keys.to_upper.Statement.{statement}
 use Rattle.merge.proofs.keys.to_upper.Tie as tie
 
-next-interval-requires : tie.Need-next-interval-requires
-next-interval-requires c κs = search needs
-
 add-key : tie.Need-add-key
 add-key c =
     let start = c .before .before .before .before in
@@ -29,20 +26,11 @@ add-key-2 c =
     let b = bounds-high (now (start .args .index)) (start .pre .0 .0) (start .args .entry) (start .pre .0 .1) (start .args .at) (start .pre .1) in
     omega (arith, c .before .next-interval .ensures .1)
 
-cast-key : tie.Need-cast-key
-cast-key c = search needs
-
 add-key-3 : tie.Need-add-key-3
 add-key-3 c =
     let start = c .before .before .before .before in
     let b = bounds-high (now (start .args .index)) (start .pre .0 .0) (start .args .entry) (start .pre .0 .1) (start .args .at) (start .pre .1) in
     omega (arith, c .before .next-interval .ensures .1)
-
-replace-least-requires : tie.Need-replace-least-requires
-replace-least-requires c κs = search needs
-
-same-length : tie.Need-same-length
-same-length c = search needs
 
 returns : tie.Need-returns
 returns c =
@@ -56,12 +44,5 @@ pub to-upper-spec : {M : Type 1} → statement M
 to-upper-spec =
     tie.close
     (tie.spec
-    next-interval-requires
-    add-key
-    mul-key
-    add-key-2
-    cast-key
-    add-key-3
-    replace-least-requires
-    same-length
-    returns)
+    (λ c κs. search needs) add-key mul-key add-key-2 (λ c. search needs) add-key-3 (λ c κs. search needs)
+    (λ c. search needs) returns)

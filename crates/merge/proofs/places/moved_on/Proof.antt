@@ -3,12 +3,6 @@ use borrow.Author.Needs.{needs}
 use Rattle.merge.proofs.places.moved_on.Statement.{statement}
 use Rattle.merge.proofs.places.moved_on.Tie as tie
 
-singles-of-requires : tie.Need-singles-of-requires
-singles-of-requires c κs = search needs
-
-lower-of-requires : tie.Need-lower-of-requires
-lower-of-requires c κs = search needs
-
 stepped-requires : tie.Need-stepped-requires
 stepped-requires c κs =
     let pre = c .before .before .before .pre in
@@ -18,4 +12,4 @@ returns : tie.Need-returns
 returns c = rw (← c .before .before .singles-of .ensures, ← c .before .lower-of .ensures) (c .stepped .ensures)
 
 pub moved-on-spec : {M : Type 1} → statement M
-moved-on-spec = tie.close (tie.spec singles-of-requires lower-of-requires stepped-requires returns)
+moved-on-spec = tie.close (tie.spec (λ c κs. search needs) (λ c κs. search needs) stepped-requires returns)

@@ -6,15 +6,6 @@ use borrow.Author.Needs.{needs}
 use Rattle.merge.proofs.places.next_interval.Statement.{statement}
 use Rattle.merge.proofs.places.next_interval.Tie as tie
 
-singles-of-requires : tie.Need-singles-of-requires
-singles-of-requires c κs = search needs
-
-lower-of-requires : tie.Need-lower-of-requires
-lower-of-requires c κs = search needs
-
-upper-of-requires : tie.Need-upper-of-requires
-upper-of-requires c κs = search needs
-
 interval-at-requires : tie.Need-interval-at-requires
 interval-at-requires c κs =
     let start = c .before .before .before .before in
@@ -33,4 +24,5 @@ returns c =
 pub next-interval-spec : {M : Type 1} → statement M
 next-interval-spec =
     tie.close
-    (tie.spec singles-of-requires lower-of-requires upper-of-requires interval-at-requires returns)
+    (tie.spec
+    (λ c κs. search needs) (λ c κs. search needs) (λ c κs. search needs) interval-at-requires returns)

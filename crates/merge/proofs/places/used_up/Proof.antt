@@ -5,9 +5,6 @@ use borrow.Author.Needs.{needs}
 use Rattle.merge.proofs.places.used_up.Statement.{statement}
 use Rattle.merge.proofs.places.used_up.Tie as tie
 
-interval-count-requires : tie.Need-interval-count-requires
-interval-count-requires c κs = search needs
-
 add-result : tie.Need-add-result
 add-result c =
     let start = c .before .before .before .before .before .before in
@@ -23,4 +20,4 @@ returns c =
     rw (c .before .before .interval-count .ensures .0, entry-walked (start .args .index .now) (pre .0 .0) (start .args .entry) (pre .0 .1))
 
 pub used-up-spec : {M : Type 1} → statement M
-used-up-spec = tie.close (tie.spec interval-count-requires add-result returns)
+used-up-spec = tie.close (tie.spec (λ c κs. search needs) add-result returns)

@@ -7,25 +7,10 @@ use borrow.Author.Needs.{needs}
 use Rattle.query.proofs.ask.answer_question.Statement.{statement}
 use Rattle.query.proofs.ask.answer_question.Tie as tie
 
-read-question-requires : tie.Need-read-question-requires
-read-question-requires c κs = search needs
-
-enum-told : tie.Need-enum-told
-enum-told c = search needs
-
 answer-accepted-requires : tie.Need-answer-accepted-requires
 answer-accepted-requires c κs =
     let start = c .before .before .before .before .before .before .before in
     (start .pre, reading-asked (start .args .question .now) (c .before .enum-told .given .0 .0) (sym (c .before .before .before .read-question .ensures) ∙ c .before .enum-told .given .1))
-
-enum-known-refusal : tie.Need-enum-known-refusal
-enum-known-refusal c = search needs
-
-same-length : tie.Need-same-length
-same-length c = search needs
-
-returns : tie.Need-returns
-returns c = search needs
 
 returns-2 : tie.Need-returns-2
 returns-2 c =
@@ -37,10 +22,5 @@ pub answer-question-spec : {M : Type 1} → statement M
 answer-question-spec =
     tie.close
     (tie.spec
-    read-question-requires
-    enum-told
-    answer-accepted-requires
-    enum-known-refusal
-    same-length
-    returns
-    returns-2)
+    (λ c κs. search needs) (λ c. search needs) answer-accepted-requires (λ c. search needs) (λ c. search needs)
+    (λ c. search needs) returns-2)

@@ -7,21 +7,9 @@ use borrow.Author.Needs.{needs}
 use Rattle.query.proofs.ask.ask.Statement.{statement}
 use Rattle.query.proofs.ask.ask.Tie as tie
 
-check-index-requires : tie.Need-check-index-requires
-check-index-requires c κs = search needs
-
-enum-told : tie.Need-enum-told
-enum-told c = search needs
-
 answer-question-requires : tie.Need-answer-question-requires
 answer-question-requires c κs =
     good-sound (c .before .before .before .before .before .before .before .args .index .now) (sym (c .before .before .before .check-index .ensures) ∙ c .before .enum-told .given .1)
-
-enum-known-refusal : tie.Need-enum-known-refusal
-enum-known-refusal c = search needs
-
-same-length : tie.Need-same-length
-same-length c = search needs
 
 returns : tie.Need-returns
 returns c =
@@ -37,10 +25,5 @@ pub ask-spec : {M : Type 1} → statement M
 ask-spec =
     tie.close
     (tie.spec
-    check-index-requires
-    enum-told
-    answer-question-requires
-    enum-known-refusal
-    same-length
-    returns
+    (λ c κs. search needs) (λ c. search needs) answer-question-requires (λ c. search needs) (λ c. search needs) returns
     returns-2)

@@ -12,9 +12,6 @@ use Rattle.query.proofs.ask.put_answer.Tie as tie
 read-trailer-requires : tie.Need-read-trailer-requires
 read-trailer-requires c κs = let start = c .before .before .before .before in sound-length (start .args .index .now) (start .pre .0 .0) .0
 
-slots-sum-requires : tie.Need-slots-sum-requires
-slots-sum-requires c κs = search needs
-
 sweep-question-requires : tie.Need-sweep-question-requires
 sweep-question-requires c κs =
     let start = c .before .before .before .before .before .before .before .before in
@@ -36,9 +33,6 @@ sweep-question-requires c κs =
       ),
     )
 
-same-length : tie.Need-same-length
-same-length c = search needs
-
 returns : tie.Need-returns
 returns c t prepared =
     let start = c .before .before .before .before .before .before .before .before .before .before .before in
@@ -59,9 +53,6 @@ sweep-question-requires-2 c κs =
     let is = start .pre .1 in
     let limit = c .before .before .before .read-trailer .ensures .highest in
     ((sound .0, sound .1, limit), ((sound .2, is .prepared .count), record { tree = is .tree; reads = is .prepared .reads; room = λ w. true-false (sym w) }))
-
-same-length-2 : tie.Need-same-length-2
-same-length-2 c = search needs
 
 returns-2 : tie.Need-returns-2
 returns-2 c t prepared =
@@ -95,9 +86,6 @@ sweep-question-requires-3 c κs =
       ),
     )
 
-same-length-3 : tie.Need-same-length-3
-same-length-3 c = search needs
-
 returns-3 : tie.Need-returns-3
 returns-3 c t prepared =
     let start = c .before .before .before .before .before .before .before .before .before .before .before .before .before .before .before .before in
@@ -116,14 +104,5 @@ pub put-answer-spec : {M : Type 1} → statement M
 put-answer-spec =
     tie.close
     (tie.spec
-    read-trailer-requires
-    slots-sum-requires
-    sweep-question-requires
-    same-length
-    returns
-    sweep-question-requires-2
-    same-length-2
-    returns-2
-    sweep-question-requires-3
-    same-length-3
-    returns-3)
+    read-trailer-requires (λ c κs. search needs) sweep-question-requires (λ c. search needs) returns
+    sweep-question-requires-2 (λ c. search needs) returns-2 sweep-question-requires-3 (λ c. search needs) returns-3)

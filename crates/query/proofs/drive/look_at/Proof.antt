@@ -11,15 +11,6 @@ renew-senses-requires c κs =
     let slotted = start .pre .1 in
     ((start .pre .0 .0, slotted .long), ((slotted .few, start .pre .0 .1), slotted .sensed))
 
-look-level-requires : tie.Need-look-level-requires
-look-level-requires c κs = search needs
-
-same-length : tie.Need-same-length
-same-length c = search needs
-
-same-length-2 : tie.Need-same-length-2
-same-length-2 c = search needs
-
 returns : tie.Need-returns
 returns c =
     let start = c .before .before .before .before .before .before .before .before .before .before .before .before .before .before in
@@ -36,8 +27,4 @@ pub look-at-spec : {M : Type 1} → statement M
 look-at-spec =
     tie.close
     (tie.spec
-    renew-senses-requires
-    look-level-requires
-    same-length
-    same-length-2
-    returns)
+    renew-senses-requires (λ c κs. search needs) (λ c. search needs) (λ c. search needs) returns)

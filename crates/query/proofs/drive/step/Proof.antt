@@ -19,9 +19,6 @@ look-at-requires c κs =
 add-smaller : tie.Need-add-smaller
 add-smaller c = let stands = c .before .before .before .before .before .before .before .before .before .before .before .before .before .before .pre .1 .1 .0 in omega arith
 
-smaller-requires : tie.Need-smaller-requires
-smaller-requires c κs = search needs
-
 add-if1 : tie.Need-add-if1
 add-if1 c = let stands = c .before .before .before .before .before .before .before .before .before .before .before .before .before .before .before .pre .1 .1 .0 in omega arith
 
@@ -43,15 +40,6 @@ take-jump-requires c κs =
           (steady-constant p (a .at .x) y _ _ steady (omega arith))
           (roomy .room w (y - a .at .x) (omega arith)),
     )
-
-same-length : tie.Need-same-length
-same-length c = search needs
-
-same-length-2 : tie.Need-same-length-2
-same-length-2 c = search needs
-
-same-length-3 : tie.Need-same-length-3
-same-length-3 c = search needs
 
 returns : tie.Need-returns
 returns c =
@@ -77,12 +65,6 @@ returns c =
         ),
       ),
     )
-
-sub-take-window : tie.Need-sub-take-window
-sub-take-window c = search needs
-
-part-take-window-start : tie.Need-part-take-window-start
-part-take-window-start c = search needs
 
 part-take-window-end : tie.Need-part-take-window-end
 part-take-window-end c =
@@ -115,23 +97,11 @@ add-smaller-2 c = let stands = c .before .before .before .before .before .before
 add-smaller-3 : tie.Need-add-smaller-3
 add-smaller-3 c = let stands = c .before .before .before .before .before .before .before .before .before .before .before .before .before .before .before .before .before .before .before .before .before .before .before .before .before .before .pre .1 .1 .0 in omega arith
 
-smaller-requires-2 : tie.Need-smaller-requires-2
-smaller-requires-2 c κs = search needs
-
-doubled-requires : tie.Need-doubled-requires
-doubled-requires c κs = search needs
-
 same-length-4 : tie.Need-same-length-4
 same-length-4 c = c .before .before .before .before .before .before .before .before .take-window .ensures .0 .hints-long ∙ c .before .before .before .before .before .before .before .before .before .before .before .before .before .before .before .before .before .before .look-at .ensures .0 .0
 
-same-length-5 : tie.Need-same-length-5
-same-length-5 c = search needs
-
 same-length-6 : tie.Need-same-length-6
 same-length-6 c = search needs
-
-same-length-7 : tie.Need-same-length-7
-same-length-7 c = search needs
 
 returns-2 : tie.Need-returns-2
 returns-2 c =
@@ -161,27 +131,7 @@ pub step-spec : {M : Type 1} → statement M
 step-spec =
     tie.close
     (tie.spec
-    look-at-requires
-    add-smaller
-    smaller-requires
-    add-if1
-    take-jump-requires
-    same-length
-    same-length-2
-    same-length-3
-    returns
-    sub-take-window
-    part-take-window-start
-    part-take-window-end
-    take-window-requires
-    cast-smaller
-    mul-smaller
-    add-smaller-2
-    add-smaller-3
-    smaller-requires-2
-    doubled-requires
-    same-length-4
-    same-length-5
-    same-length-6
-    same-length-7
-    returns-2)
+    look-at-requires add-smaller (λ c κs. search needs) add-if1 take-jump-requires (λ c. search needs)
+    (λ c. search needs) (λ c. search needs) returns (λ c. search needs) (λ c. search needs) part-take-window-end
+    take-window-requires cast-smaller mul-smaller add-smaller-2 add-smaller-3 (λ c κs. search needs)
+    (λ c κs. search needs) same-length-4 (λ c. search needs) same-length-6 (λ c. search needs) returns-2)

@@ -168,15 +168,5 @@ pub sweep-spec : {M : Type 1} → statement M
 sweep-spec =
     tie.close
     (tie.spec
-    Inv-loop
-    μ-loop
-    loop-holds
-    step-requires
-    loop-less
-    loop-again
-    put-turn-requires
-    same-length
-    same-length-2
-    same-length-3
-    same-length-4
-    returns)
+    Inv-loop μ-loop loop-holds step-requires loop-less loop-again put-turn-requires same-length same-length-2
+    same-length-3 same-length-4 returns)

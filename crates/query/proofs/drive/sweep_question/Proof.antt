@@ -6,15 +6,6 @@ use Rattle.evaluate.proofs.SensedLaws.{sensed-none}
 use Rattle.query.proofs.drive.sweep_question.Statement.{statement}
 use Rattle.query.proofs.drive.sweep_question.Tie as tie
 
-slice-aggregate-sweep : tie.Need-slice-aggregate-sweep
-slice-aggregate-sweep c = search needs
-
-slice-aggregate-sweep-2 : tie.Need-slice-aggregate-sweep-2
-slice-aggregate-sweep-2 c = search needs
-
-slice-aggregate-sweep-3 : tie.Need-slice-aggregate-sweep-3
-slice-aggregate-sweep-3 c = search needs
-
 sweep-requires : tie.Need-sweep-requires
 sweep-requires c κs =
     let start = c .before .before .before .before .before .before .before .before in
@@ -25,19 +16,8 @@ sweep-requires c κs =
       (record { long = refl; few = slots .0; all = slots .1; sensed = sensed-none (slotHas (a .index .now) (a .entries .now)) 16 1 }, start .pre .1 .1),
     )
 
-same-length : tie.Need-same-length
-same-length c = search needs
-
-returns : tie.Need-returns
-returns c = search needs
-
 pub sweep-question-spec : {M : Type 1} → statement M
 sweep-question-spec =
     tie.close
     (tie.spec
-    slice-aggregate-sweep
-    slice-aggregate-sweep-2
-    slice-aggregate-sweep-3
-    sweep-requires
-    same-length
-    returns)
+    (λ c. search needs) (λ c. search needs) (λ c. search needs) sweep-requires (λ c. search needs) (λ c. search needs))

@@ -9,9 +9,6 @@ use Rattle.query.proofs.DriveLaws.{tree-holds, blank-length, blank-agai
 use Rattle.query.proofs.drive.take_window.Statement.{statement}
 use Rattle.query.proofs.drive.take_window.Tie as tie
 
-clear-requires : tie.Need-clear-requires
-clear-requires c κs = search needs
-
 eval-level-requires : tie.Need-eval-level-requires
 eval-level-requires c κs =
     let start = c .before .before .before .before .before .before .before .before .before .before .before .before in
@@ -57,15 +54,6 @@ add-t27 c =
     let few = members-few _ _ (c .count-members .ensures) in
     omega arith
 
-same-length : tie.Need-same-length
-same-length c = search needs
-
-same-length-2 : tie.Need-same-length-2
-same-length-2 c = search needs
-
-same-length-3 : tie.Need-same-length-3
-same-length-3 c = search needs
-
 returns : tie.Need-returns
 returns c =
     let start = c .before .before .before .before .before .before .before .before .before .before .before .before .before .before .before .before .before .before .before .before .before .before .before .before in
@@ -84,12 +72,5 @@ pub take-window-spec : {M : Type 1} → statement M
 take-window-spec =
     tie.close
     (tie.spec
-    clear-requires
-    eval-level-requires
-    put-flips-requires
-    count-members-requires
-    add-t27
-    same-length
-    same-length-2
-    same-length-3
-    returns)
+    (λ c κs. search needs) eval-level-requires put-flips-requires count-members-requires add-t27 (λ c. search needs)
+    (λ c. search needs) (λ c. search needs) returns)

@@ -19,23 +19,11 @@ abbrev μ-loop : tie.MeasureT-loop
 loop-holds : tie.Need-loop-holds Inv-loop μ-loop
 loop-holds c = (search needs, first-start (foreignAt (c .before .args .s .now)) (length (c .before .args .s .now)))
 
-shared-slice-read-is-foreign : tie.Need-shared-slice-read-is-foreign Inv-loop μ-loop
-shared-slice-read-is-foreign c = search needs
-
-is-foreign-requires : tie.Need-is-foreign-requires Inv-loop μ-loop
-is-foreign-requires c κs = search needs
-
 returns : tie.Need-returns Inv-loop μ-loop
 returns c =
     let s = c .before .before .before .before .before .before .args .s .now in
     let at = c .before .before .before .before .loop in
     sym (at .inv .1 ∙ first-hit (foreignAt s) (at .i) (length s) (c .before .before .before .loop-test .taken) (sym (c .before .is-foreign .ensures) ∙ c .if1 .taken))
-
-add-i : tie.Need-add-i Inv-loop μ-loop
-add-i c = search needs
-
-loop-less : tie.Need-loop-less Inv-loop μ-loop
-loop-less c = search needs
 
 loop-again : tie.Need-loop-again Inv-loop μ-loop
 loop-again c =
@@ -53,13 +41,5 @@ pub first-foreign-spec : {M : Type 1} → statement M
 first-foreign-spec =
     tie.close
     (tie.spec
-    Inv-loop
-    μ-loop
-    loop-holds
-    shared-slice-read-is-foreign
-    is-foreign-requires
-    returns
-    add-i
-    loop-less
-    loop-again
-    returns-2)
+    Inv-loop μ-loop loop-holds (λ c. search needs) (λ c κs. search needs) returns (λ c. search needs)
+    (λ c. search needs) loop-again returns-2)

@@ -20,12 +20,6 @@ abbrev μ-loop : tie.MeasureT-loop
 loop-holds : tie.Need-loop-holds Inv-loop μ-loop
 loop-holds c = (search needs, first-start (longAt (c .before .args .s .now)) (length (c .before .args .s .now)))
 
-run-end-requires : tie.Need-run-end-requires Inv-loop μ-loop
-run-end-requires c κs = search needs
-
-sub-if1 : tie.Need-sub-if1 Inv-loop μ-loop
-sub-if1 c = search needs
-
 returns : tie.Need-returns Inv-loop μ-loop
 returns c =
     let at = c .before .before .before .loop in
@@ -35,12 +29,6 @@ returns-2 : tie.Need-returns-2 Inv-loop μ-loop
 returns-2 c =
     let at = c .before .before .before .before .loop in
     sym (at .inv .1 ∙ long-none (c .before .before .before .before .before .before .args .s .now) (at .i) (c .before .before .run-end .result) (c .before .before .run-end .ensures .0) (c .before .if1 .left) (omega arith))
-
-add-i : tie.Need-add-i Inv-loop μ-loop
-add-i c = search needs
-
-loop-less : tie.Need-loop-less Inv-loop μ-loop
-loop-less c = search needs
 
 loop-again : tie.Need-loop-again Inv-loop μ-loop
 loop-again c =
@@ -57,14 +45,5 @@ pub first-long-spec : {M : Type 1} → statement M
 first-long-spec =
     tie.close
     (tie.spec
-    Inv-loop
-    μ-loop
-    loop-holds
-    run-end-requires
-    sub-if1
-    returns
-    returns-2
-    add-i
-    loop-less
-    loop-again
-    returns-3)
+    Inv-loop μ-loop loop-holds (λ c κs. search needs) (λ c. search needs) returns returns-2 (λ c. search needs)
+    (λ c. search needs) loop-again returns-3)

@@ -4,12 +4,9 @@ use borrow.Author.Needs.{needs}
 use Rattle.question.proofs.faults.is_foreign.Statement.{statement}
 use Rattle.question.proofs.faults.is_foreign.Tie as tie
 
-word-byte-requires : tie.Need-word-byte-requires
-word-byte-requires c κs = search needs
-
 returns : tie.Need-returns
 unfolding isForeign
 returns c = rw (c .word-byte .ensures)
 
 pub is-foreign-spec : {M : Type 1} → statement M
-is-foreign-spec = tie.close (tie.spec word-byte-requires returns)
+is-foreign-spec = tie.close (tie.spec (λ c κs. search needs) returns)

@@ -6,25 +6,10 @@ use borrow.Author.Needs.{needs}
 use Rattle.question.proofs.reader.read_whole.Statement.{statement}
 use Rattle.question.proofs.reader.read_whole.Tie as tie
 
-question-requires : tie.Need-question-requires
-question-requires c κs = search needs
-
-enum-known-next : tie.Need-enum-known-next
-enum-known-next c = search needs
-
 next-token-requires : tie.Need-next-token-requires
 next-token-requires c κs =
     let a = laws.ahead 0 (length (c .before .before .before .before .before .args .s .now)) 0 (c .before .next .given .0 .0) (c .before .next .given .0 .1 .0) (c .before .next .given .1) (c .before .before .before .question .ensures .ahead) in
     omega arith
-
-enum-told : tie.Need-enum-told
-enum-told c = search needs
-
-token-start-requires : tie.Need-token-start-requires
-token-start-requires c κs = search needs
-
-enum-known-refusal : tie.Need-enum-known-refusal
-enum-known-refusal c = search needs
 
 returns : tie.Need-returns
 returns c =
@@ -43,12 +28,5 @@ pub read-whole-spec : {M : Type 1} → statement M
 read-whole-spec =
     tie.close
     (tie.spec
-    question-requires
-    enum-known-next
-    next-token-requires
-    enum-told
-    token-start-requires
-    enum-known-refusal
-    returns
-    returns-2
-    returns-3)
+    (λ c κs. search needs) (λ c. search needs) next-token-requires (λ c. search needs) (λ c κs. search needs)
+    (λ c. search needs) returns returns-2 returns-3)

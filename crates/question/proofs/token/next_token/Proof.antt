@@ -6,23 +6,8 @@ use borrow.Author.Needs.{needs}
 use Rattle.question.proofs.token.next_token.Statement.{statement}
 use Rattle.question.proofs.token.next_token.Tie as tie
 
-past-spaces-requires : tie.Need-past-spaces-requires
-past-spaces-requires c κs = search needs
-
 returns : tie.Need-returns
 returns c = next-end (c .before .before .before .args .s .now) (c .before .before .before .args .at) (c .before .past-spaces .result) (c .before .past-spaces .ensures .0) (c .if1 .taken) (c .before .past-spaces .ensures .1)
-
-shared-slice-read-b : tie.Need-shared-slice-read-b
-shared-slice-read-b c = search needs
-
-word-byte-requires : tie.Need-word-byte-requires
-word-byte-requires c κs = search needs
-
-run-end-requires : tie.Need-run-end-requires
-run-end-requires c κs = search needs
-
-run-token-requires : tie.Need-run-token-requires
-run-token-requires c κs = search needs
 
 returns-2 : tie.Need-returns-2
 returns-2 c =
@@ -52,13 +37,5 @@ pub next-token-spec : {M : Type 1} → statement M
 next-token-spec =
     tie.close
     (tie.spec
-    past-spaces-requires
-    returns
-    shared-slice-read-b
-    word-byte-requires
-    run-end-requires
-    run-token-requires
-    returns-2
-    returns-3
-    returns-4
-    returns-5)
+    (λ c κs. search needs) returns (λ c. search needs) (λ c κs. search needs) (λ c κs. search needs)
+    (λ c κs. search needs) returns-2 returns-3 returns-4 returns-5)

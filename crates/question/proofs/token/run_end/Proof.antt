@@ -16,27 +16,12 @@ Inv-loop s at i₀ i = (i ≤ length s) × (i + run (drop i s) ≡ at + run (dro
 abbrev μ-loop : tie.MeasureT-loop
 μ-loop s at i₀ i = length s - i
 
-loop-holds : tie.Need-loop-holds Inv-loop μ-loop
-loop-holds c = search needs
-
-shared-slice-read-word-byte : tie.Need-shared-slice-read-word-byte Inv-loop μ-loop
-shared-slice-read-word-byte c = search needs
-
-word-byte-requires : tie.Need-word-byte-requires Inv-loop μ-loop
-word-byte-requires c κs = search needs
-
 returns : tie.Need-returns Inv-loop μ-loop
 returns c =
     let s = c .before .before .before .before .before .before .args .s .now in
     let i = c .before .before .before .before .loop .i in
     let h : i < length s = omega arith in
     omega (arith, laws.run-stop s i h (sym (c .before .word-byte .ensures) ∙ not-true _ (c .if1 .taken)))
-
-add-i : tie.Need-add-i Inv-loop μ-loop
-add-i c = search needs
-
-loop-less : tie.Need-loop-less Inv-loop μ-loop
-loop-less c = search needs
 
 loop-again : tie.Need-loop-again Inv-loop μ-loop
 loop-again c =
@@ -52,13 +37,5 @@ pub run-end-spec : {M : Type 1} → statement M
 run-end-spec =
     tie.close
     (tie.spec
-    Inv-loop
-    μ-loop
-    loop-holds
-    shared-slice-read-word-byte
-    word-byte-requires
-    returns
-    add-i
-    loop-less
-    loop-again
-    returns-2)
+    Inv-loop μ-loop (λ c. search needs) (λ c. search needs) (λ c κs. search needs) returns (λ c. search needs)
+    (λ c. search needs) loop-again returns-2)

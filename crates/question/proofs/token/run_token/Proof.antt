@@ -6,30 +6,6 @@ use borrow.Author.Needs.{needs}
 use Rattle.question.proofs.token.run_token.Statement.{statement}
 use Rattle.question.proofs.token.run_token.Tie as tie
 
-sub-operator-of : tie.Need-sub-operator-of
-sub-operator-of c = search needs
-
-part-operator-of-start : tie.Need-part-operator-of-start
-part-operator-of-start c = search needs
-
-part-operator-of-end : tie.Need-part-operator-of-end
-part-operator-of-end c = search needs
-
-operator-of-requires : tie.Need-operator-of-requires
-operator-of-requires c κs = search needs
-
-enum-told : tie.Need-enum-told
-enum-told c = search needs
-
-enum-told-2 : tie.Need-enum-told-2
-enum-told-2 c = search needs
-
-enum-told-3 : tie.Need-enum-told-3
-enum-told-3 c = search needs
-
-enum-told-4 : tie.Need-enum-told-4
-enum-told-4 c = search needs
-
 returns : tie.Need-returns
 returns c = run-and (c .before .before .before .before .before .args .s .now) (c .before .before .before .before .before .args .start) (c .before .before .before .before .before .args .end) (omega arith) (sym (c .before .before .operator-of .ensures) ∙ c .enum-told .given .1)
 
@@ -46,15 +22,5 @@ pub run-token-spec : {M : Type 1} → statement M
 run-token-spec =
     tie.close
     (tie.spec
-    sub-operator-of
-    part-operator-of-start
-    part-operator-of-end
-    operator-of-requires
-    enum-told
-    enum-told-2
-    enum-told-3
-    enum-told-4
-    returns
-    returns-2
-    returns-3
-    returns-4)
+    (λ c. search needs) (λ c. search needs) (λ c. search needs) (λ c κs. search needs) (λ c. search needs)
+    (λ c. search needs) (λ c. search needs) (λ c. search needs) returns returns-2 returns-3 returns-4)

@@ -6,29 +6,11 @@ use borrow.Author.Needs.{needs}
 use Rattle.question.proofs.token.token_end.Statement.{statement}
 use Rattle.question.proofs.token.token_end.Tie as tie
 
-enum-known-token : tie.Need-enum-known-token
-enum-known-token c = search needs
-
-enum-known-token-2 : tie.Need-enum-known-token-2
-enum-known-token-2 c = search needs
-
-enum-known-token-3 : tie.Need-enum-known-token-3
-enum-known-token-3 c = search needs
-
-enum-known-token-4 : tie.Need-enum-known-token-4
-enum-known-token-4 c = search needs
-
 add-result : tie.Need-add-result
 add-result c = omega (arith, ap endOf (c .before .token4 .given .1))
 
-enum-known-token-5 : tie.Need-enum-known-token-5
-enum-known-token-5 c = search needs
-
 add-result-2 : tie.Need-add-result-2
 add-result-2 c = omega (arith, ap endOf (c .before .token5 .given .1))
-
-enum-known-token-6 : tie.Need-enum-known-token-6
-enum-known-token-6 c = search needs
 
 add-result-3 : tie.Need-add-result-3
 add-result-3 c = omega (arith, ap endOf (c .before .token6 .given .1))
@@ -55,18 +37,5 @@ pub token-end-spec : {M : Type 1} → statement M
 token-end-spec =
     tie.close
     (tie.spec
-    enum-known-token
-    enum-known-token-2
-    enum-known-token-3
-    enum-known-token-4
-    add-result
-    enum-known-token-5
-    add-result-2
-    enum-known-token-6
-    add-result-3
-    returns
-    returns-2
-    returns-3
-    returns-4
-    returns-5
-    returns-6)
+    (λ c. search needs) (λ c. search needs) (λ c. search needs) (λ c. search needs) add-result (λ c. search needs)
+    add-result-2 (λ c. search needs) add-result-3 returns returns-2 returns-3 returns-4 returns-5 returns-6)

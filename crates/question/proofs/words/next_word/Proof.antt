@@ -20,21 +20,12 @@ abbrev μ-loop : tie.MeasureT-loop
 loop-holds : tie.Need-loop-holds Inv-loop μ-loop
 loop-holds c = (search needs, refl, refl)
 
-next-token-requires : tie.Need-next-token-requires Inv-loop μ-loop
-next-token-requires c κs = search needs
-
-enum-known-token : tie.Need-enum-known-token Inv-loop μ-loop
-enum-known-token c = search needs
-
 returns : tie.Need-returns Inv-loop μ-loop
 returns c =
     let i = c .before .before .before .before .before .before .args in
     let at = c .before .before .before .before .loop in
     let token = c .before .token .given in
     next-from (i .s .now) (i .at) (at .i) (At (token .0 .0) (token .0 .1 .0)) (at .inv .1) (at .inv .2) (word-next (i .s .now) (at .i) (c .before .before .before .next-token .result) (c .before .before .before .next-token .ensures) (token .0 .0) (token .0 .1 .0) (token .1))
-
-enum-told : tie.Need-enum-told Inv-loop μ-loop
-enum-told c = search needs
 
 returns-2 : tie.Need-returns-2 Inv-loop μ-loop
 returns-2 c =
@@ -62,14 +53,5 @@ pub next-word-spec : {M : Type 1} → statement M
 next-word-spec =
     tie.close
     (tie.spec
-    Inv-loop
-    μ-loop
-    loop-holds
-    next-token-requires
-    enum-known-token
-    returns
-    enum-told
-    returns-2
-    token-end-requires
-    loop-less
-    loop-again)
+    Inv-loop μ-loop loop-holds (λ c κs. search needs) (λ c. search needs) returns (λ c. search needs) returns-2
+    token-end-requires loop-less loop-again)

@@ -26,30 +26,6 @@ loop-holds : tie.Need-loop-holds Inv-loop μ-loop
 unfolding tokens
 loop-holds c = (search needs, search needs, place-start (startsIn (tokensAt (c .before .args .question .now) 0)), place-start (endsIn (tokensAt (c .before .args .question .now) 0)), search needs)
 
-next-word-requires : tie.Need-next-word-requires Inv-loop μ-loop
-next-word-requires c κs = search needs
-
-enum-known-start : tie.Need-enum-known-start Inv-loop μ-loop
-enum-known-start c = search needs
-
-mul-starts : tie.Need-mul-starts Inv-loop μ-loop
-mul-starts c = search needs
-
-array-write-starts : tie.Need-array-write-starts Inv-loop μ-loop
-array-write-starts c = search needs
-
-mul-ends : tie.Need-mul-ends Inv-loop μ-loop
-mul-ends c = search needs
-
-array-write-ends : tie.Need-array-write-ends Inv-loop μ-loop
-array-write-ends c = search needs
-
-add-count : tie.Need-add-count Inv-loop μ-loop
-add-count c = search needs
-
-loop-less : tie.Need-loop-less Inv-loop μ-loop
-loop-less c = search needs
-
 loop-again : tie.Need-loop-again Inv-loop μ-loop
 loop-again c =
     let s = c .before .before .before .before .before .before .before .args .question .now in
@@ -57,9 +33,6 @@ loop-again c =
     let found = c .before .start .given in
     let w = subst (IsNextWord s (at .at)) (found .1) (c .before .before .before .next-word .ensures) in
     (omega arith, w .2, at .inv .2 ∙ place-one (at .starts) _ _ (at .count) (found .0 .0) (c .before .before .before .before .loop-test .taken) (w .0), at .inv .3 ∙ place-one (at .ends) _ _ (at .count) (found .0 .1 .0) (c .before .before .before .before .loop-test .taken) (w .1), omega (arith, ap length (w .0)))
-
-enum-told : tie.Need-enum-told Inv-loop μ-loop
-enum-told c = search needs
 
 returns : tie.Need-returns Inv-loop μ-loop
 returns c =
@@ -77,18 +50,6 @@ pub word-places-spec : {M : Type 1} → statement M
 word-places-spec =
     tie.close
     (tie.spec
-    Inv-loop
-    μ-loop
-    loop-holds
-    next-word-requires
-    enum-known-start
-    mul-starts
-    array-write-starts
-    mul-ends
-    array-write-ends
-    add-count
-    loop-less
-    loop-again
-    enum-told
-    returns
-    returns-2)
+    Inv-loop μ-loop loop-holds (λ c κs. search needs) (λ c. search needs) (λ c. search needs) (λ c. search needs)
+    (λ c. search needs) (λ c. search needs) (λ c. search needs) (λ c. search needs) loop-again (λ c. search needs)
+    returns returns-2)

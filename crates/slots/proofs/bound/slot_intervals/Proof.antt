@@ -6,22 +6,10 @@ use Rattle.slots.proofs.bound.slot_intervals.Statement.{statement}
 use Rattle.slots.proofs.bound.slot_intervals.Tie as tie
 use borrow.Author.Needs.{needs}
 
-mul-entry : tie.Need-mul-entry
-mul-entry c = search needs
-
-shared-slice-read-entry : tie.Need-shared-slice-read-entry
-shared-slice-read-entry c = search needs
-
-word-count-requires : tie.Need-word-count-requires
-word-count-requires c κs = search needs
-
 returns : tie.Need-returns
 returns c =
     let start = c .before .before .before .before .before in
     (sym (slot-intervals-out (start .args .index .now) (start .args .entries .now) (start .pre .0) (start .args .k) (omega (arith, c .before .word-count .ensures .0))), search needs)
-
-interval-count-requires : tie.Need-interval-count-requires
-interval-count-requires c κs = search needs
 
 returns-2 : tie.Need-returns-2
 returns-2 c =
@@ -29,4 +17,7 @@ returns-2 c =
     (c .interval-count .ensures .0 ∙ sym (slot-intervals-in (start .args .index .now) (start .args .entries .now) (start .pre .0) (start .args .k) (omega (arith, c .before .before .word-count .ensures .0))), c .interval-count .ensures .1)
 
 pub slot-intervals-spec : {M : Type 1} → statement M
-slot-intervals-spec = tie.close (tie.spec mul-entry shared-slice-read-entry word-count-requires returns interval-count-requires returns-2)
+slot-intervals-spec =
+    tie.close
+    (tie.spec
+    (λ c. search needs) (λ c. search needs) (λ c κs. search needs) returns (λ c κs. search needs) returns-2)

@@ -23,18 +23,6 @@ loop-holds c =
     let e = slots-whole (start .args .index .now) (start .args .entries .now) (start .args .count) in
     (search needs, search needs, omega (arith, e))
 
-slot-intervals-requires : tie.Need-slot-intervals-requires Inv-loop μ-loop
-slot-intervals-requires c κs = search needs
-
-add-sum : tie.Need-add-sum Inv-loop μ-loop
-add-sum c = search needs
-
-add-k : tie.Need-add-k Inv-loop μ-loop
-add-k c = search needs
-
-loop-less : tie.Need-loop-less Inv-loop μ-loop
-loop-less c = search needs
-
 loop-again : tie.Need-loop-again Inv-loop μ-loop
 loop-again c =
     let start = c .before .before .before .before .before in
@@ -53,12 +41,5 @@ pub slots-sum-spec : {M : Type 1} → statement M
 slots-sum-spec =
     tie.close
     (tie.spec
-    Inv-loop
-    μ-loop
-    loop-holds
-    slot-intervals-requires
-    add-sum
-    add-k
-    loop-less
-    loop-again
-    returns)
+    Inv-loop μ-loop loop-holds (λ c κs. search needs) (λ c. search needs) (λ c. search needs) (λ c. search needs)
+    loop-again returns)

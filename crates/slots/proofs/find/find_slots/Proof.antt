@@ -16,23 +16,8 @@ Inv-loop index question entries₀ starts ends count k₀ entries k =
 abbrev μ-loop : tie.MeasureT-loop
 μ-loop index question entries₀ starts ends count k₀ entries k = count - k
 
-word-places-requires : tie.Need-word-places-requires Inv-loop μ-loop
-word-places-requires c κs = search needs
-
 loop-holds : tie.Need-loop-holds Inv-loop μ-loop
 loop-holds c = (search needs, refl, λ j h. absurd (omega arith))
-
-mul-start : tie.Need-mul-start Inv-loop μ-loop
-mul-start c = search needs
-
-array-read-start : tie.Need-array-read-start Inv-loop μ-loop
-array-read-start c = search needs
-
-mul-end : tie.Need-mul-end Inv-loop μ-loop
-mul-end c = search needs
-
-array-read-end : tie.Need-array-read-end Inv-loop μ-loop
-array-read-end c = search needs
 
 sub-entry-of : tie.Need-sub-entry-of Inv-loop μ-loop
 sub-entry-of c =
@@ -64,21 +49,6 @@ part-entry-of-end c =
     let lt : k < a .words = omega (arith, st .count) in
     omega (arith, st .order k lt, st .inside k lt)
 
-entry-of-requires : tie.Need-entry-of-requires Inv-loop μ-loop
-entry-of-requires c κs = search needs
-
-mul-entries : tie.Need-mul-entries Inv-loop μ-loop
-mul-entries c = search needs
-
-slice-write-entries : tie.Need-slice-write-entries Inv-loop μ-loop
-slice-write-entries c = search needs
-
-add-k : tie.Need-add-k Inv-loop μ-loop
-add-k c = search needs
-
-loop-less : tie.Need-loop-less Inv-loop μ-loop
-loop-less c = search needs
-
 loop-again : tie.Need-loop-again Inv-loop μ-loop
 loop-again c =
     let at = c .before .before .before .loop in
@@ -86,9 +56,6 @@ loop-again c =
     let start = r .before .before .before .before in
     let p = r .word-places .result in
     (omega arith, simp length-set (at .inv .1), filled-next (start .args .index .now) (λ j. cut (start .args .question .now) (getD (p .starts) j 0) (getD (p .ends) j 0)) (at .entries) (at .k) (c .entry-of .result) (omega arith) (at .inv .2) (c .entry-of .ensures))
-
-same-length : tie.Need-same-length Inv-loop μ-loop
-same-length c = search needs
 
 returns : tie.Need-returns Inv-loop μ-loop
 returns c =
@@ -102,22 +69,6 @@ pub find-slots-spec : {M : Type 1} → statement M
 find-slots-spec =
     tie.close
     (tie.spec
-    Inv-loop
-    μ-loop
-    word-places-requires
-    loop-holds
-    mul-start
-    array-read-start
-    mul-end
-    array-read-end
-    sub-entry-of
-    part-entry-of-start
-    part-entry-of-end
-    entry-of-requires
-    mul-entries
-    slice-write-entries
-    add-k
-    loop-less
-    loop-again
-    same-length
-    returns)
+    Inv-loop μ-loop (λ c κs. search needs) loop-holds (λ c. search needs) (λ c. search needs) (λ c. search needs)
+    (λ c. search needs) sub-entry-of part-entry-of-start part-entry-of-end (λ c κs. search needs) (λ c. search needs)
+    (λ c. search needs) (λ c. search needs) (λ c. search needs) loop-again (λ c. search needs) returns)

@@ -5,16 +5,10 @@ use borrow.Author.Needs.{needs}
 use Rattle.union.proofs.active.put_before.Statement.{statement}
 use Rattle.union.proofs.active.put_before.Tie as tie
 
-apart-requires : tie.Need-apart-requires
-apart-requires c κs = search needs
-
 put-requires : tie.Need-put-requires
 put-requires c κs =
     let start = c .before .before .before .before in
     start .pre .1 (sym (c .before .before .apart .ensures) ∙ c .before .if1 .taken)
-
-same-length : tie.Need-same-length
-same-length c = search needs
 
 returns : tie.Need-returns
 returns c =
@@ -27,4 +21,4 @@ returns-2 c =
     (λ e. true-false (sym e ∙ apart), λ e. (refl, refl))
 
 pub put-before-spec : {M : Type 1} → statement M
-put-before-spec = tie.close (tie.spec apart-requires put-requires same-length returns returns-2)
+put-before-spec = tie.close (tie.spec (λ c κs. search needs) put-requires (λ c. search needs) returns returns-2)

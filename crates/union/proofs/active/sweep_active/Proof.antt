@@ -19,33 +19,12 @@ abbrev μ-loop : tie.MeasureT-loop
 μ-loop index entries writing out₀ keys₀ size₀ places₀ tally₀ first active₀ out keys size places tally active =
     leftSum index entries places
 
-slice-aggregate-fill : tie.Need-slice-aggregate-fill Inv-loop μ-loop
-slice-aggregate-fill c = search needs
-
-fill-requires : tie.Need-fill-requires Inv-loop μ-loop
-fill-requires c κs = search needs
-
-all-at-start-requires : tie.Need-all-at-start-requires Inv-loop μ-loop
-all-at-start-requires c κs = search needs
-
-array-read-first : tie.Need-array-read-first Inv-loop μ-loop
-array-read-first c = search needs
-
 loop-holds : tie.Need-loop-holds Inv-loop μ-loop
 loop-holds c =
     let s = c .before .before .before .before .before .before .before in
     let a = s .args in
     let filled = c .before .before .fill in
     line-start (now (a .index)) (now (a .entries)) (s .pre .0) (a .writing) (now (a .out)) _ _ _ _ _ (filled .ensures .0) (filled .ensures .1) refl (c .all-at-start .ensures) refl refl refl refl
-
-array-read-j : tie.Need-array-read-j Inv-loop μ-loop
-array-read-j c = search needs
-
-cast-j : tie.Need-cast-j Inv-loop μ-loop
-cast-j c = search needs
-
-mul-entry : tie.Need-mul-entry Inv-loop μ-loop
-mul-entry c = search needs
 
 shared-slice-read-entry : tie.Need-shared-slice-read-entry Inv-loop μ-loop
 shared-slice-read-entry c =
@@ -57,12 +36,6 @@ shared-slice-read-entry c =
 
 cast-entry : tie.Need-cast-entry Inv-loop μ-loop
 cast-entry c = omega (arith, c .shared-slice-known3 .given (getD (c .before .before .loop .keys) 0 0 % 16))
-
-mul-next-interval : tie.Need-mul-next-interval Inv-loop μ-loop
-mul-next-interval c = search needs
-
-array-copy-out-next-interval : tie.Need-array-copy-out-next-interval Inv-loop μ-loop
-array-copy-out-next-interval c = search needs
 
 next-interval-requires : tie.Need-next-interval-requires Inv-loop μ-loop
 next-interval-requires c κs =
@@ -83,9 +56,6 @@ put-before-requires c κs =
     let read = c .before .next-interval in
     (line .inv .state .high, active-fits (now (a .index)) (now (a .entries)) (s .pre .0) (a .writing) (now (a .out)) (line .out) (line .places) (line .tally) (line .active) (line .inv .state) (getD (line .keys) 0 0 % 16) (read .result) (line-next (now (a .index)) (now (a .entries)) (s .pre .0) (a .writing) (now (a .out)) (line .out) (line .keys) (line .size) (line .places) (line .tally) (line .active) (line .inv) some (read .result) (read .ensures .0) (read .ensures .1)) (s .pre .1))
 
-joined-requires : tie.Need-joined-requires Inv-loop μ-loop
-joined-requires c κs = search needs
-
 moved-on-requires : tie.Need-moved-on-requires Inv-loop μ-loop
 moved-on-requires c κs =
     let at = c .before .before .before .before .before .before .before .before .before in
@@ -96,15 +66,6 @@ moved-on-requires c κs =
     let few = s .pre .0 .few in
     let list = line-list (now (a .index)) (now (a .entries)) (s .pre .0) (a .writing) (now (a .out)) (line .out) (line .keys) (line .size) (line .places) (line .tally) (line .active) (line .inv) some in
     ((s .pre .0 .sound, s .pre .0 .below (getD (line .keys) 0 0 % 16) list), omega arith, line-goes (now (a .index)) (now (a .entries)) (s .pre .0) (a .writing) (now (a .out)) (line .out) (line .keys) (line .size) (line .places) (line .tally) (line .active) (line .inv) some)
-
-mul-refill : tie.Need-mul-refill Inv-loop μ-loop
-mul-refill c = search needs
-
-array-copy-out-refill : tie.Need-array-copy-out-refill Inv-loop μ-loop
-array-copy-out-refill c = search needs
-
-slice-aggregate-refill : tie.Need-slice-aggregate-refill Inv-loop μ-loop
-slice-aggregate-refill c = search needs
 
 refill-requires : tie.Need-refill-requires Inv-loop μ-loop
 refill-requires c κs =
@@ -174,30 +135,8 @@ pub sweep-active-spec : {M : Type 1} → statement M
 sweep-active-spec =
     tie.close
     (tie.spec
-    Inv-loop
-    μ-loop
-    slice-aggregate-fill
-    fill-requires
-    all-at-start-requires
-    array-read-first
-    loop-holds
-    array-read-j
-    cast-j
-    mul-entry
-    shared-slice-read-entry
-    cast-entry
-    mul-next-interval
-    array-copy-out-next-interval
-    next-interval-requires
-    put-before-requires
-    joined-requires
-    moved-on-requires
-    mul-refill
-    array-copy-out-refill
-    slice-aggregate-refill
-    refill-requires
-    loop-less
-    loop-again
-    put-requires
-    same-length
-    returns)
+    Inv-loop μ-loop (λ c. search needs) (λ c κs. search needs) (λ c κs. search needs) (λ c. search needs) loop-holds
+    (λ c. search needs) (λ c. search needs) (λ c. search needs) shared-slice-read-entry cast-entry (λ c. search needs)
+    (λ c. search needs) next-interval-requires put-before-requires (λ c κs. search needs) moved-on-requires
+    (λ c. search needs) (λ c. search needs) (λ c. search needs) refill-requires loop-less loop-again put-requires
+    same-length returns)

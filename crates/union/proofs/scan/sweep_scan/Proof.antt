@@ -33,30 +33,12 @@ abbrev μ-loop : tie.MeasureT-loop
 μ-loop index entries writing out₀ keys₀ size₀ places₀ tally₀ count₀ lower₀ out keys size places tally count lower =
     2 * leftSum index entries places + (16 - count)
 
-slice-aggregate-fill : tie.Need-slice-aggregate-fill Inv-loop μ-loop
-slice-aggregate-fill c = search needs
-
-fill-requires : tie.Need-fill-requires Inv-loop μ-loop
-fill-requires c κs = search needs
-
-all-at-start-requires : tie.Need-all-at-start-requires Inv-loop μ-loop
-all-at-start-requires c κs = search needs
-
 loop-holds : tie.Need-loop-holds Inv-loop μ-loop
 loop-holds c =
     let s = c .before .before .before .before .before .before .before in
     let a = s .args in
     let filled = c .before .before .fill in
     scan-start (now (a .index)) (now (a .entries)) (s .pre .0) (a .writing) (now (a .out)) _ _ _ _ _ _ (filled .ensures .0) (filled .ensures .1) refl (c .all-at-start .ensures) refl refl refl
-
-array-read-key : tie.Need-array-read-key Inv-loop μ-loop
-array-read-key c = search needs
-
-cast-j : tie.Need-cast-j Inv-loop μ-loop
-cast-j c = search needs
-
-mul-entry : tie.Need-mul-entry Inv-loop μ-loop
-mul-entry c = search needs
 
 shared-slice-read-entry : tie.Need-shared-slice-read-entry Inv-loop μ-loop
 shared-slice-read-entry c =
@@ -69,9 +51,6 @@ shared-slice-read-entry c =
 cast-entry : tie.Need-cast-entry Inv-loop μ-loop
 cast-entry c = omega (arith, c .shared-slice-known3 .given (getD (c .before .before .loop .keys) 0 0 % 16))
 
-begun-requires : tie.Need-begun-requires Inv-loop μ-loop
-begun-requires c κs = search needs
-
 add-count : tie.Need-add-count Inv-loop μ-loop
 add-count c =
     let at = c .before .before .before .before in
@@ -80,15 +59,6 @@ add-count c =
     let line = at .loop in
     let few = lower-few (now (a .index)) (now (a .entries)) (s .pre .0) (a .writing) (now (a .out)) (line .out) (line .keys) (line .size) (line .places) (line .tally) (line .count) (line .lower) (line .inv) (c .before .before .before .loop-test .taken) (c .before .if1 .taken) in
     omega arith
-
-mul-to-upper : tie.Need-mul-to-upper Inv-loop μ-loop
-mul-to-upper c = search needs
-
-array-copy-out-to-upper : tie.Need-array-copy-out-to-upper Inv-loop μ-loop
-array-copy-out-to-upper c = search needs
-
-slice-aggregate-to-upper : tie.Need-slice-aggregate-to-upper Inv-loop μ-loop
-slice-aggregate-to-upper c = search needs
 
 to-upper-requires : tie.Need-to-upper-requires Inv-loop μ-loop
 to-upper-requires c κs =
@@ -150,15 +120,6 @@ moved-on-requires c κs =
     let list = scan-list (now (a .index)) (now (a .entries)) (s .pre .0) (a .writing) (now (a .out)) (line .out) (line .keys) (line .size) (line .places) (line .tally) (line .count) (line .lower) (line .inv) some in
     ((s .pre .0 .sound, s .pre .0 .below (getD (line .keys) 0 0 % 16) list), omega arith, upper-goes (now (a .index)) (now (a .entries)) (s .pre .0) (a .writing) (now (a .out)) (line .out) (line .keys) (line .size) (line .places) (line .tally) (line .count) (line .lower) (line .inv) some (c .before .before .before .before .if1 .left))
 
-mul-refill : tie.Need-mul-refill Inv-loop μ-loop
-mul-refill c = search needs
-
-array-copy-out-refill : tie.Need-array-copy-out-refill Inv-loop μ-loop
-array-copy-out-refill c = search needs
-
-slice-aggregate-refill : tie.Need-slice-aggregate-refill Inv-loop μ-loop
-slice-aggregate-refill c = search needs
-
 refill-requires : tie.Need-refill-requires Inv-loop μ-loop
 refill-requires c κs =
     let at = c .before .before .before .before .before .before .before .before .before .before in
@@ -215,33 +176,8 @@ pub sweep-scan-spec : {M : Type 1} → statement M
 sweep-scan-spec =
     tie.close
     (tie.spec
-    Inv-loop
-    μ-loop
-    slice-aggregate-fill
-    fill-requires
-    all-at-start-requires
-    loop-holds
-    array-read-key
-    cast-j
-    mul-entry
-    shared-slice-read-entry
-    cast-entry
-    begun-requires
-    add-count
-    mul-to-upper
-    array-copy-out-to-upper
-    slice-aggregate-to-upper
-    to-upper-requires
-    loop-less
-    loop-again
-    sub-count
-    put-closed-requires
-    moved-on-requires
-    mul-refill
-    array-copy-out-refill
-    slice-aggregate-refill
-    refill-requires
-    loop-less-2
-    loop-again-2
-    same-length
-    returns)
+    Inv-loop μ-loop (λ c. search needs) (λ c κs. search needs) (λ c κs. search needs) loop-holds (λ c. search needs)
+    (λ c. search needs) (λ c. search needs) shared-slice-read-entry cast-entry (λ c κs. search needs) add-count
+    (λ c. search needs) (λ c. search needs) (λ c. search needs) to-upper-requires loop-less loop-again sub-count
+    put-closed-requires moved-on-requires (λ c. search needs) (λ c. search needs) (λ c. search needs) refill-requires
+    loop-less-2 loop-again-2 same-length returns)

@@ -16,74 +16,17 @@ Inv-loop ws₀ a b i j first last k₀ ws k = (i < k) × (k ≤ j) × Filled ws�
 abbrev μ-loop : tie.MeasureT-loop
 μ-loop ws₀ a b i j first last k₀ ws k = j - k
 
-cast-i : tie.Need-cast-i Inv-loop μ-loop
-cast-i c = search needs
-
-cast-j : tie.Need-cast-j Inv-loop μ-loop
-cast-j c = search needs
-
-cast-first : tie.Need-cast-first Inv-loop μ-loop
-cast-first c = search needs
-
-shl-first : tie.Need-shl-first Inv-loop μ-loop
-shl-first c = search needs
-
-sub-last : tie.Need-sub-last Inv-loop μ-loop
-sub-last c = search needs
-
-cast-last : tie.Need-cast-last Inv-loop μ-loop
-cast-last c = search needs
-
-shr-last : tie.Need-shr-last Inv-loop μ-loop
-shr-last c = search needs
-
-mul-ws : tie.Need-mul-ws Inv-loop μ-loop
-mul-ws c = search needs
-
-slice-read-ws : tie.Need-slice-read-ws Inv-loop μ-loop
-slice-read-ws c = search needs
-
-mul-ws-2 : tie.Need-mul-ws-2 Inv-loop μ-loop
-mul-ws-2 c = search needs
-
-slice-write-ws : tie.Need-slice-write-ws Inv-loop μ-loop
-slice-write-ws c = search needs
-
 same-length : tie.Need-same-length Inv-loop μ-loop
 same-length c = simp length-set
 
 returns : tie.Need-returns Inv-loop μ-loop
 returns c = fill-one (c .before .before .args .ws .now) (c .before .before .args .a) (c .before .before .args .b) _ (omega arith) refl (omega arith) (c .before .before .pre .0)
 
-mul-ws-3 : tie.Need-mul-ws-3 Inv-loop μ-loop
-mul-ws-3 c = search needs
-
-slice-read-ws-2 : tie.Need-slice-read-ws-2 Inv-loop μ-loop
-slice-read-ws-2 c = search needs
-
-mul-ws-4 : tie.Need-mul-ws-4 Inv-loop μ-loop
-mul-ws-4 c = search needs
-
-slice-write-ws-2 : tie.Need-slice-write-ws-2 Inv-loop μ-loop
-slice-write-ws-2 c = search needs
-
-add-k : tie.Need-add-k Inv-loop μ-loop
-add-k c = search needs
-
 loop-holds : tie.Need-loop-holds Inv-loop μ-loop
 loop-holds c = (omega arith, omega arith, filled-none _ _)
 
-mul-ws-5 : tie.Need-mul-ws-5 Inv-loop μ-loop
-mul-ws-5 c = search needs
-
 slice-write-ws-3 : tie.Need-slice-write-ws-3 Inv-loop μ-loop
 slice-write-ws-3 c = let w = c .before .loop .inv .2 .long in let v = simp length-set at w in omega arith
-
-add-k-2 : tie.Need-add-k-2 Inv-loop μ-loop
-add-k-2 c = search needs
-
-loop-less : tie.Need-loop-less Inv-loop μ-loop
-loop-less c = search needs
 
 loop-again : tie.Need-loop-again Inv-loop μ-loop
 loop-again c =
@@ -97,14 +40,8 @@ loop-again c =
     let m : l .k < length ws1 = simp length-set (omega arith) in
     (omega arith, omega arith, rw e at (fill-between ws1 (l .ws) (64 * (i + 1)) (l .k) m (omega arith) (l .inv .2)))
 
-mul-ws-6 : tie.Need-mul-ws-6 Inv-loop μ-loop
-mul-ws-6 c = search needs
-
 slice-read-ws-3 : tie.Need-slice-read-ws-3 Inv-loop μ-loop
 slice-read-ws-3 c = let w = c .before .before .loop .inv .2 .long in let v = simp length-set at w in omega arith
-
-mul-ws-7 : tie.Need-mul-ws-7 Inv-loop μ-loop
-mul-ws-7 c = search needs
 
 slice-write-ws-4 : tie.Need-slice-write-ws-4 Inv-loop μ-loop
 slice-write-ws-4 c = let w = c .before .before .loop .inv .2 .long in let v = simp length-set at w in omega arith
@@ -134,35 +71,9 @@ pub fill-range-spec : {M : Type 1} → statement M
 fill-range-spec =
     tie.close
     (tie.spec
-    Inv-loop
-    μ-loop
-    cast-i
-    cast-j
-    cast-first
-    shl-first
-    sub-last
-    cast-last
-    shr-last
-    mul-ws
-    slice-read-ws
-    mul-ws-2
-    slice-write-ws
-    same-length
-    returns
-    mul-ws-3
-    slice-read-ws-2
-    mul-ws-4
-    slice-write-ws-2
-    add-k
-    loop-holds
-    mul-ws-5
-    slice-write-ws-3
-    add-k-2
-    loop-less
-    loop-again
-    mul-ws-6
-    slice-read-ws-3
-    mul-ws-7
-    slice-write-ws-4
-    same-length-2
-    returns-2)
+    Inv-loop μ-loop (λ c. search needs) (λ c. search needs) (λ c. search needs) (λ c. search needs) (λ c. search needs)
+    (λ c. search needs) (λ c. search needs) (λ c. search needs) (λ c. search needs) (λ c. search needs)
+    (λ c. search needs) same-length returns (λ c. search needs) (λ c. search needs) (λ c. search needs)
+    (λ c. search needs) (λ c. search needs) loop-holds (λ c. search needs) slice-write-ws-3 (λ c. search needs)
+    (λ c. search needs) loop-again (λ c. search needs) slice-read-ws-3 (λ c. search needs) slice-write-ws-4
+    same-length-2 returns-2)

@@ -27,12 +27,6 @@ loop-holds c =
     let e : length (c .args .ws .now) - 0 ≡ length (c .args .ws .now) = omega arith in
     (omega arith, omega arith, (λ base. let f : base + 0 ≡ base = omega arith in rw (e, f)), refl)
 
-mul-w : tie.Need-mul-w Inv-loop μ-loop
-mul-w c = search needs
-
-shared-slice-read-w : tie.Need-shared-slice-read-w Inv-loop μ-loop
-shared-slice-read-w c = search needs
-
 cast-k : tie.Need-cast-k Inv-loop μ-loop
 cast-k c =
     let at = c .before .before in
@@ -46,12 +40,6 @@ add-k c =
     let l = at .loop in
     let few = flipped-few (getD (at .before .args .ws .now) (l .i) 0) (l .k) (l .c) (c .shared-slice-known .given (l .i) .fits) (l .inv .3) in
     omega arith
-
-add-i : tie.Need-add-i Inv-loop μ-loop
-add-i c = search needs
-
-loop-less : tie.Need-loop-less Inv-loop μ-loop
-loop-less c = search needs
 
 loop-again : tie.Need-loop-again Inv-loop μ-loop
 loop-again c =
@@ -83,14 +71,5 @@ pub count-flips-spec : {M : Type 1} → statement M
 count-flips-spec =
     tie.close
     (tie.spec
-    Inv-loop
-    μ-loop
-    loop-holds
-    mul-w
-    shared-slice-read-w
-    cast-k
-    add-k
-    add-i
-    loop-less
-    loop-again
-    returns)
+    Inv-loop μ-loop loop-holds (λ c. search needs) (λ c. search needs) cast-k add-k (λ c. search needs)
+    (λ c. search needs) loop-again returns)

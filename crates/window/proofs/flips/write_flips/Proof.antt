@@ -29,12 +29,6 @@ loop-holds c =
     let e : length (a .ws .now) - 0 ≡ length (a .ws .now) = omega arith in
     (search needs, search needs, refl, rw e, rw e)
 
-mul-w : tie.Need-mul-w Inv-loop μ-loop
-mul-w c = search needs
-
-shared-slice-read-w : tie.Need-shared-slice-read-w Inv-loop μ-loop
-shared-slice-read-w c = search needs
-
 write-marks-requires : tie.Need-write-marks-requires Inv-loop μ-loop
 write-marks-requires c κs =
     let at = c .before .before .before in
@@ -46,15 +40,6 @@ write-marks-requires c κs =
     let n = count-turn (member ws (a .base)) (l .at) (l .k) (getD ws (l .i) 0) h (64 * (length ws - l .i)) (64 * (length ws - (l .i + 1))) e in
     let room : l .k + length (marks (flipped (getD ws (l .i) 0) (l .k % 2))) ≤ length (l .out) = omega arith in
     (omega arith, omega arith, room)
-
-add-at : tie.Need-add-at Inv-loop μ-loop
-add-at c = search needs
-
-add-i : tie.Need-add-i Inv-loop μ-loop
-add-i c = search needs
-
-loop-less : tie.Need-loop-less Inv-loop μ-loop
-loop-less c = search needs
 
 loop-again : tie.Need-loop-again Inv-loop μ-loop
 loop-again c =
@@ -90,15 +75,5 @@ pub write-flips-spec : {M : Type 1} → statement M
 write-flips-spec =
     tie.close
     (tie.spec
-    Inv-loop
-    μ-loop
-    loop-holds
-    mul-w
-    shared-slice-read-w
-    write-marks-requires
-    add-at
-    add-i
-    loop-less
-    loop-again
-    same-length
-    returns)
+    Inv-loop μ-loop loop-holds (λ c. search needs) (λ c. search needs) write-marks-requires (λ c. search needs)
+    (λ c. search needs) (λ c. search needs) loop-again same-length returns)

@@ -25,14 +25,8 @@ loop-holds c = (refl, search needs, refl, refl)
 add-out : tie.Need-add-out Inv-loop μ-loop
 add-out c = omega (arith, trailing-le 64 (c .before .loop .x))
 
-cast-out : tie.Need-cast-out Inv-loop μ-loop
-cast-out c = search needs
-
 sub-out : tie.Need-sub-out Inv-loop μ-loop
 sub-out c = omega arith
-
-mul-out : tie.Need-mul-out Inv-loop μ-loop
-mul-out c = search needs
 
 slice-write-out : tie.Need-slice-write-out Inv-loop μ-loop
 slice-write-out c =
@@ -43,9 +37,6 @@ add-k : tie.Need-add-k Inv-loop μ-loop
 add-k c =
     let l = c .before .loop in
     omega (arith, mark-count (l .x) (omega arith) (l .inv .1) (l .k))
-
-sub-x : tie.Need-sub-x Inv-loop μ-loop
-sub-x c = search needs
 
 loop-less : tie.Need-loop-less Inv-loop μ-loop
 loop-less c = cleared-less (c .before .loop .x) (omega arith)
@@ -74,17 +65,5 @@ pub write-marks-spec : {M : Type 1} → statement M
 write-marks-spec =
     tie.close
     (tie.spec
-    Inv-loop
-    μ-loop
-    loop-holds
-    add-out
-    cast-out
-    sub-out
-    mul-out
-    slice-write-out
-    add-k
-    sub-x
-    loop-less
-    loop-again
-    same-length
-    returns)
+    Inv-loop μ-loop loop-holds add-out (λ c. search needs) sub-out (λ c. search needs) slice-write-out add-k
+    (λ c. search needs) loop-less loop-again same-length returns)

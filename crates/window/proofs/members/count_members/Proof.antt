@@ -25,12 +25,6 @@ loop-holds c =
     let e : length ws - 0 ≡ length ws = omega arith in
     (omega arith, omega arith, λ base. let f : base + 0 ≡ base = omega arith in rw (e, f) (sym (zero-add (length (recordsFrom (member ws base) base (64 * length ws))))))
 
-mul-n : tie.Need-mul-n Inv-loop μ-loop
-mul-n c = search needs
-
-shared-slice-read-n : tie.Need-shared-slice-read-n Inv-loop μ-loop
-shared-slice-read-n c = search needs
-
 cast-n : tie.Need-cast-n Inv-loop μ-loop
 cast-n c =
     let l = c .before .before .loop in
@@ -42,12 +36,6 @@ add-n c =
     let l = c .before .before .loop in
     let le = ones-le 64 (getD (c .before .before .before .args .ws .now) (l .i) 0) (c .shared-slice-known .given (l .i) .fits) in
     omega arith
-
-add-i : tie.Need-add-i Inv-loop μ-loop
-add-i c = search needs
-
-loop-less : tie.Need-loop-less Inv-loop μ-loop
-loop-less c = search needs
 
 loop-again : tie.Need-loop-again Inv-loop μ-loop
 loop-again c =
@@ -78,14 +66,5 @@ pub count-members-spec : {M : Type 1} → statement M
 count-members-spec =
     tie.close
     (tie.spec
-    Inv-loop
-    μ-loop
-    loop-holds
-    mul-n
-    shared-slice-read-n
-    cast-n
-    add-n
-    add-i
-    loop-less
-    loop-again
-    returns)
+    Inv-loop μ-loop loop-holds (λ c. search needs) (λ c. search needs) cast-n add-n (λ c. search needs)
+    (λ c. search needs) loop-again returns)

@@ -11,9 +11,6 @@ returns c x =
     let a = c .before .before .args in
     rw (stays-in (a .k) (a .inside) x (c .if2 .taken) (c .before .if1 .taken)) (sym (add-zero (a .k)))
 
-add-result : tie.Need-add-result
-add-result c = search needs
-
 returns-2 : tie.Need-returns-2
 returns-2 c x = let a = c .before .before .args in rw (turns-in (a .k) (a .inside) x (c .if2 .left) (c .before .if1 .taken))
 
@@ -22,12 +19,8 @@ returns-3 c x =
     let a = c .before .before .args in
     rw (stays-out (a .k) (a .inside) x (c .if3 .taken) (c .before .if1 .left)) (sym (add-zero (a .k)))
 
-add-result-2 : tie.Need-add-result-2
-add-result-2 c = search needs
-
 returns-4 : tie.Need-returns-4
 returns-4 c x = let a = c .before .before .args in rw (turns-out (a .k) (a .inside) x (c .if3 .left) (c .before .if1 .left))
 
 pub count-turn-spec : {M : Type 1} → statement M
-count-turn-spec =
-    tie.close (tie.spec returns add-result returns-2 returns-3 add-result-2 returns-4)
+count-turn-spec = tie.close (tie.spec returns (λ c. search needs) returns-2 returns-3 (λ c. search needs) returns-4)

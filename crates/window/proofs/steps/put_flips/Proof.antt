@@ -11,18 +11,12 @@ use borrow.Author.Needs.{needs}
 write-flips-requires : tie.Need-write-flips-requires
 write-flips-requires c κs = let at = c .before .before .before .before in (at .pre .0, at .pre .1, at .pre .3 (c .before .if1 .taken))
 
-same-length : tie.Need-same-length
-same-length c = search needs
-
 returns : tie.Need-returns
 returns c =
     let wrote = c .before .before .write-flips .ensures in
     let at = c .before .before .before .before in
     let a = at .before .before .before .args in
     put-wrote (flips (member (a .ws .now) (a .x)) (odd (a .k)) (a .x) (64 * length (a .ws .now))) (a .k) (a .writing) (a .out .now) _ _ (at .if1 .taken) (wrote .0) (wrote .1)
-
-count-flips-requires : tie.Need-count-flips-requires
-count-flips-requires c κs = search needs
 
 returns-2 : tie.Need-returns-2
 returns-2 c =
@@ -31,5 +25,4 @@ returns-2 c =
     put-counted (flips (member (a .ws .now) (a .x)) (odd (a .k)) (a .x) (64 * length (a .ws .now))) (a .k) (a .writing) (a .out .now) _ (at .if1 .left) (c .count-flips .ensures (a .x))
 
 pub put-flips-spec : {M : Type 1} → statement M
-put-flips-spec =
-    tie.close (tie.spec write-flips-requires same-length returns count-flips-requires returns-2)
+put-flips-spec = tie.close (tie.spec write-flips-requires (λ c. search needs) returns (λ c κs. search needs) returns-2)

@@ -10,18 +10,12 @@ use borrow.Author.Needs.{needs}
 write-turn-requires : tie.Need-write-turn-requires
 write-turn-requires c κs = let at = c .before .before .before in (at .pre .0, at .pre .2 (c .before .if1 .taken))
 
-same-length : tie.Need-same-length
-same-length c = search needs
-
 returns : tie.Need-returns
 returns c =
     let wrote = c .before .before .write-turn .ensures in
     let at = c .before .before .before .before in
     let a = at .before .before .args in
     put-wrote (turned (odd (a .k)) (a .inside) (a .x) []) (a .k) (a .writing) (a .out .now) _ _ (at .if1 .taken) (wrote .0) (wrote .1)
-
-count-turn-requires : tie.Need-count-turn-requires
-count-turn-requires c κs = search needs
 
 returns-2 : tie.Need-returns-2
 returns-2 c =
@@ -30,5 +24,4 @@ returns-2 c =
     put-counted (turned (odd (a .k)) (a .inside) (a .x) []) (a .k) (a .writing) (a .out .now) _ (at .if1 .left) (c .count-turn .ensures (a .x))
 
 pub put-turn-spec : {M : Type 1} → statement M
-put-turn-spec =
-    tie.close (tie.spec write-turn-requires same-length returns count-turn-requires returns-2)
+put-turn-spec = tie.close (tie.spec write-turn-requires (λ c. search needs) returns (λ c κs. search needs) returns-2)

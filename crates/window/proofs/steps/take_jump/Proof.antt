@@ -9,27 +9,12 @@ use Rattle.window.proofs.steps.take_jump.Tie as tie
 put-turn-requires : tie.Need-put-turn-requires
 put-turn-requires c κs = let pre = c .before .before .pre in (pre .0, pre .2, pre .4)
 
-sub-t12 : tie.Need-sub-t12
-sub-t12 c = search needs
-
-cast-t13 : tie.Need-cast-t13
-cast-t13 c = search needs
-
-add-t14 : tie.Need-add-t14
-add-t14 c = search needs
-
-same-length : tie.Need-same-length
-same-length c = search needs
-
 returns : tie.Need-returns
 returns c p constant =
     let start = c .before .before .before .before .before .before in
     let a = start .args in
     stepped-jump p (a .inside) (a .x) (a .y) (a .k) (a .records) (a .writing) (a .out .now) _ _ _ (start .pre .0) (start .pre .1) constant
     (c .before .before .before .put-turn .ensures) (rw (c .if1 .taken))
-
-same-length-2 : tie.Need-same-length-2
-same-length-2 c = search needs
 
 returns-2 : tie.Need-returns-2
 returns-2 c p constant =
@@ -42,11 +27,5 @@ pub take-jump-spec : {M : Type 1} → statement M
 take-jump-spec =
     tie.close
     (tie.spec
-    put-turn-requires
-    sub-t12
-    cast-t13
-    add-t14
-    same-length
-    returns
-    same-length-2
-    returns-2)
+    put-turn-requires (λ c. search needs) (λ c. search needs) (λ c. search needs) (λ c. search needs) returns
+    (λ c. search needs) returns-2)
