@@ -7,20 +7,19 @@ use mathlib.Core.List.{List}
 use lib.ListN.{length, getD}
 use Rattle.list.specs.declared.Place.{Place}
 use Rattle.list.specs.declared.answer.Tally.{Tally}
-use Rattle.list.specs.Interval.{top, names, intervals, records}
-use Rattle.list.specs.Stretches.{cellsOf}
+use Rattle.list.specs.Interval.{top, names}
 use Rattle.list.specs.Ginix.{intersectionOf}
 use Rattle.list.specs.Kept.{start, nextPlace, lowerAt, upperAt}
 use Rattle.list.specs.Reading.{Goes}
 use Rattle.list.proofs.LeftLaws.{ReadTo, read-start, read-goes, read-end, read-bounds, read-before, read-inside, read-behind, read-next}
 use Rattle.list.proofs.ReadingLaws.{next-fits}
-use Rattle.list.proofs.SweepLaws.{Swept, swept-start, swept-skip, swept-count, swept-records, swept-written}
 use Rattle.index.specs.Format.{highest, listOf}
 use Rattle.index.proofs.SoundLaws.{sound-trailer}
 use Rattle.merge.specs.Asked.{Asked, listsOf}
 use Rattle.merge.specs.Places.{singlesIn, lowerIn, upperIn}
 use Rattle.merge.specs.Sweep.{Sweeps}
 use Rattle.merge.proofs.ListsLaws.{entry-kept}
+use Rattle.merge.proofs.TallyLaws.{Tallied, tallied-start, tallied-skip, tallied-end}
 use Rattle.intersection.specs.Probing.{between, CellsFit, CellsPut, inAll, Within}
 use Rattle.intersection.proofs.BetweenLaws.{between-even, swept-between, between-room, between-cells-few, between-records-few}
 use Rattle.intersection.proofs.ProbingLaws.{every-out}
@@ -32,7 +31,7 @@ pub record Going (index entries : List ℕ) (e : ℕ) (writing : Bool) (out₀ o
   pub near : (x ≤ k) × (k ≤ x + 1)
   pub passed : i ≡ at .p .0 + at .q .0
   pub read : ReadTo (highest index) (singlesIn index e) (lowerIn index e) (upperIn index e) at k
-  pub swept : Swept (inAll index entries) top writing out₀ out false x (2 * t .intervals) (t .records)
+  pub swept : Tallied (inAll index entries) writing out₀ out t x
 
 module _ (index entries : List ℕ) (asked : Asked index entries) (j : ℕ) (h : j < length entries) where
   list-top : highest index ≤ top
@@ -45,14 +44,13 @@ module _ (index entries : List ℕ) (asked : Asked index entries) (j : ℕ) (h :
   pub going-start : (writing : Bool) (out : List ℕ) (t : Tally) → t .intervals ≡ 0 → t .records ≡ 0 →
       Going index entries (getD entries j 0) writing out out t start 0
   going-start w out t e f =
-      let z : 2 * t .intervals ≡ 0 = omega arith in
       record {
         x = 1;
         k = 1;
         near = (omega arith, omega arith);
         passed = refl;
         read = read-start (highest index) (singlesIn index (getD entries j 0)) (lowerIn index (getD entries j 0)) (upperIn index (getD entries j 0)) (entry-kept index (asked .sound) (getD entries j 0) (asked .below j h));
-        swept = rw (z, f) (swept-start (inAll index entries) top w out);
+        swept = tallied-start (inAll index entries) w out t e f;
       }
 
   module _ (writing : Bool) (out₀ out : List ℕ) (t : Tally) (at : Place) (i : ℕ) (g : Going index entries (getD entries j 0) writing out₀ out t at i) where
@@ -76,14 +74,7 @@ module _ (index entries : List ℕ) (asked : Asked index entries) (j : ℕ) (h :
         let n = g .near in
         let p = g .passed in
         let none : (z : ℕ) → g .x ≤ z → z < top + 1 → inAll index entries z ≡ false = λ z f d. out-all z (read-end (highest index) S L U at (g .k) (g .read) (omega arith) z (omega arith)) in
-        let s = swept-skip (inAll index entries) top writing out₀ out (g .x) (2 * t .intervals) (t .records) (g .swept) (top + 1) (g .swept .near .1) (omega arith) none in
-        let c = swept-count (inAll index entries) top writing out₀ out (2 * t .intervals) (t .records) s in
-        let v : t .intervals ≡ intervals (cellsOf (inAll index entries) top) = omega arith in
-        let w : t .records ≡ records (cellsOf (inAll index entries) top) = swept-records (inAll index entries) top writing out₀ out (2 * t .intervals) (t .records) s in
-        record {
-          tally = rw (← v, ← w);
-          cells = swept-written (inAll index entries) top writing out₀ out (2 * t .intervals) (t .records) s r;
-        }
+        tallied-end (inAll index entries) writing out₀ out t (tallied-skip (inAll index entries) writing out₀ out t (g .x) (g .swept) (top + 1) (g .swept .near .1) (omega arith) none) r
 
     -- an interval is left
     module _ (o : Goes S L at) where

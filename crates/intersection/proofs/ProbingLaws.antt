@@ -129,9 +129,8 @@ module _ (writing : Bool) (out₀ : List ℕ) (t₀ : Tally) (c₀ out : List �
     where
       long : writing ≡ true → length out ≡ length out₀
       long w =
-          sym (length-sets out (2 * t .intervals) (l ∷ u ∷ c))
-          ∙ ap length (sym (ap (λ (v : Bool). cond v (sets out₀ (2 * t₀ .intervals) c₀) out₀) (sym w) ∙ s .cells-left ∙ ap (λ (v : Bool). cond v (sets out (2 * t .intervals) (l ∷ u ∷ c)) out) w))
-          ∙ length-sets out₀ (2 * t₀ .intervals) c₀
+          let e = rw w at (s .cells-left) in
+          sym (length-sets out (2 * t .intervals) (l ∷ u ∷ c)) ∙ ap length (sym e) ∙ length-sets out₀ (2 * t₀ .intervals) c₀
 
   left-put : (l u : ℕ) (c out′ : List ℕ) (t′ : Tally) → Left writing out₀ t₀ c₀ out t (l ∷ u ∷ c) → Put writing out out′ t (record { lower = l; upper = u }) t′ →
       Left writing out₀ t₀ c₀ out′ t′ c

@@ -1,6 +1,6 @@
 -- The twin heap, turn by turn: up to the least upper bound all that stands in every list is put, and the list of that bound moves on.
 use mathlib.Core.Path.{_≡_, refl, sym, ap, _∙_}
-use Prim.Native.Nat.{ℕ, suc, _+_, _-_, _*_, _/_, _%_, _≤_, _<_}
+use Prim.Native.Nat.{ℕ, suc, _+_, _-_, _/_, _%_, _≤_, _<_}
 use native.Mathlib.Omega.{arith}
 use native.Mathlib.Decide.{ℕ-discrete}
 use mathlib.Core.Bool.{Bool, true, false}
@@ -12,13 +12,12 @@ use borrow.Author.Tests.{leb-true, leb-false, le-leb, lt-leb}
 use Rattle.laws.proofs.Tests.{leb-cases}
 use Rattle.list.specs.declared.Place.{Place}
 use Rattle.list.specs.declared.answer.Tally.{Tally}
-use Rattle.list.specs.Interval.{top, names, intervals, records}
-use Rattle.list.specs.Stretches.{cellsOf}
+use Rattle.list.specs.Interval.{top, names}
 use Rattle.list.specs.Ginix.{inEvery, intersectionOf}
 use Rattle.list.specs.Kept.{start}
 use Rattle.list.specs.Reading.{Goes}
 use Rattle.list.proofs.LeftLaws.{ReadTo, read-start, read-goes, read-end, read-bounds, read-before, read-inside, read-behind, read-next}
-use Rattle.list.proofs.SweepLaws.{Swept, swept-start, swept-cells-few, swept-records-few, swept-skip, swept-room, swept-put, swept-count, swept-records, swept-written}
+use Rattle.list.proofs.SweepLaws.{swept-start}
 use Rattle.index.specs.Format.{highest, listOf}
 use Rattle.index.proofs.SoundLaws.{sound-trailer}
 use Rattle.heap.specs.Heap.{Pushed, Replaced}
@@ -27,6 +26,7 @@ use Rattle.merge.specs.Places.{singlesIn, lowerIn, upperIn, usedUp}
 use Rattle.merge.specs.Put.{Fitting, PutWhere}
 use Rattle.merge.specs.Sweep.{Sweeps}
 use Rattle.merge.proofs.ListsLaws.{entry-kept, entry-some}
+use Rattle.merge.proofs.TallyLaws.{Tallied, tallied-skip, tallied-fits, tallied-put, tallied-end}
 use Rattle.intersection.specs.Probing.{inAll}
 use Rattle.intersection.specs.Twin.{nextOf, nextLower, nextUpper, keyOf, limit, lackOf, Standing, Frontier, Lowers}
 use Rattle.intersection.proofs.ProbingLaws.{every-out}
@@ -147,7 +147,7 @@ module _ (index entries : List ℕ) (asked : Asked index entries) (i : ℕ) (h :
 -- the test, and how far the sweep has come: `x - 1` is the last upper bound that was the least
 pub record Turning (index entries : List ℕ) (writing : Bool) (out₀ out : List ℕ) (places : List Place) (uppers : List ℕ) (t : Tally) : Type 0 where
   pub x : ℕ
-  pub swept : Swept (inAll index entries) top writing out₀ out false x (2 * t .intervals) (t .records)
+  pub swept : Tallied (inAll index entries) writing out₀ out t x
   pub ahead : (i : ℕ) → i < length entries → Ahead index entries i (getD places i start) x
   pub frontier : Frontier index entries (λ i. getD places i start) (length entries) uppers
   pub past : (i : ℕ) × (i < length entries) × (x ≤ nextLower index entries i (getD places i start))
@@ -257,15 +257,8 @@ module _ {index entries : List ℕ} {writing : Bool} {out₀ out : List ℕ} {pl
         Fitting writing out t (record { lower = largest; upper = getD uppers 0 0 / 16 })
     unfolding intersectionOf
     overlap-fits room h =
-        let few = swept-cells-few (w .swept) in
-        record {
-          room = λ e. swept-room (inAll index entries) top writing out₀ out (w .x) (2 * t .intervals) (t .records) (w .swept) largest (getD uppers 0 0 / 16)
-              passed h turn-high low high (λ k. stop) e (room e);
-          few = omega arith;
-          small = swept-records-few (w .swept);
-          order = h;
-          high = turn-high;
-        }
+        tallied-fits (inAll index entries) writing out₀ out t (w .x) (w .swept) (record { lower = largest; upper = getD uppers 0 0 / 16 })
+        passed h turn-high low high (λ k. stop) room
 
   -- list j moves on
   module _ {places′ : List Place} (ep : places′ ≡ set places j (nextOf index entries j (getD places j start))) where
@@ -345,31 +338,27 @@ module _ {index entries : List ℕ} {writing : Bool} {out₀ out : List ℕ} {pl
     -- what is in every list up to the least upper bound is put
     module _ {largest : ℕ} (g : Largest index entries (λ i. getD places i start) (length entries) largest) {out′ : List ℕ} {t′ : Tally}
         (o : PutWhere (leb largest (getD uppers 0 0 / 16)) writing out out′ t (record { lower = largest; upper = getD uppers 0 0 / 16 }) t′) where
-      turn-swept : Swept (inAll index entries) top writing out₀ out′ false (getD uppers 0 0 / 16 + 1) (2 * t′ .intervals) (t′ .records)
+      turn-swept : Tallied (inAll index entries) writing out₀ out′ t′ (getD uppers 0 0 / 16 + 1)
       turn-swept =
           leb-cases largest (getD uppers 0 0 / 16)
           (λ h.
-          let q = o .0 (le-leb largest (getD uppers 0 0 / 16) h) in
-          let i = q .intervals-more in
-          let k : 2 * t′ .intervals ≡ 2 * t .intervals + 2 = omega arith in
-          rw (k, q .records-more, q .cells)
-          (swept-put (inAll index entries) top writing out₀ out (w .x) (2 * t .intervals) (t .records) (w .swept) largest (getD uppers 0 0 / 16)
-          (passed g) h turn-high (low g) (high g) (λ k. stop)))
+          tallied-put (inAll index entries) writing out₀ out t (w .x) (w .swept) (record { lower = largest; upper = getD uppers 0 0 / 16 })
+          (passed g) h turn-high (low g) (high g) (λ k. stop) out′ t′ (o .0 (le-leb largest (getD uppers 0 0 / 16) h)))
           (λ h.
           let q = o .1 (lt-leb largest (getD uppers 0 0 / 16) h) in
           let l = w .ahead j turn-list .later in
           let e = turn-upper in
           rw (q .0, q .1)
-          (swept-skip (inAll index entries) top writing out₀ out (w .x) (2 * t .intervals) (t .records) (w .swept)
+          (tallied-skip (inAll index entries) writing out₀ out t (w .x) (w .swept)
           (getD uppers 0 0 / 16 + 1) (omega arith) (let n = turn-high in omega arith) (λ z f k. low g z f (omega arith))))
 
       -- list j is used up: nothing more is in every list
       pub turn-end : usedUp index (getD entries j 0) (getD places′ j start) ≡ true →
-          Swept (inAll index entries) top writing out₀ out′ false (top + 1) (2 * t′ .intervals) (t′ .records)
+          Tallied (inAll index entries) writing out₀ out′ t′ (top + 1)
       turn-end e =
           let n = turn-high in
           let u = turn-upper in
-          swept-skip (inAll index entries) top writing out₀ out′ (getD uppers 0 0 / 16 + 1) (2 * t′ .intervals) (t′ .records) turn-swept
+          tallied-skip (inAll index entries) writing out₀ out′ t′ (getD uppers 0 0 / 16 + 1) turn-swept
           (top + 1) (omega arith) (omega arith)
           (λ z f g. ahead-end index entries asked j turn-list (getD places j start) (w .x) (w .ahead j turn-list) (ap (usedUp index (getD entries j 0)) (sym at-j) ∙ e) z (omega arith))
 
@@ -391,11 +380,7 @@ module _ {index entries : List ℕ} {writing : Bool} {out₀ out : List ℕ} {pl
 -- ---- the end
 
 module _ {index entries : List ℕ} {writing : Bool} {out₀ out : List ℕ} (asked : Asked index entries) (t : Tally)
-    (s : Swept (inAll index entries) top writing out₀ out false (top + 1) (2 * t .intervals) (t .records)) where
+    (s : Tallied (inAll index entries) writing out₀ out t (top + 1)) where
   pub turned-out : (writing ≡ true → length (intersectionOf (listsOf index entries)) ≤ length out₀) → Sweeps (intersectionOf (listsOf index entries)) writing out₀ out t
   unfolding intersectionOf
-  turned-out room =
-      let c = swept-count (inAll index entries) top writing out₀ out (2 * t .intervals) (t .records) s in
-      let i : t .intervals ≡ intervals (cellsOf (inAll index entries) top) = omega arith in
-      let r : t .records ≡ records (cellsOf (inAll index entries) top) = swept-records (inAll index entries) top writing out₀ out (2 * t .intervals) (t .records) s in
-      record { tally = rw (← i, ← r); cells = swept-written (inAll index entries) top writing out₀ out (2 * t .intervals) (t .records) s room }
+  turned-out room = tallied-end (inAll index entries) writing out₀ out t s room

@@ -3,3 +3,4 @@ pub mod PlaceRow
 pub mod ArrayCells
 pub mod KeysLaws
 pub mod DueLaws
+pub mod TallyLaws

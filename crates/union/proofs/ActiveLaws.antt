@@ -41,7 +41,7 @@ use Rattle.merge.proofs.DueLaws.{
 }
 use Rattle.union.specs.Active.{isApart, Joined}
 use Rattle.union.proofs.AnyLaws.{inAny, any-in, none-below, none-left}
-use Rattle.union.proofs.TallyLaws.{Tallied, tallied-start, tallied-skip, tallied-fits, tallied-put, tallied-end}
+use Rattle.merge.proofs.TallyLaws.{Tallied, tallied-start, tallied-skip, none-between, tallied-fits, tallied-put, tallied-end}
 
 -- ---- the least lower bound
 
@@ -137,7 +137,7 @@ module _ (index entries : List ℕ) (asked : Asked index entries) (writing : Boo
       unfolding unionOf
       active-fits r e =
           let a = ltb-true (active .upper + 1) (next .lower) e in
-          tallied-fits (inAny index entries) writing out₀ out t (active .lower) (s .below) active refl (s .order) (s .high) (s .inside)
+          tallied-fits (inAny index entries) writing out₀ out t (active .lower) (s .below) active (omega arith) (s .order) (s .high) (none-between (inAny index entries) (active .lower)) (s .inside)
           (λ h. apart-below (next .lower) (n .least) (active .upper + 1) (omega arith) a) r
 
       -- it is put, and begins anew
@@ -147,7 +147,7 @@ module _ (index entries : List ℕ) (asked : Asked index entries) (writing : Boo
       active-anew out′ t′ active′ places′ e put l u r =
           let a = ltb-true (active .upper + 1) (next .lower) e in
           let o = next-ordered index entries asked places (active .upper + 2) (s .read) j next n in
-          let d = tallied-put (inAny index entries) writing out₀ out t (active .lower) (s .below) active refl (s .order) (s .high) (s .inside)
+          let d = tallied-put (inAny index entries) writing out₀ out t (active .lower) (s .below) active (omega arith) (s .order) (s .high) (none-between (inAny index entries) (active .lower)) (s .inside)
           (λ h. apart-below (next .lower) (n .least) (active .upper + 1) (omega arith) a) out′ t′ put in
           record {
             below = tallied-skip (inAny index entries) writing out₀ out′ t′ (active .upper + 1) d (active′ .lower) (omega arith) (omega arith)
@@ -198,7 +198,7 @@ module _ (index entries : List ℕ) (asked : Asked index entries) (writing : Boo
       pub last-fits : (writing ≡ true → length (unionOf (listsOf index entries)) ≤ length out₀) → Fitting writing out t active
       unfolding unionOf
       last-fits r =
-          tallied-fits (inAny index entries) writing out₀ out t (active .lower) (s .below) active refl (s .order) (s .high) (s .inside)
+          tallied-fits (inAny index entries) writing out₀ out t (active .lower) (s .below) active (omega arith) (s .order) (s .high) (none-between (inAny index entries) (active .lower)) (s .inside)
           (λ h. out-above (active .upper + 1) (omega arith)) r
 
       pub last-put : (out′ : List ℕ) (t′ : Tally) → (writing ≡ true → length (unionOf (listsOf index entries)) ≤ length out₀) →
@@ -206,7 +206,7 @@ module _ (index entries : List ℕ) (asked : Asked index entries) (writing : Boo
       unfolding unionOf
       last-put out′ t′ r put =
           let high = s .high in
-          let d = tallied-put (inAny index entries) writing out₀ out t (active .lower) (s .below) active refl (s .order) (s .high) (s .inside)
+          let d = tallied-put (inAny index entries) writing out₀ out t (active .lower) (s .below) active (omega arith) (s .order) (s .high) (none-between (inAny index entries) (active .lower)) (s .inside)
           (λ h. out-above (active .upper + 1) (omega arith)) out′ t′ put in
           tallied-end (inAny index entries) writing out₀ out′ t′
           (tallied-skip (inAny index entries) writing out₀ out′ t′ (active .upper + 1) d (top + 1) (omega arith) (omega arith) (λ z h g. out-above z (omega arith))) r

@@ -1,4 +1,3 @@
-pub mod TallyLaws
 pub mod AnyLaws
 pub mod ActiveLaws
 pub mod OpenLaws

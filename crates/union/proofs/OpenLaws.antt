@@ -14,7 +14,7 @@ use Rattle.list.specs.Interval.{top}
 use Rattle.list.specs.Stretches.{cellsOf}
 use Rattle.merge.specs.Put.{Fitting, PutWhere, upTo}
 use Rattle.union.specs.Scan.{lowerFrom}
-use Rattle.union.proofs.TallyLaws.{Tallied, tallied-skip, tallied-fits, tallied-put}
+use Rattle.merge.proofs.TallyLaws.{Tallied, tallied-skip, tallied-fits, tallied-put}
 
 -- all below x is swept; up to s all is out where no list is in, and all is in, from `lower` on, where one is
 pub record Stretch (p : ℕ → Bool) (writing : Bool) (out₀ out : List ℕ) (t : Tally) (s count lower : ℕ) : Type 0 where
@@ -55,6 +55,9 @@ module _ (p : ℕ → Bool) (writing : Bool) (out₀ out : List ℕ) (t : Tally)
 
   -- an upper bound comes before v
   module _ (v : ℕ) (some : 0 < count) (h : s ≤ v) (m : v ≤ top + 1) (wide : (z : ℕ) → s ≤ z → z < v → p z ≡ true) (long : lower < v) where
+    none : (z : ℕ) → g .x ≤ z → z < upTo lower v .lower → p z ≡ false
+    none z a b = let e = g .opened some .0 in absurd (omega arith)
+
     inside : (z : ℕ) → upTo lower v .lower ≤ z → z ≤ upTo lower v .upper → p z ≡ true
     inside z a b = let o = g .opened some in let e = o .0 in leb-cases s z (λ w. wide z w (omega arith)) (λ w. o .1 z (omega arith) w)
 
@@ -63,7 +66,7 @@ module _ (p : ℕ → Bool) (writing : Bool) (out₀ out : List ℕ) (t : Tally)
 
     pub stretch-fits : p v ≡ false → (writing ≡ true → length (cellsOf p top) ≤ length out₀) → Fitting writing out t (upTo lower v)
     stretch-fits e r =
-        tallied-fits p writing out₀ out t (g .x) (g .below) (upTo lower v) (sym (g .opened some .0)) (omega arith) (omega arith) inside (stops e) r
+        tallied-fits p writing out₀ out t (g .x) (g .below) (upTo lower v) (let e = g .opened some .0 in omega arith) (omega arith) (omega arith) none inside (stops e) r
 
     pub stretch-closed : (count′ : ℕ) (out′ : List ℕ) (t′ : Tally) → (count′ ≡ 0 → p v ≡ false) → PutWhere (eqb count′ 0) writing out out′ t (upTo lower v) t′ →
         Stretch p writing out₀ out′ t′ v count′ lower
@@ -75,7 +78,7 @@ module _ (p : ℕ → Bool) (writing : Bool) (out₀ out : List ℕ) (t : Tally)
             record {
               x = v;
               near = omega arith;
-              below = rw q (tallied-put p writing out₀ out t (g .x) (g .below) (upTo lower v) (sym (g .opened some .0)) (omega arith) (omega arith) inside (stops (stop c)) out′ t′ (put .0 (eq-eqb count′ 0 c)));
+              below = rw q (tallied-put p writing out₀ out t (g .x) (g .below) (upTo lower v) (let e = g .opened some .0 in omega arith) (omega arith) (omega arith) none inside (stops (stop c)) out′ t′ (put .0 (eq-eqb count′ 0 c)));
               closed = λ n z a b. absurd (omega arith);
               opened = λ n. absurd (omega arith);
             }

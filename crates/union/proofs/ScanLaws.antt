@@ -35,7 +35,7 @@ use Rattle.merge.proofs.DueLaws.{
   left-less,
 }
 use Rattle.union.specs.Scan.{lowerFrom}
-use Rattle.union.proofs.TallyLaws.{tallied-start, tallied-near, tallied-skip, tallied-end}
+use Rattle.merge.proofs.TallyLaws.{tallied-start, tallied-skip, tallied-end}
 use Rattle.union.proofs.AnyLaws.{inAny}
 use Rattle.union.proofs.OpenLaws.{Stretch, stretch-begun, stretch-fits, stretch-closed}
 use Rattle.union.proofs.OverLaws.{
@@ -216,6 +216,6 @@ module _ (index entries : List ℕ) (asked : Asked index entries) (writing : Boo
         let none = keys-none (length entries) size keys (dueScan index entries places (g .ins)) (asked .few) (g .queue) (omega arith) in
         let e = over-end index entries asked places (g .ins) (g .line) count lower (g .over) none in
         let s = g .stretch in
-        let n = tallied-near (inAny index entries) writing out₀ out t (s .x) (s .below) in
+        let n = s .below .near in
         tallied-end (inAny index entries) writing out₀ out t
         (tallied-skip (inAny index entries) writing out₀ out t (s .x) (s .below) (top + 1) (n .1) (omega arith) (λ z a b. leb-cases (g .line) z (λ w. e .1 z w) (λ w. s .closed (e .0) z a w))) r

@@ -120,7 +120,7 @@ same-length c =
     let s = at .before .before .before .before .before .before .before .before in
     let a = s .args in
     let line = at .loop in
-    omega (arith, c .before .before .put .kept .0, swept-length (line .inv .state .below .swept))
+    omega (arith, c .before .before .put .kept .0, swept-length (line .inv .state .below))
 
 returns : tie.Need-returns Inv-loop μ-loop
 returns c =

@@ -162,7 +162,7 @@ same-length c =
     let s = at .before .before .before .before .before .before .before .before in
     let a = s .args in
     let line = at .loop in
-    swept-length (line .inv .stretch .below .swept)
+    swept-length (line .inv .stretch .below)
 
 returns : tie.Need-returns Inv-loop μ-loop
 returns c =
