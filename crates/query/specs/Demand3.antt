@@ -36,8 +36,8 @@ SameRecords index t u = (x : ℕ) → 1 ≤ x → x ≤ highest index → fits (
 
 -- ---- the exchange of a part in brackets: Reference 11, demand 3
 
--- The question `before ( a ) behind` is accepted over a sound index; a and b are accepted by themselves, and the same records satisfy them;
--- `before ( b ) behind` is within the limits.
+-- Reference 11, demand 3: the question `before ( a ) behind` is accepted over a sound index; a and b are accepted by themselves, and the same
+-- records satisfy them; `before ( b ) behind` is within the limits
 pub record Exchanging (rule : Rule) (index before a b behind : List ℕ) : Type 0 where
   pub sound : checkOf index ≡ Good
   pub tree : Tree

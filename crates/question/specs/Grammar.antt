@@ -12,7 +12,7 @@ pub data Tree : Type 0 where
   pair : Op → Tree → Tree → Tree
   part : Tree → Tree
 
--- an operator with the operand behind it
+-- Reference 6.2: an operator with the operand behind it
 pub data Link : Type 0 where
   link : Op → Tree → Link
 
@@ -25,7 +25,7 @@ unfoldable pub fromLeft : Rule
 fromLeft first [] = first
 fromLeft first (link o operand ∷ links) = fromLeft (pair o first operand) links
 
--- what was read, with the tokens left and the words read so far; or a refusal's number with the tokens from the refused one on
+-- Reference 6.2: what was read, with the tokens left and the words read so far; or a refusal's number with the tokens from the refused one on
 pub data Out (A : Type 0) : Type 0 where
   good : A → List Tok → ℕ → Out A
   bad : ℕ → List Tok → Out A

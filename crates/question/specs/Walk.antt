@@ -33,12 +33,12 @@ pub data Walked (A : Type 0) : Type 0 where
   reached : A → Walked A
   stopped : ℕ → List Tok → Walked A
 
--- on from the first of the tokens ts
+-- Reference 6.2: on from the first of the tokens ts
 abbrev pub onward : Pass → List Tok → (Stand → Walked Stand) → Walked Stand
 onward (goes to) ts next = next to
 onward (refused c) ts next = stopped c ts
 
--- where the walk from `at` over the tokens stands behind the last of them
+-- Reference 6.2: where the walk from `at` over the tokens stands behind the last of them
 unfoldable pub walk : Stand → List Tok → Walked Stand
 walk at [] = reached at
 walk at (t ∷ r) = onward (pass at t) (t ∷ r) (λ to. walk to r)
@@ -56,7 +56,7 @@ walkAll at ts = toEnd (walk at ts)
 abbrev pub fresh : Stand
 fresh = operandNext 0 0
 
--- a reading without its tree
+-- Reference 6.2: a reading without its tree
 abbrev pub verdict : Out Tree → Walked ℕ
 verdict (good t r k) = reached k
 verdict (bad c r) = stopped c r
