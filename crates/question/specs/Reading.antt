@@ -63,7 +63,7 @@ asked rule s =
     (λ _. unless (first (longAt s) (length s)) LongWord
     (λ _. outcome (length s) (whole rule s))))
 
--- Reference 6.4: what the call answers, with how many words the question has
+-- Reference 8.10: what the call answers
 abbrev pub answer : Asked → Reading
 answer (asks t k) = Accepted k
 answer (refuses refusal) = Refused refusal
@@ -71,7 +71,7 @@ answer (refuses refusal) = Refused refusal
 unfoldable pub readingOf : List ℕ → Reading
 readingOf s = answer (asked fromLeft s)
 
--- Reference 7: the answer as numbers, 0 and how many words, or the refusal's number and value
+-- Reference 8.10: the answer as two numbers, 0 and how many words, or the refusal's number and value
 abbrev pub readingResult : Reading → ℕ × ℕ
 readingResult (Accepted words) = (0, words)
 readingResult (Refused refusal) = (numberOf refusal, valueOf refusal)

@@ -13,7 +13,7 @@ pub use reader::Reading;
 pub use words::WordPlaces;
 pub use words::word_places;
 
-// Reference 9.2: whether the question is accepted, and with how many words; or the first refusal of 6 to 11 that holds.
+// Reference 8.10: whether the question is accepted, and with how many words; or the first refusal of 6 to 11 that holds.
 pub fn read_question(question: &[u8]) -> Reading
     ensures { λ r. ⌜ r ≡ readingOf (now (question .entry)) ⌝ }
 {
