@@ -31,7 +31,7 @@ openAfter n (openT p ∷ r) = openAfter (n + 1) r
 openAfter n (closeT p ∷ r) = openAfter (n - 1) r
 openAfter n (otherT p ∷ r) = openAfter n r
 
--- Reference 6.4: the limits of a whole question; a single word is no longer for what stands around it
+-- Reference 6.4: the limits of a whole question; how long a word is does not depend on what stands around it
 pub record WithinLimits (s : List ℕ) : Type 0 where
   pub bytes : length s ≤ 256
   pub words : length (wordsIn (tokens s)) ≤ 16
