@@ -14,7 +14,7 @@ use Rattle.index.specs.Format.{wordCount, highest, wordOf, listOf}
 use Rattle.build.specs.Lent.{lentBefore}
 use Rattle.build.specs.Written.{indexOf}
 
--- all numbers are below m: with 256, they are bytes
+-- Reference 4: all numbers are below m; with 256, they are bytes
 abbrev pub Below : ℕ → List ℕ → Type 0
 Below m [] = Unit {0}
 Below m (x ∷ xs) = (x < m) × Below m xs
@@ -36,7 +36,7 @@ recordsFor [] xss w = []
 recordsFor (v ∷ ws) [] w = []
 recordsFor (v ∷ ws) (xs ∷ xss) w = cond (same v w) xs (recordsFor ws xss w)
 
--- what f gives of the k numbers from i on
+-- Reference 4: what f gives of the k numbers from i on
 unfoldable pub listed : (ℕ → List ℕ) → ℕ → ℕ → List (List ℕ)
 listed f i zero = []
 listed f i (suc k) = f i ∷ listed f (i + 1) k

@@ -16,7 +16,7 @@ use Rattle.list.specs.Interval.{top, names, intervals, records}
 use Rattle.list.specs.Among.{among}
 use Rattle.list.specs.Stretches.{cellsOf, recordsOf}
 
--- the number before place i, 0 before the first
+-- Reference 9.1, row 15: the number before place i, 0 before the first
 abbrev pub numberBefore : List ℕ → ℕ → ℕ
 numberBefore xs zero = 0
 numberBefore xs (suc i) = getD xs i 0

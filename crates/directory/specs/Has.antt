@@ -1,4 +1,4 @@
--- What an index says of a word.
+-- Reference 5.5: what an index says of a word.
 use Prim.Native.Nat.{ℕ, zero, suc, _+_}
 use mathlib.Core.Bool.{Bool, false, _&&_, _||_}
 use mathlib.Core.List.{List}
@@ -16,11 +16,11 @@ hasWithin index (suc k) word x = (same (wordOf index k) word && names (listOf in
 unfoldable pub has : List ℕ → List ℕ → ℕ → Bool
 has index word x = hasWithin index (wordCount index) word x
 
--- how many of the first k words stand before the word
+-- Reference 8.2: how many of the first k words stand before the word
 unfoldable pub belowWithin : List ℕ → ℕ → List ℕ → ℕ
 belowWithin index zero word = 0
 belowWithin index (suc k) word = one (before (wordOf index k) word) + belowWithin index k word
 
--- the entry number at which the word stands or would stand
+-- Reference 8.2: the entry number at which the word stands or would stand
 unfoldable pub placeOf : List ℕ → List ℕ → ℕ
 placeOf index word = belowWithin index (wordCount index) word

@@ -57,7 +57,7 @@ unfoldable pub listsEnd : List ℕ → ℕ → ℕ
 listsEnd index zero = 0
 listsEnd index (suc i) = listsEnd index i + listLength index i
 
--- the size bytes from start on
+-- Reference 4: the size bytes from start on
 abbrev pub part : ℕ → ℕ → List ℕ → List ℕ
 part start size bytes = take size (drop start bytes)
 

@@ -1,4 +1,4 @@
--- "Probing from the shortest list": the numbers of one interval of that list, cut down to those that stand in every list.
+-- Reference 3.3: the method of probing, by which each interval of the shortest list is cut down to the numbers that stand in every list.
 use Prim.Native.Nat.{ℕ, _+_, _-_, _*_, _≤_, _<_}
 use mathlib.Core.Path.{_≡_}
 use mathlib.Core.Bool.{Bool, true, false, not, cond, _&&_}

@@ -1,4 +1,4 @@
--- "the intersection by the twin heap": the next intervals of the lists, by their bounds.
+-- Reference 3.3: the twin heap, which holds the bounds of the intervals that are next, one in each list.
 use mathlib.Core.Path.{_≡_}
 use Prim.Native.Nat.{ℕ, _+_, _-_, _*_, _≤_, _<_}
 use mathlib.Core.List.{List}

@@ -1,4 +1,4 @@
-// The records in every list of a request, by the twin heap and by probing from the shortest list.
+// Reference 3.3: the intersection of the lists of a request, by two methods.
 
 pub mod probing;
 pub mod twin;

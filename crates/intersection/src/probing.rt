@@ -1,4 +1,4 @@
-// The intersection by probing from the shortest list: each of its intervals is cut down to what stands in every other list.
+// Reference 3.3: the method of probing; each interval of the shortest list is cut down to what stands in every other list.
 ghost use mathlib.Core.Path.{_≡_};
 ghost use mathlib.Core.Bool.{true};
 ghost use Prim.Native.Nat.{_+_, _≤_, _<_};

@@ -16,7 +16,7 @@ unfoldable pub numeralIn : ℕ → ℕ → List ℕ
 numeralIn zero n = []
 numeralIn (suc k) n = cond (ltb n 10) ((48 + n) ∷ []) (numeralIn k (n / 10) ++ ((48 + n % 10) ∷ []))
 
--- 20 digits hold every number of 64 bits
+-- Reference 10: 20 digits hold every number of 64 bits
 unfoldable pub numeral : ℕ → List ℕ
 numeral n = numeralIn 20 n
 
@@ -37,7 +37,7 @@ intervalsText (l ∷ u ∷ r) = intervalText l u ++ intervalsText r
 abbrev pub headText : ℕ → ℕ → ℕ → List ℕ
 headText number refusal value = numeral number ++ field refusal ++ field value
 
--- the cells that hold an answer's intervals
+-- Reference 7: the cells that hold an answer's intervals
 abbrev pub shown : Answer → ℕ
 shown (Listed tally) = 2 * tally .intervals
 shown (Refused refusal) = 0
@@ -51,12 +51,12 @@ abbrev pub lineOf : ℕ → Answer → List ℕ → List ℕ
 lineOf number (Listed tally) cells = headText number 0 0 ++ tallyText tally cells ++ (10 ∷ [])
 lineOf number (Refused refusal) cells = headText number (numberOf refusal) (valueOf refusal) ++ (10 ∷ [])
 
--- a text put into lent bytes from place `at` on, and the place behind it; all else stays
+-- Reference 10: a text put into lent bytes from place `at` on, and the place behind it; all else stays
 pub record Puts (out : List ℕ) (at : ℕ) (text out′ : List ℕ) (r : ℕ) : Type 0 where
   pub end : r ≡ at + length text
   pub bytes : out′ ≡ sets out at text
 
--- a text put from byte 0 on, and how long it is
+-- Reference 10: a text put from byte 0 on, and how long it is
 pub record Written (out text out′ : List ℕ) (r : ℕ) : Type 0 where
   pub size : r ≡ length text
   pub bytes : out′ ≡ text ++ drop (length text) out

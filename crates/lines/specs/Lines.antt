@@ -5,7 +5,7 @@ use mathlib.Core.List.{List, [], _∷_}
 use lib.Dec.{eqb, ltb}
 use lib.ListN.{length, getD}
 
--- a byte before the lines behind it belongs to the first of them
+-- Reference 10: a byte before the lines behind it belongs to the first of them
 abbrev pub onto : ℕ → List (List ℕ) → List (List ℕ)
 onto x [] = (x ∷ []) ∷ []
 onto x (line ∷ lines) = (x ∷ line) ∷ lines
@@ -15,12 +15,12 @@ unfoldable pub linesOf : List ℕ → List (List ℕ)
 linesOf [] = []
 linesOf (x ∷ xs) = cond (eqb x 10) ([] ∷ linesOf xs) (onto x (linesOf xs))
 
--- how many bytes stand before the next byte 10, or before the end
+-- Reference 10: how many bytes stand before the next byte 10, or before the end
 unfoldable pub lineLength : List ℕ → ℕ
 lineLength [] = 0
 lineLength (x ∷ xs) = cond (eqb x 10) 0 (suc (lineLength xs))
 
--- the place behind the last byte 10 among the first k bytes, 0 where there is none
+-- Reference 10: the place behind the last byte 10 among the first k bytes, 0 where there is none
 unfoldable pub wholeEnd : ℕ → List ℕ → ℕ
 wholeEnd zero xs = 0
 wholeEnd (suc k) xs = cond (eqb (getD xs k 0) 10) (k + 1) (wholeEnd k xs)

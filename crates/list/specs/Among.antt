@@ -1,4 +1,4 @@
--- A set of numbers that are listed one by one.
+-- Reference 8.7: a set of numbers that are listed one by one.
 use Prim.Native.Nat.{ℕ}
 use mathlib.Core.Bool.{Bool, false, _||_}
 use mathlib.Core.List.{List, [], _∷_}

@@ -1,4 +1,4 @@
--- Interval lists: what an interval is, what a proper list is, and which numbers cells name.
+-- Reference 3.1: what an interval is, what a proper list is, and which numbers cells name.
 use Prim.Native.Nat.{ℕ, _+_, _-_, _/_}
 use mathlib.Core.Bool.{Bool, true, false, _&&_, _||_}
 use mathlib.Core.List.{List, [], _∷_}

@@ -3,15 +3,15 @@ use Prim.Native.Nat.{ℕ, zero, suc, _+_, _-_}
 use mathlib.Core.Bool.{Bool, true, false}
 use mathlib.Core.List.{List, [], _∷_}
 
--- the cell that x brings where x - 1 is in the set or not, and x is or not, in front of the cells r: the l of a stretch that begins at x,
--- or the u of the one that ended before x
+-- Reference 3.2: the cell that x brings, by whether x - 1 and x are in the set, in front of the cells r: the l of a stretch that begins at x, or the u
+-- of the one that ended before x
 abbrev pub turned : Bool → Bool → ℕ → List ℕ → List ℕ
 turned false false x r = r
 turned false true x r = x ∷ r
 turned true false x r = (x - 1) ∷ r
 turned true true x r = r
 
--- the cells of the k numbers from x on, where b says whether x - 1 is in; a stretch that is open then ends with the last of them
+-- Reference 3.2: the cells of the k numbers from x on, where b says whether x - 1 is in; a stretch that is open then ends with the last of them
 unfoldable pub stretches : (ℕ → Bool) → Bool → ℕ → ℕ → List ℕ
 stretches p b x zero = turned b false x []
 stretches p b x (suc k) = turned b (p x) x (stretches p (p x) (x + 1) k)
@@ -25,7 +25,7 @@ abbrev pub kept : Bool → ℕ → List ℕ → List ℕ
 kept true x xs = x ∷ xs
 kept false x xs = xs
 
--- of the k numbers from x on, those at which p holds
+-- Reference 8.8: of the k numbers from x on, those at which p holds
 unfoldable pub recordsFrom : (ℕ → Bool) → ℕ → ℕ → List ℕ
 recordsFrom p x zero = []
 recordsFrom p x (suc k) = kept (p x) x (recordsFrom p (x + 1) k)

@@ -28,7 +28,7 @@ check-determined index = one-value (checkOf index)
 pub lookup-determined : (index word : List ℕ) → OneReturn (λ r. r ≡ lookupOf index word)
 lookup-determined index word = one-value (lookupOf index word)
 
--- "An entry's word is asked for by two calls": the refusal, and the part of the index
+-- Reference 8.3: the refusal, and the part of the index
 pub entry-determined : (index : List ℕ) (i : ℕ) → OneReturn (λ r. r ≡ entryOf index i)
 entry-determined index i = one-value (entryOf index i)
 

@@ -1,4 +1,4 @@
--- The wrong ways to answer a question, by `boats or tide`, `boats or maps` and `boats` over the example's index.
+-- The wrong ways to answer a question, by P1, P2 and `boats` over the example's index.
 use Prim.Native.Nat.{ℕ}
 use native.Mathlib.Omega.{arith}
 use mathlib.Core.Path.{refl}

@@ -1,4 +1,4 @@
--- The example: four words over nine records, boats 2 to 4 and 8, harbour 1 to 3, 6 and 7, maps 5 to 7 and 9, tide 3, 8 and 9; 172 bytes.
+-- Reference 4.4: the example, four words over nine records, and what its questions are put together from.
 use Prim.Native.Nat.{ℕ}
 use mathlib.Core.List.{List, [], _∷_, _++_}
 
@@ -14,7 +14,7 @@ maps = 109 ∷ 97 ∷ 112 ∷ 115 ∷ []
 abbrev pub tide : List ℕ
 tide = 116 ∷ 105 ∷ 100 ∷ 101 ∷ []
 
--- ` and `, ` or `, ` not `, `tables`, `pier`
+-- Reference 10: of the seven questions ` and `, ` or `, ` not `, and two words that the example lacks
 abbrev pub and′ : List ℕ
 and′ = 32 ∷ 97 ∷ 110 ∷ 100 ∷ 32 ∷ []
 
@@ -30,12 +30,12 @@ tables = 116 ∷ 97 ∷ 98 ∷ 108 ∷ 101 ∷ 115 ∷ []
 abbrev pub pier : List ℕ
 pier = 112 ∷ 105 ∷ 101 ∷ 114 ∷ []
 
--- a cell whose number is below 256
+-- Reference 4.1: cells whose numbers are below 256
 abbrev pub small : List ℕ → List ℕ
 small [] = []
 small (x ∷ xs) = x ∷ 0 ∷ 0 ∷ 0 ∷ small xs
 
--- the index: the lists, the words, the directory and the trailer
+-- Reference 4.4: its 172 bytes, the lists, the words, the directory and the trailer
 abbrev pub example : List ℕ
 example =
     small (8 ∷ 2 ∷ 4 ∷ 1 ∷ 6 ∷ 3 ∷ 7 ∷ 9 ∷ 5 ∷ 7 ∷ 3 ∷ 8 ∷ 9 ∷ [])

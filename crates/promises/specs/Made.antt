@@ -1,4 +1,4 @@
--- For each promise an implementation that meets it, and what becomes of one that is made wrong in one way only.
+-- Reference 11: for each promise an implementation that meets it, and what becomes of one that is made wrong in one way only.
 use Prim.Native.Nat.{ℕ, _/_}
 use mathlib.Core.Bool.{Bool, true, cond}
 use mathlib.Core.List.{List}
@@ -26,7 +26,7 @@ use Rattle.query.specs.Ask.{askAnswer, askCells}
 use Rattle.build.specs.Build.{buildOf, indexFrom, bytesAfter}
 use Rattle.promises.specs.Wrong.{Writer, Promise, Meets, Is}
 
--- ---- right ones
+-- ---- right ones: Reference 8.5 to 8.9
 
 abbrev pub rightIntervals : Writer (List ℕ) Written
 rightIntervals xs out = (
@@ -58,17 +58,17 @@ rightBuild a out = (
   bytesAfter (buildOf (a .0) (a .1) (a .2) (a .3) (length out)) (indexFrom (a .0) (a .1) (a .2) (a .3)) out,
 )
 
--- ---- what is made of one
+-- ---- what is made of one: Reference 11
 
--- where it accepts, other cells are left
+-- Reference 11: where it accepts, other cells are left
 abbrev pub leaving : {A R : Type 0} → (R → Bool) → (A → List ℕ → List ℕ) → Writer A R → Writer A R
 leaving refused left f a out = (f a out .0, cond (refused (f a out .0)) (f a out .1) (left a out))
 
--- something else is returned
+-- Reference 11: something else is returned
 abbrev pub returning : {A R : Type 0} → (A → List ℕ → R → R) → Writer A R → Writer A R
 returning change f a out = (change a out (f a out .0), f a out .1)
 
--- one number is n, wherever it is reported
+-- Reference 7: one number is n, wherever it is reported
 abbrev pub withIntervals : ℕ → Answer → Answer
 withIntervals n (answer.Listed t) = answer.Listed (record { intervals = n; records = t .records })
 withIntervals n (answer.Refused r) = answer.Refused r
@@ -92,7 +92,7 @@ abbrev pub withNeededBy : ℕ → Written → Written
 withNeededBy n (written.Wrote m) = written.Wrote m
 withNeededBy n (written.Refused r) = written.Refused (withRoom n r)
 
--- ---- of one that meets the promise, none that is made so meets it
+-- ---- of one that meets the promise, none that is made so meets it: Reference 11
 
 pub record WrongWays {A R : Type 0} (promise : Promise A R) (refused : R → Bool) (f : Writer A R) : Type 0 where
   pub meets : Meets promise f
@@ -115,7 +115,7 @@ pub record WrongWritten {A : Type 0} (promise : Promise A Written) (f : Writer A
   pub written : (n : List ℕ → ℕ) → Meets promise (returning (λ a out. withWritten (n out)) f) → ⊥
   pub room : (n : List ℕ → ℕ) → Meets promise (returning (λ a out. withNeededBy (n out)) f) → ⊥
 
--- ---- the same of the calls that write nothing
+-- ---- the same of the calls that write nothing: Reference 8.1 to 8.4
 
 abbrev pub withBelow : ℕ → Probed → Probed
 withBelow n (Counted p) = Counted (record { below = n; overlapping = p .overlapping })

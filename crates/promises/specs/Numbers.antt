@@ -1,4 +1,4 @@
--- The refusals, one table: the number of each, and the value that it carries.
+-- Reference 9.1: the refusals as one table, the number of each, and the value that it carries.
 use Prim.Native.Nat.{ℕ, _-_}
 use mathlib.Core.Path.{_≡_}
 use mathlib.Core.List.{List, [], _∷_}
@@ -29,7 +29,7 @@ use Rattle.refusal.specs.declared.Refusal.the-variants.{
 }
 use Rattle.refusal.specs.Refusal.{numberOf, valueOf}
 
--- a number, with a refusal that carries any value, or with one whose value is 0
+-- Reference 9.1: a row, a number with a refusal that carries any value, or with one whose value is 0
 pub data Numbered : Type 0 where
   carries : ℕ → (ℕ → Refusal) → Numbered
   zeroed : ℕ → Refusal → Numbered
@@ -59,7 +59,7 @@ refusals =
     ∷ zeroed 21 Missing
     ∷ []
 
--- the numbers that the rows give
+-- Reference 9.1: the numbers that the rows give
 abbrev pub numbersIn : List Numbered → List ℕ
 numbersIn [] = []
 numbersIn (carries n refusal ∷ rows) = n ∷ numbersIn rows
@@ -73,12 +73,12 @@ abbrev pub RowsRight : List Numbered → Type 0
 RowsRight [] = Unit {0}
 RowsRight (row ∷ rows) = RowRight row × RowsRight rows
 
--- a row at a value
+-- Reference 9.1: the refusal that a row gives with a value
 abbrev pub made : Numbered → ℕ → Refusal
 made (carries n refusal) value = refusal value
 made (zeroed n refusal) value = refusal
 
--- each row is right, the numbers are those from 1 to 21 in their order, and the row that a refusal's number names gives it back from its value
+-- Reference 9.1: each row is right, the numbers are 1 to 21 in their order, and the row that a refusal's number names gives it back from its value
 pub record AllNumbered (rows : List Numbered) : Type 0 where
   pub right : RowsRight rows
   pub ordered : numbersIn rows ≡ 1 ∷ 2 ∷ 3 ∷ 4 ∷ 5 ∷ 6 ∷ 7 ∷ 8 ∷ 9 ∷ 10 ∷ 11 ∷ 12 ∷ 13 ∷ 14 ∷ 15 ∷ 16 ∷ 17 ∷ 18 ∷ 19 ∷ 20 ∷ 21 ∷ []

@@ -1,4 +1,4 @@
--- P1 to P12: one table, and what it is for it to be right.
+-- Reference 12: P1 to P12 as one table, and what it is for it to be right.
 use Prim.Native.Nat.{ℕ}
 use mathlib.Core.Path.{_≡_}
 use mathlib.Core.List.{List, [], _∷_, _++_}
@@ -10,7 +10,7 @@ use Rattle.question.specs.Grammar.{fromLeft}
 use Rattle.query.specs.Ask.{Asks}
 use Rattle.promises.specs.Example.{boats, harbour, maps, tide, tables, pier, and′, or′, not′, example}
 
--- a question over the example's index with what it is answered and the four lent cells afterwards; lists with their union or intersection; a range
+-- Reference 12: a question over the example's index with its answer and the four lent cells afterwards; lists with their union or intersection; a range
 -- and a list with how many of its intervals lie below and overlap
 pub data Row : Type 0 where
   line : List ℕ → Answer → List ℕ → Row
@@ -33,7 +33,7 @@ AllRight (r ∷ rs) = Right r × AllRight rs
 abbrev pub listed : ℕ → ℕ → Answer
 listed intervals records = Listed (record { intervals = intervals; records = records })
 
--- P1 to P7 are the example's questions; P8 and P9 are unions of lists that touch and that do not; P10 and P11 intersections, the last of them empty;
+-- Reference 12: P1 to P7 are the example's questions; P8 and P9 unions of lists that touch and that do not; P10 and P11 intersections, of which one is empty;
 -- P12 is a probe
 abbrev pub table : List Row
 table =

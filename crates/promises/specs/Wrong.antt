@@ -1,4 +1,4 @@
--- What an implementation of a call is, when it meets the promise, and the kinds of which none does.
+-- Reference 11: what an implementation of a call is, when it meets the promise, and the kinds of which none does.
 use Prim.Native.Nat.{ℕ, _+_}
 use mathlib.Core.Path.{_≡_}
 use mathlib.Core.Bool.{Bool, true, false, cond}
@@ -30,31 +30,31 @@ use Rattle.question.specs.Grammar.{fromLeft}
 use Rattle.query.specs.Ask.{Asks}
 use Rattle.build.specs.Build.{Builds}
 
--- ---- implementations
+-- ---- implementations: Reference 7
 
--- of a call that writes: from the arguments and what is lent to the return and what is lent afterwards
+-- Reference 7: of a call that writes, from the arguments and what is lent to the return and what is lent afterwards
 abbrev pub Writer : Type 0 → Type 0 → Type 0
 Writer A R = A → List ℕ → R × List ℕ
 
--- which return and which cells or bytes afterwards a contract allows
+-- Reference 11: which return and which cells or bytes afterwards a contract allows
 abbrev pub Promise : Type 0 → Type 0 → Type 1
 Promise A R = A → List ℕ → List ℕ → R → Type 0
 
 abbrev pub Meets : {A R : Type 0} → Promise A R → Writer A R → Type 0
 Meets {A} promise f = (a : A) (out : List ℕ) → promise a out (f a out .1) (f a out .0)
 
--- of a call that writes nothing: it meets its promise where it returns what the definition says
+-- Reference 7: of a call that writes nothing, which meets its promise where it returns what the definition says
 abbrev pub Is : {A R : Type 0} → (A → R) → (A → R) → Type 0
 Is {A} value f = (a : A) → f a ≡ value a
 
--- no implementation of a kind meets the promise
+-- Reference 11: no implementation of a kind meets the promise
 abbrev pub Fails : {A R : Type 0} → Promise A R → (Writer A R → Type 0) → Type 0
 Fails {A} {R} promise wrong = (f : Writer A R) → wrong f → Meets promise f → ⊥
 
 abbrev pub FailsToBe : {A R : Type 0} → (A → R) → ((A → R) → Type 0) → Type 0
 FailsToBe {A} {R} value wrong = (f : A → R) → wrong f → Is value f → ⊥
 
--- ---- the promises, each from its arguments
+-- ---- the promises, each from its arguments: Reference 8
 
 abbrev pub toIntervals : Promise (List ℕ) Written
 toIntervals xs out out′ r = ToIntervals xs out out′ r
@@ -62,15 +62,15 @@ toIntervals xs out out′ r = ToIntervals xs out out′ r
 abbrev pub toNumbers : Promise (List ℕ) Written
 toNumbers c out out′ r = ToNumbers c out out′ r
 
--- an index, and entries of it
+-- Reference 8.5: an index, and entries of it
 abbrev pub joins : (List (List ℕ) → List ℕ) → Promise (List ℕ × List ℕ) Answer
 joins method a out out′ r = Joins method (a .0) (a .1) out out′ r
 
--- an index, and a question
+-- Reference 8.6: an index, and a question
 abbrev pub asks : Promise (List ℕ × List ℕ) Answer
 asks a out out′ r = Asks fromLeft (a .0) (a .1) out out′ r
 
--- N, the words, the counts and the numbers
+-- Reference 8.9: N, the words, the counts and the numbers
 abbrev pub builds : Promise (ℕ × List ℕ × List ℕ × List ℕ) Written
 builds a out out′ r = Builds (a .0) (a .1) (a .2) (a .3) out out′ r
 
@@ -86,40 +86,40 @@ word a = entryWord (a .0) (a .1)
 abbrev pub probe : List ℕ × ℕ × ℕ × ℕ → Probed
 probe a = probeOf (a .0) (a .1) (a .2) (a .3)
 
--- ---- the kinds
+-- ---- the kinds: Reference 11
 
--- what is asked is answered, with no refusal
+-- Reference 7: what is asked is answered, with no refusal
 abbrev pub Accepts : {A R : Type 0} → (R → Bool) → Writer A R → A → List ℕ → Type 0
 Accepts refused f a out = refused (f a out .0) ≡ false
 
--- refusing always: whatever is asked, some refusal is returned
+-- Reference 11: whatever is asked, some refusal is returned
 abbrev pub Refusing : {A R : Type 0} → (R → Bool) → Writer A R → Type 0
 Refusing {A} refused f = (a : A) (out : List ℕ) → refused (f a out .0) ≡ true
 
 abbrev pub RefusingAll : {A R : Type 0} → (R → Bool) → (A → R) → Type 0
 RefusingAll {A} refused f = (a : A) → refused (f a) ≡ true
 
--- one fixed list always: any two requests that are accepted leave the same cells
+-- Reference 11: any two requests that are accepted leave the same cells
 abbrev pub Fixed : {A R : Type 0} → (R → Bool) → Writer A R → Type 0
 Fixed {A} refused f = (a b : A) (out : List ℕ) → Accepts refused f a out → Accepts refused f b out → f a out .1 ≡ f b out .1
 
--- writing nothing: a request that is accepted leaves the cells as they were
+-- Reference 11: a request that is accepted leaves the cells as they were
 abbrev pub Silent : {A R : Type 0} → (R → Bool) → Writer A R → Type 0
 Silent {A} refused f = (a : A) (out : List ℕ) → Accepts refused f a out → f a out .1 ≡ out
 
--- the first only: a request that is accepted leaves what it leaves for the first list or word alone, if that is accepted too
+-- Reference 11: a request that is accepted leaves what it leaves for the first list or word alone, if that is accepted too
 abbrev pub FirstOnly : {A R : Type 0} → (R → Bool) → (A → A) → Writer A R → Type 0
 FirstOnly {A} refused first f =
     (a : A) (out : List ℕ) → Accepts refused f a out → Accepts refused f (first a) out → f a out .1 ≡ f (first a) out .1
 
--- invented counts: wherever it reports the number, it is the same
+-- Reference 11: wherever it reports the number, it is the same
 abbrev pub Inventing : {A R : Type 0} → (R → Option ℕ) → Writer A R → Type 0
 Inventing {A} number f = (a b : A) (out : List ℕ) (m n : ℕ) → number (f a out .0) ≡ some m → number (f b out .0) ≡ some n → m ≡ n
 
 abbrev pub InventingAll : {A R : Type 0} → (R → Option ℕ) → (A → R) → Type 0
 InventingAll {A} number f = (a b : A) (m n : ℕ) → number (f a) ≡ some m → number (f b) ≡ some n → m ≡ n
 
--- or somewhere it does not report the number that is promised
+-- Reference 11: or somewhere it does not report the number that is promised
 pub record Misreporting {A R : Type 0} (promise : Promise A R) (number : R → Option ℕ) (f : Writer A R) : Type 0 where
   pub asked : A
   pub lent : List ℕ
@@ -128,7 +128,7 @@ pub record Misreporting {A R : Type 0} (promise : Promise A R) (number : R → O
   pub promised : promise asked lent after answer
   pub other : number (f asked lent .0) ≡ number answer → ⊥
 
--- ---- what is a refusal
+-- ---- what is a refusal: Reference 7
 
 abbrev pub writtenRefused : Written → Bool
 writtenRefused (written.Wrote n) = false
@@ -146,7 +146,7 @@ abbrev pub lookupRefused : Lookup → Bool
 lookupRefused (Entry i) = false
 lookupRefused (NoEntry r) = true
 
--- "or an empty part when refused"
+-- Reference 8.3: a word has a byte, so that an empty part is a refusal
 abbrev pub wordRefused : List ℕ → Bool
 wordRefused [] = true
 wordRefused (b ∷ bs) = false
@@ -162,7 +162,7 @@ abbrev pub readingRefused : Reading → Bool
 readingRefused (reading.Accepted k) = false
 readingRefused (reading.Refused r) = true
 
--- ---- the first alone
+-- ---- the first alone: Reference 11
 
 abbrev pub firstEntry : List ℕ × List ℕ → List ℕ × List ℕ
 firstEntry a = (a .0, take 1 (a .1))
@@ -171,15 +171,15 @@ abbrev pub firstOf : List (List ℕ) → List ℕ
 firstOf [] = []
 firstOf (w ∷ ws) = w
 
--- the question's first word, at whatever depth; the empty question where it has none
+-- Reference 6.1: the question's first word, at whatever depth; the empty question where it has none
 abbrev pub firstWord : List ℕ × List ℕ → List ℕ × List ℕ
 firstWord a = (a .0, firstOf (wordsIn (tokens (a .1))))
 
--- the first word with its byte 10, its count, and its numbers
+-- Reference 8.9: the first word with its byte 10, its count, and its numbers
 abbrev pub firstBuilt : ℕ × List ℕ × List ℕ × List ℕ → ℕ × List ℕ × List ℕ × List ℕ
 firstBuilt a = (a .0, take (run (a .1) + 1) (a .1), take 1 (a .2), take (getD (a .2) 0 0) (a .3))
 
--- ---- the numbers that a call reports, where it reports them
+-- ---- the numbers that a call reports, where it reports them: Reference 7
 
 abbrev pub intervalsIn : Answer → Option ℕ
 intervalsIn (answer.Listed t) = some (t .intervals)
@@ -189,7 +189,7 @@ abbrev pub recordsIn : Answer → Option ℕ
 recordsIn (answer.Listed t) = some (t .records)
 recordsIn (answer.Refused r) = none
 
--- the room that refusal 12 says is needed
+-- Reference 9.1, row 12: the room that is needed
 abbrev pub neededOf : Refusal → Option ℕ
 neededOf r = cond (eqb (numberOf r) 12) (some (valueOf r)) none
 
@@ -197,7 +197,7 @@ abbrev pub neededIn : Answer → Option ℕ
 neededIn (answer.Listed t) = none
 neededIn (answer.Refused r) = neededOf r
 
--- the intervals, numbers or bytes written
+-- Reference 7: how many were written, intervals, numbers or bytes
 abbrev pub writtenIn : Written → Option ℕ
 writtenIn (written.Wrote n) = some n
 writtenIn (written.Refused r) = none
@@ -206,7 +206,7 @@ abbrev pub neededBy : Written → Option ℕ
 neededBy (written.Wrote n) = none
 neededBy (written.Refused r) = neededOf r
 
--- the intervals that lie below a probed range, and those that overlap it
+-- Reference 3.3: the intervals that lie below a probed range, and those that overlap it
 abbrev pub belowIn : Probed → Option ℕ
 belowIn (Counted p) = some (p .below)
 belowIn (NoCount r) = none

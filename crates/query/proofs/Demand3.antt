@@ -1,4 +1,4 @@
--- DEMAND 3.
+-- DEMAND 3 (Reference 11).
 --
 -- Let two questions be answered over one sound index, by one rule of grouping or by two. Then
 --   same-cells        where every record from 1 to N satisfies both or neither, both write the same cells, and report the same;
@@ -73,7 +73,7 @@ module _ (rule : Rule) (index question : List ℕ) (t : Tree) (out out′ : List
       ap (λ (o : List ℕ). written tally o) (by-room fit answer left .1)
       ∙ take-at cells (drop (length cells) out) (2 * tally .intervals) (sym (satisfying-even index t) ∙ ap (λ (w : Tally). 2 * w .intervals) (sym answered-tally))
 
-  -- "no list of intervals that names the records has fewer intervals": whatever cells name just the records that satisfy the question
+  -- Reference 3.2: of whatever cells name just the records that satisfy the question
   pub fewest-intervals : (c : List ℕ) → names c 0 ≡ false → ((x : ℕ) → 1 ≤ x → x ≤ highest index → names c x ≡ fits (has index) t x) → tally .intervals ≤ intervals c
   unfolding satisfying
   fewest-intervals c e f = rw answered-tally (fewest-of (fits (has index) t) (highest index) c e f)

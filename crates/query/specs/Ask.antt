@@ -30,7 +30,7 @@ abbrev pub treeCells : List ℕ → Asked → ℕ → List ℕ → List ℕ
 treeCells index (asks t k) room out = listCells (satisfying index t) room out
 treeCells index (refuses r) room out = out
 
--- Reference 8.6: the promise of a question over an index that is sound already
+-- Reference 8.10: the promise of a question over an index that is sound already
 pub record Answers (rule : Rule) (index question out out′ : List ℕ) (r : Answer) : Type 0 where
   pub answer : r ≡ treeAnswer index (asked rule question) (length out / 2)
   pub cells : out′ ≡ treeCells index (asked rule question) (length out / 2) out

@@ -1,4 +1,4 @@
--- What demand 3 compares: the cells that two questions write over one sound index, and the exchange of a part in brackets.
+-- Reference 11, demand 3: the cells that two questions write over one sound index, and the exchange of a part in brackets.
 use Prim.Native.Nat.{ℕ, _*_, _≤_}
 use mathlib.Core.Path.{_≡_}
 use mathlib.Core.List.{List, [], _++_}
@@ -18,11 +18,11 @@ use Rattle.question.specs.Limits.{WithinLimits}
 use Rattle.question.specs.Exchange.{around, Matched}
 use Rattle.query.specs.Ask.{Asks}
 
--- "The cells an answer writes are two for each interval it reports, from cell 0, whatever stood there before; demand 3 compares these."
+-- Reference 11, demand 3: the cells that are compared
 abbrev pub written : Tally → List ℕ → List ℕ
 written tally out = take (2 * tally .intervals) out
 
--- a call that keeps the promise: over a sound index it accepted the question, whose tree is t, found room in the cells lent,
+-- Reference 8.6: a call that keeps the promise; over a sound index it accepted the question, whose tree is t, found room in the cells lent,
 -- answered with the tally, and left the cells as out′
 pub record Answered (rule : Rule) (index question : List ℕ) (t : Tree) (out out′ : List ℕ) (tally : Tally) : Type 0 where
   pub sound : checkOf index ≡ Good
@@ -30,14 +30,14 @@ pub record Answered (rule : Rule) (index question : List ℕ) (t : Tree) (out ou
   pub accepted : asked rule question ≡ asks t words
   pub promise : Asks rule index question out out′ (Listed tally)
 
--- every record from 1 to N satisfies both questions or neither
+-- Reference 11, demand 3: every record satisfies both questions or neither
 abbrev pub SameRecords : List ℕ → Tree → Tree → Type 0
 SameRecords index t u = (x : ℕ) → 1 ≤ x → x ≤ highest index → fits (has index) t x ≡ fits (has index) u x
 
--- ---- the exchange of a part in brackets
+-- ---- the exchange of a part in brackets: Reference 11, demand 3
 
--- The question `before ( a ) behind` is accepted over a sound index; a and b are accepted by themselves, and the same records satisfy them;
--- `before ( b ) behind` is within the limits.
+-- Reference 11, demand 3: the question `before ( a ) behind` is accepted over a sound index; a and b are accepted by themselves, and the same
+-- records satisfy them; `before ( b ) behind` is within the limits
 pub record Exchanging (rule : Rule) (index before a b behind : List ℕ) : Type 0 where
   pub sound : checkOf index ≡ Good
   pub tree : Tree
@@ -52,7 +52,7 @@ pub record Exchanging (rule : Rule) (index before a b behind : List ℕ) : Type 
   pub same : SameRecords index tree-a tree-b
   pub within : WithinLimits (around before b behind)
 
--- the same, where of a no more is asked than that the brackets around it are a pair
+-- Reference 11, demand 3: the same, where of a no more is asked than that the brackets around it are a pair
 pub record ExchangingPair (rule : Rule) (index before a b behind : List ℕ) : Type 0 where
   pub sound : checkOf index ≡ Good
   pub tree : Tree
@@ -65,21 +65,21 @@ pub record ExchangingPair (rule : Rule) (index before a b behind : List ℕ) : T
   pub same : (t : Tree) (n : ℕ) → asked rule a ≡ asks t n → SameRecords index t tree-b
   pub within : WithinLimits (around before b behind)
 
--- the cells that a call writes: none, where it refuses
+-- Reference 7: the cells that a call writes, none where it refuses
 abbrev pub writtenBy : Answer → List ℕ → List ℕ
 writtenBy (Listed tally) out = written tally out
 writtenBy (Refused x) out = []
 
--- they stand in front, and what is behind them is as it was
+-- Reference 7: they stand in front, and what is behind them is as it was
 abbrev pub OnlyWritten : Answer → List ℕ → List ℕ → Type 0
 OnlyWritten r out out′ = out′ ≡ writtenBy r out′ ++ drop (length (writtenBy r out′)) out
 
--- a list, or 12
+-- Reference 9.2: a list, or 12
 abbrev pub ListOrRoom : Answer → Type 0
 ListOrRoom (Listed tally) = Unit {0}
 ListOrRoom (Refused x) = numberOf x ≡ 12
 
--- the second question is accepted too, both calls answer the same, and they write the same cells and no others
+-- Reference 11, demand 3: the second question is accepted too, both calls answer the same, and they write the same cells and no others
 pub record SameAnswers (rule : Rule) (second out out′ other other′ : List ℕ) (r r′ : Answer) : Type 0 where
   pub tree : Tree
   pub words : ℕ

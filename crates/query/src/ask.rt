@@ -54,7 +54,7 @@ fn answer_accepted(index: &[u8], question: &[u8], out: &mut [u32]) -> Answer
     put_answer(&codes[0..count], index, &entries, words, out)
 }
 
-// Answers a question over an index that is sound.
+// Reference 8.10: answers a question over an index that is sound.
 pub fn answer_question(index: &[u8], question: &[u8], out: &mut [u32]) -> Answer
     requires { ⌜ Sound (now index) ⌝ }
     ensures { λ r. ⌜ Answers fromLeft (now (index .entry)) (now (question .entry)) (now (out .entry)) (now (out .exit)) r ⌝ }

@@ -1,4 +1,4 @@
--- "Any part in brackets may be exchanged for another in brackets that fits the same records": what the exchange says.
+-- Reference 11, demand 3: what the exchange of one bracketed part for another says, of the question alone.
 use Prim.Native.Nat.{ℕ, _+_, _-_, _≤_}
 use mathlib.Core.Path.{_≡_}
 use mathlib.Core.List.{List, [], _∷_, _++_}
@@ -9,11 +9,11 @@ use Rattle.question.specs.Meaning.{Same}
 use Rattle.question.specs.Reading.{asks, asked}
 use Rattle.question.specs.Limits.{openAfter, WithinLimits}
 
--- the bytes `before ( a ) behind`
+-- Reference 11, demand 3: the bytes `before ( a ) behind`
 abbrev pub around : List ℕ → List ℕ → List ℕ → List ℕ
 around before a behind = before ++ 40 ∷ (a ++ 41 ∷ behind)
 
--- each bracket that closes among the tokens closes one that is open, where n are open before them
+-- Reference 6.2: each bracket that closes among the tokens closes one that is open, where n are open before them
 abbrev pub NeverBelow : ℕ → List Tok → Type 0
 NeverBelow n [] = Unit {0}
 NeverBelow n (wordT w p ∷ r) = NeverBelow n r
@@ -22,17 +22,17 @@ NeverBelow n (openT p ∷ r) = NeverBelow (n + 1) r
 NeverBelow n (closeT p ∷ r) = (1 ≤ n) × NeverBelow (n - 1) r
 NeverBelow n (otherT p ∷ r) = NeverBelow n r
 
--- the brackets of a match, so that those around it match too: from none open, none closes that is not open, and none is left open
+-- Reference 6.2: the brackets of a match, so that those around it do: none closes that is not open, and none is left open
 pub record Matched (a : List ℕ) : Type 0 where
   pub above : NeverBelow 0 (tokens a)
   pub ends : openAfter 0 (tokens a) ≡ 0
 
--- s is accepted, with n words
+-- Reference 6: s is accepted, with n words
 pub record AcceptedBy (rule : Rule) (s : List ℕ) (n : ℕ) : Type 0 where
   pub tree : Tree
   pub accepted : asked rule s ≡ asks tree n
 
--- a and b are accepted by themselves, and the same records fit them
+-- Reference 11, demand 3: a and b are accepted by themselves, and the same records fit them
 pub record Exchangeable (rule : Rule) (has : List ℕ → ℕ → Bool) (a b : List ℕ) : Type 0 where
   pub tree-a : Tree
   pub tree-b : Tree
@@ -42,14 +42,14 @@ pub record Exchangeable (rule : Rule) (has : List ℕ → ℕ → Bool) (a b : L
   pub b-accepted : asked rule b ≡ asks tree-b words-b
   pub same : Same has tree-a tree-b
 
--- s is accepted, and the records that fit t fit it
+-- Reference 11, demand 3: s is accepted, and the records that fit t fit it
 pub record AcceptedToo (rule : Rule) (has : List ℕ → ℕ → Bool) (s : List ℕ) (t : Tree) : Type 0 where
   pub tree : Tree
   pub count : ℕ
   pub accepted : asked rule s ≡ asks tree count
   pub fits-same : Same has t tree
 
--- what follows of `before ( a ) behind`, which is accepted with tree t, and of s, which is `before ( b ) behind`
+-- Reference 11, demand 3: what follows of `before ( a ) behind`, which is accepted with tree t, and of s, which is `before ( b ) behind`
 pub record Exchanged (rule : Rule) (has : List ℕ → ℕ → Bool) (t : Tree) (s : List ℕ) : Type 0 where
   pub fits-same : (u : Tree) (m : ℕ) → asked rule s ≡ asks u m → Same has t u
   pub accepted : WithinLimits s → AcceptedToo rule has s t

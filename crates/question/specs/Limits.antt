@@ -1,10 +1,10 @@
--- What the limits of a question count: its bytes, its words, and the brackets that are open at once.
+-- Reference 6.4: what the limits of a question count, its bytes, its words, and the brackets that are open at one place.
 use Prim.Native.Nat.{ℕ, _+_, _-_, _≤_, max}
 use mathlib.Core.List.{List, [], _∷_}
 use lib.ListN.{length}
 use Rattle.question.specs.Token.{Tok, wordT, opT, openT, closeT, otherT, tokens}
 
--- the words, in order
+-- Reference 6.4: the words, in order
 unfoldable pub wordsIn : List Tok → List (List ℕ)
 wordsIn [] = []
 wordsIn (wordT w p ∷ r) = w ∷ wordsIn r
@@ -13,7 +13,7 @@ wordsIn (openT p ∷ r) = wordsIn r
 wordsIn (closeT p ∷ r) = wordsIn r
 wordsIn (otherT p ∷ r) = wordsIn r
 
--- how many brackets are open at once, where n are open
+-- Reference 6.4: the most brackets that are open at one place, where n are open before the tokens
 unfoldable pub deepest : ℕ → List Tok → ℕ
 deepest n [] = n
 deepest n (wordT w p ∷ r) = deepest n r
@@ -22,7 +22,7 @@ deepest n (openT p ∷ r) = deepest (n + 1) r
 deepest n (closeT p ∷ r) = max n (deepest (n - 1) r)
 deepest n (otherT p ∷ r) = deepest n r
 
--- how many brackets are open behind the tokens, where n were open before them
+-- Reference 6.4: how many brackets are open behind the tokens, where n were open before them
 unfoldable pub openAfter : ℕ → List Tok → ℕ
 openAfter n [] = n
 openAfter n (wordT w p ∷ r) = openAfter n r
@@ -31,7 +31,7 @@ openAfter n (openT p ∷ r) = openAfter (n + 1) r
 openAfter n (closeT p ∷ r) = openAfter (n - 1) r
 openAfter n (otherT p ∷ r) = openAfter n r
 
--- "question, bytes: 256; words in a question, repeats counted: 16; brackets open at once: 8"
+-- Reference 6.4: the limits of a whole question; how long a word is does not depend on what stands around it
 pub record WithinLimits (s : List ℕ) : Type 0 where
   pub bytes : length s ≤ 256
   pub words : length (wordsIn (tokens s)) ≤ 16

@@ -1,4 +1,4 @@
--- Which records fit a question.
+-- Reference 6.3: which records satisfy a question, which is said as: fit its tree.
 use Prim.Native.Nat.{ℕ}
 use mathlib.Core.Path.{_≡_}
 use mathlib.Core.Bool.{Bool, not, _&&_, _||_}
@@ -7,19 +7,19 @@ use Rattle.question.specs.declared.token.Op.{Op}
 use Rattle.question.specs.declared.token.Op.the-variants.{And, Or, Not}
 use Rattle.question.specs.Grammar.{Tree, word, pair, part, Link, link, Rule}
 
--- "`not` takes two sides (left but not right)"
+-- Reference 6.3: what an operator makes of its two sides
 abbrev pub combine : Op → Bool → Bool → Bool
 combine And left right = left && right
 combine Or left right = left || right
 combine Not left right = left && not right
 
--- `has w x`: whether the record x has the word w
+-- Reference 6.3: whether x fits a tree, where `has w x` is whether the word w is in the record x
 unfoldable pub fits : (List ℕ → ℕ → Bool) → Tree → ℕ → Bool
 fits has (word w) x = has w x
 fits has (pair o a b) x = combine o (fits has a x) (fits has b x)
 fits has (part t) x = fits has t x
 
--- two trees that the same records fit
+-- Reference 11, demand 3: two trees that the same records fit
 abbrev pub Same : (List ℕ → ℕ → Bool) → Tree → Tree → Type 0
 Same has a b = (x : ℕ) → fits has a x ≡ fits has b x
 
@@ -27,7 +27,7 @@ pub data SameLinks (has : List ℕ → ℕ → Bool) : List Link → List Link �
   none : SameLinks has [] []
   more : (o : Op) (a b : Tree) (ls ms : List Link) → Same has a b → SameLinks has ls ms → SameLinks has (link o a ∷ ls) (link o b ∷ ms)
 
--- what is asked of a rule: operands that the same records fit may be exchanged
+-- Reference 11, demand 3: what is asked of a rule, that operands which the same records fit may be exchanged
 abbrev pub Respects : Rule → Type 0
 Respects rule =
     (has : List ℕ → ℕ → Bool) (a b : Tree) (ls ms : List Link) → Same has a b → SameLinks has ls ms → Same has (rule a ls) (rule b ms)

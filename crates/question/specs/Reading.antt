@@ -1,4 +1,4 @@
--- The whole call: the refusals 6 to 11 in their order, or the question's tree.
+-- Reference 9.2, question: the refusals 6 to 11 in their order, or the question's tree.
 use Prim.Native.Nat.{ℕ}
 use mathlib.Core.List.{List, [], _∷_}
 use mathlib.Core.Bool.{Bool, not, cond, _||_}
@@ -16,23 +16,23 @@ use Rattle.question.specs.declared.reader.Reading.the-variants.{Accepted
 use Rattle.question.specs.Token.{choose, run, Tok, wordT, opT, openT, closeT, otherT}
 use Rattle.question.specs.Grammar.{Tree, Rule, fromLeft, Out, good, bad, whole}
 
--- accepted, with the tree and the number of words; or refused
+-- Reference 6: accepted, with the tree and the number of words; or refused
 pub data Asked : Type 0 where
   asks : Tree → ℕ → Asked
   refuses : Refusal → Asked
 
--- 7: "byte other than word bytes, space, brackets | first place"
+-- Reference 9.1, row 7
 unfoldable pub isForeign : ℕ → Bool
 isForeign b = not (isWordByte b || eqb b 32 || eqb b 40 || eqb b 41)
 
 abbrev pub foreignAt : List ℕ → ℕ → Bool
 foreignAt s i = isForeign (getD s i 0)
 
--- 8: "word over 32 bytes | its start". At the first such place a run starts: from a word byte before it, the run would be longer still.
+-- Reference 9.1, row 8: at the first such place a run starts, since from a word byte before it the run would be longer still
 abbrev pub longAt : List ℕ → ℕ → Bool
 longAt s i = ltb 32 (run (drop i s))
 
--- 9: "its start, or the length"; 10: "its start"; 11: "its place"
+-- Reference 9.1, rows 9 to 11: the place of the first token left; where none is left, the question's length
 abbrev pub placeOf : ℕ → List Tok → ℕ
 placeOf len [] = len
 placeOf len (wordT w p ∷ r) = p
@@ -41,7 +41,7 @@ placeOf len (openT p ∷ r) = p
 placeOf len (closeT p ∷ r) = p
 placeOf len (otherT p ∷ r) = p
 
--- What is neither 10 nor 11 is 9: a reading is refused by no other number, since the bound on its calls is never used up
+-- Reference 9.1, rows 9 to 11: what is neither 10 nor 11 is 9, for the bound on the calls is never used up
 -- (`refused-number` and `never-used-up` in proofs/StopLaws.antt).
 unfoldable pub refusalOf : ℕ → ℕ → Refusal
 refusalOf number place = cond (eqb number 10) (WordLimit place) (cond (eqb number 11) (BracketLimit place) (Grammar place))
@@ -50,12 +50,12 @@ abbrev pub outcome : ℕ → Out Tree → Asked
 outcome len (good t r k) = asks t k
 outcome len (bad number r) = refuses (refusalOf number (placeOf len r))
 
--- the refusal where there is a place for it, else what comes next
+-- Reference 9.2: the refusal where there is a place for it, else what comes next
 abbrev pub unless : Found → (ℕ → Refusal) → (Unit {0} → Asked) → Asked
 unless (At i) fault next = refuses (fault i)
 unless Nowhere fault next = next tt
 
--- "Then a question: 6, 7, 8, then 9, 10, 11 as met from the left"
+-- Reference 9.2: each refusal is asked of the whole question before the next one is; the last three are met by reading it
 unfoldable pub asked : Rule → List ℕ → Asked
 asked rule s =
     choose (ltb 256 (length s)) (λ _. refuses (QuestionLength (length s)))
@@ -63,7 +63,7 @@ asked rule s =
     (λ _. unless (first (longAt s) (length s)) LongWord
     (λ _. outcome (length s) (whole rule s))))
 
--- what the call answers
+-- Reference 8.10: what the call answers
 abbrev pub answer : Asked → Reading
 answer (asks t k) = Accepted k
 answer (refuses refusal) = Refused refusal
@@ -71,7 +71,7 @@ answer (refuses refusal) = Refused refusal
 unfoldable pub readingOf : List ℕ → Reading
 readingOf s = answer (asked fromLeft s)
 
--- the answer as two numbers: 0 and how many words, or the refusal's number and value
+-- Reference 8.10: the answer as two numbers, 0 and how many words, or the refusal's number and value
 abbrev pub readingResult : Reading → ℕ × ℕ
 readingResult (Accepted words) = (0, words)
 readingResult (Refused refusal) = (numberOf refusal, valueOf refusal)

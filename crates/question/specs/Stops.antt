@@ -1,4 +1,4 @@
--- When a question is refused by 9, 10 or 11, said by the walk (proved of the reading in proofs/StopLaws.antt, and of the call in AskedLaws.antt).
+-- Reference 9.1, rows 9 to 11, said by the walk (proved of the reading in proofs/StopLaws.antt, and of the call in AskedLaws.antt).
 use Prim.Native.Nat.{ℕ, _≤_}
 use mathlib.Core.Path.{_≡_}
 use mathlib.Core.List.{List, _∷_, _++_}
@@ -11,15 +11,15 @@ use Rattle.question.specs.Limits.{wordsIn, openAfter}
 use Rattle.question.specs.Reading.{foreignAt, longAt, placeOf}
 use Rattle.question.specs.Walk.{operandNext, reached, stopped, walk, walkAll, fresh}
 
--- the numbers by which a question is refused for its tokens
+-- Reference 9.1, rows 9 to 11: the numbers by which a question is refused for its tokens
 abbrev pub StopNumber : ℕ → Type 0
 StopNumber c = (c ≡ 9) ⊎ ((c ≡ 10) ⊎ (c ≡ 11))
 
--- 9: the walk over ts stops because something else stands, or nothing, where an operand or an operator must; r is the tokens from there on
+-- Reference 9.1, row 9: the walk over ts stops at a token that it cannot take, or at the end; r is the tokens from there on
 abbrev pub Misplaced : List Tok → List Tok → Type 0
 Misplaced ts r = walkAll fresh ts ≡ stopped 9 r
 
--- 10: a word where an operand must stand, behind 16 words; r is the tokens from it on
+-- Reference 9.1, row 10: a word where an operand has to come, behind 16 words; r is the tokens from it on
 pub record WordTooMany (ts r : List Tok) : Type 0 where
   pub front : List Tok
   pub word : List ℕ
@@ -32,7 +32,7 @@ pub record WordTooMany (ts r : List Tok) : Type 0 where
   pub stands : walk fresh front ≡ reached (operandNext brackets words)
   pub full : length (wordsIn front) ≡ 16
 
--- 11: an opening bracket where an operand must stand, behind 8 that are open; r is the tokens from it on
+-- Reference 9.1, row 11: an opening bracket where an operand has to come, behind 8 that are open; r is the tokens from it on
 pub record BracketTooMany (ts r : List Tok) : Type 0 where
   pub front : List Tok
   pub place : ℕ
@@ -44,13 +44,13 @@ pub record BracketTooMany (ts r : List Tok) : Type 0 where
   pub stands : walk fresh front ≡ reached (operandNext brackets words)
   pub full : openAfter 0 front ≡ 8
 
--- 6, 7 and 8 do not hold
+-- Reference 9.2: 6, 7 and 8 do not hold
 pub record Faultless (s : List ℕ) : Type 0 where
   pub bytes : length s ≤ 256
   pub proper : first (foreignAt s) (length s) ≡ Nowhere
   pub short : first (longAt s) (length s) ≡ Nowhere
 
--- the walk over the question s stops so, at place p, and no earlier refusal holds
+-- Reference 9.2: the walk over the question s stops so, at place p, and no earlier refusal holds
 pub record StopsAt (Stop : List Tok → List Tok → Type 0) (s : List ℕ) (p : ℕ) : Type 0 where
   pub faultless : Faultless s
   pub left : List Tok

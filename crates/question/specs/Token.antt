@@ -1,4 +1,4 @@
--- The tokens of a question.
+-- Reference 6.1: the tokens of a question.
 use Prim.Native.Nat.{ℕ, suc, _+_, _-_}
 use mathlib.Core.List.{List, [], _∷_, _++_}
 use mathlib.Core.Bool.{Bool, true, false}
@@ -19,7 +19,7 @@ choose false a b = b tt
 abbrev pub cut : List ℕ → ℕ → ℕ → List ℕ
 cut s p q = take (q - p) (drop p s)
 
--- how many word bytes, and how many spaces, stand at the front
+-- Reference 6.1: how many word bytes, and how many spaces, stand at the front
 unfoldable pub run : List ℕ → ℕ
 run [] = 0
 run (b ∷ bs) = choose (isWordByte b) (λ _. suc (run bs)) (λ _. 0)
@@ -28,39 +28,39 @@ unfoldable pub spaces : List ℕ → ℕ
 spaces [] = 0
 spaces (b ∷ bs) = choose (eqb b 32) (λ _. suc (spaces bs)) (λ _. 0)
 
--- a word with its bytes, an operator, a bracket, or a byte that no token has; each with the place where it starts
+-- Reference 6.1: a word with its bytes, an operator, a bracket, or a byte that has no place in a question; each with the place where it starts
 pub data Tok : Type 0 where
   wordT : List ℕ → ℕ → Tok
   opT : Op → ℕ → Tok
   openT closeT otherT : ℕ → Tok
 
--- "Operators are `and`, `or`, `not`, in small letters only; `AND` is a word."
+-- Reference 6.1: what a run is, by the operator that its bytes are
 abbrev pub runTok : Operator → List ℕ → ℕ → Tok
 runTok And w p = opT op.And p
 runTok Or w p = opT op.Or p
 runTok Not w p = opT op.Not p
 runTok Neither w p = wordT w p
 
--- "Each longest run of word bytes is one token, ..": the run that has been gathered, if there is one
+-- Reference 6.1: the run that has been gathered, if there is one, before the tokens behind it
 abbrev pub flush : ℕ → List ℕ → List Tok → List Tok
 flush start [] ts = ts
 flush start (a ∷ az) ts = runTok (operatorOf (a ∷ az)) (a ∷ az) start ∷ ts
 
--- ".. and so is each bracket. Spaces (byte 32) separate and are otherwise ignored."
+-- Reference 6.1: what a byte that ends a run is, at place n; a space is no token
 abbrev pub mark : ℕ → ℕ → List Tok → List Tok
 mark n b ts =
     choose (eqb b 32) (λ _. ts)
     (λ _. choose (eqb b 40) (λ _. openT n ∷ ts)
     (λ _. choose (eqb b 41) (λ _. closeT n ∷ ts) (λ _. otherT n ∷ ts)))
 
--- the tokens of the bytes that stand from place n on, where a run that began at `start` has been gathered
+-- Reference 6.1: the tokens of the bytes that stand from place n on, where a run that began at `start` has been gathered
 unfoldable pub gather : ℕ → ℕ → List ℕ → List ℕ → List Tok
 gather n start acc [] = flush start acc []
 gather n start acc (b ∷ bs) =
     choose (isWordByte b) (λ _. gather (n + 1) start (acc ++ (b ∷ [])) bs)
     (λ _. flush start acc (mark n b (gather (n + 1) (n + 1) [] bs)))
 
--- the tokens of a question from place `at` on, where no run stands across it
+-- Reference 6.1: the tokens of a question from place `at` on, where no run stands across it
 unfoldable pub tokensAt : List ℕ → ℕ → List Tok
 tokensAt s at = gather at at [] (drop at s)
 

@@ -1,4 +1,4 @@
-// The faults of single bytes and of single words, which are asked of the whole question before it is read.
+// Reference 9.1, rows 7 and 8: faults of a byte and of a run, which are asked of the whole question before it is read.
 ghost use mathlib.Core.Path.{_≡_};
 ghost use lib.ListN.{length};
 ghost use Rattle.refusal.specs.First.{first};

@@ -1,4 +1,4 @@
-// Questions: their tokens, the readers, the refusals 6 to 11, and where their words stand.
+// Reference 6: questions, their tokens, the readers, the refusals 6 to 11, and where their words stand.
 ghost use mathlib.Core.Path.{_≡_};
 ghost use Rattle.question.specs.Reading.{readingOf};
 use refusal::Found;
@@ -13,7 +13,7 @@ pub use reader::Reading;
 pub use words::WordPlaces;
 pub use words::word_places;
 
-// Whether the question is accepted, and with how many words; or the first refusal of 6 to 11 that holds.
+// Reference 8.10: whether the question is accepted, and with how many words; or the first refusal of 6 to 11 that holds.
 pub fn read_question(question: &[u8]) -> Reading
     ensures { λ r. ⌜ r ≡ readingOf (now (question .entry)) ⌝ }
 {

@@ -1,4 +1,4 @@
-// The readers of a question: operands and the links between them, from the left.
+// Reference 6.2: the readers of a question, which go from operand to operand by the links between them.
 ghost use Prim.Native.Nat.{_≤_};
 ghost use lib.ListN.{length};
 ghost use Rattle.question.specs.Readers.{
@@ -12,7 +12,7 @@ use super::token::next_token;
 use super::token::token_start;
 use refusal::Refusal;
 
-// Accepted, with the number of words, repeats counted; or refused.
+// Reference 6.4: accepted, with the number of words, each as often as it stands there; or refused.
 pub enum Reading {
     Accepted(usize),
     Refused(Refusal),
@@ -24,7 +24,7 @@ pub enum Read {
     Bad(Refusal),
 }
 
-// An operand, then any number of links: `room` brackets may still open, and `words` words were read before.
+// An operand and its links, where `room` brackets may still open and `words` words were read before.
 fn question(s: &[u8], room: usize, words: usize, at: usize) -> Read
     requires { ⌜ (at ≤ length (now s)) × (words ≤ 16) ⌝ }
     ensures { λ r. ⌜ ReadsQuestion (now (s .entry)) room words at r ⌝ }
@@ -81,7 +81,7 @@ fn links(s: &[u8], room: usize, words: usize, at: usize) -> Read
     }
 }
 
-// The refusals 9, 10 and 11, as met from the left.
+// Reference 9.1, rows 9 to 11: the one that the reading meets.
 pub fn read_whole(s: &[u8]) -> Reading
     ensures { λ r. ⌜ ReadsWhole (now (s .entry)) r ⌝ }
 {

@@ -1,4 +1,4 @@
-// Tokens: each longest run of word bytes, and each bracket. Spaces separate them.
+// Reference 6.1: the tokens of a question, found one at a time.
 ghost use mathlib.Core.Path.{_≡_};
 ghost use Prim.Native.Nat.{_+_, _≤_};
 ghost use lib.ListN.{length, drop};

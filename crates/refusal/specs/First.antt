@@ -4,7 +4,7 @@ use mathlib.Core.Bool.{Bool, cond}
 use Rattle.refusal.specs.declared.Found.{Found}
 use Rattle.refusal.specs.declared.Found.the-variants.{At, Nowhere}
 
--- the first of the k places from i on at which the test holds
+-- Reference 9.1: the first of the k places from i on at which the test holds
 unfoldable pub firstFrom : (ℕ → Bool) → ℕ → ℕ → Found
 firstFrom t i zero = Nowhere
 firstFrom t i (suc k) = cond (t i) (At i) (firstFrom t (i + 1) k)

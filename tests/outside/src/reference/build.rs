@@ -51,7 +51,7 @@ fn put(bytes: &mut Vec<u8>, cells: impl Iterator<Item = u32>) {
     cells.for_each(|cell| bytes.extend_from_slice(&cell.to_le_bytes()));
 }
 
-/// Refusal 17: the words, each ended by byte 10.
+/// Refusal 17: the words, each without the byte 10 behind it.
 fn split(words: &[u8]) -> Answer<Vec<Vec<u8>>> {
     let mut found: Vec<Vec<u8>> = Vec::new();
     let mut rest = words;

@@ -3,7 +3,7 @@
 use super::set::Set;
 use super::{refuse, Answer, RECORD_MAX};
 
-/// The first place whose number is 0, above the limit, or not above the one before.
+/// The first place whose number is 0, over the limit, or no larger than its predecessor.
 pub fn bad_number(numbers: &[u32], limit: u32) -> Option<usize> {
     (0..numbers.len()).find(|&i| numbers[i] == 0 || numbers[i] > limit || (i > 0 && numbers[i] <= numbers[i - 1]))
 }

@@ -81,7 +81,7 @@ fn read_words(bytes: &[u8], words: u64, directory: u64, lines: &[Line]) -> Answe
     Ok(found)
 }
 
-/// Walks S and L/U with the two positions p and q, and takes what comes only where the list stays proper, within 1 to N.
+/// The walk by p and q (Reference 3.4): an interval is taken only where the list stays proper with it, and N is not passed.
 fn read_list(bytes: &[u8], line: &Line, highest: u32) -> Option<Set> {
     let (s, m) = (line.singles as usize, line.pairs as usize);
     let at = |k: usize| cell(bytes, line.list_start as usize + 4 * k);
@@ -126,7 +126,7 @@ pub fn word(bytes: &[u8], entry: u32) -> Answer<(u64, u64)> {
     }
 }
 
-/// Intervals wholly below a, and those that overlap [a, b].
+/// The two counts of a probe (Reference 3.3).
 pub fn probe(bytes: &[u8], entry: u32, a: u32, b: u32) -> Answer<(u64, u64)> {
     let index = read(bytes)?;
     let Some(entry) = index.entries.get(entry as usize) else {

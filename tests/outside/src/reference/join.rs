@@ -23,7 +23,7 @@ pub fn join(bytes: &[u8], how: Join, entries: &[u32]) -> Answer<Set> {
     Ok(lists.reduce(|one, next| if how == Join::Union { one.or(&next) } else { one.and(&next) }).unwrap())
 }
 
-/// Refusal 12 of an answer: room counts whole pairs of cells.
+/// Refusal 12 of an answer: an interval needs two cells.
 pub fn fit(answer: Set, cells: usize) -> Answer<Set> {
     if answer.intervals().len() > cells / 2 {
         return refuse(12, answer.intervals().len() as u64);

@@ -54,7 +54,7 @@ pub fn answer(index: &Index, question: &[u8]) -> Answer<Set> {
     evaluate(index, &tokens, question.len())
 }
 
-/// Each longest run of word bytes, and each bracket, with its start.
+/// Runs of word bytes, and brackets, each with its start.
 fn tokens(question: &[u8]) -> Vec<(usize, &[u8])> {
     let mut found = Vec::new();
     let mut i = 0;
