@@ -44,8 +44,9 @@ pub left-none : {vs out ws now : List ℕ} {from at : ℕ} → Left vs out from 
 left-none {vs} {out} {ws} {now} {from} {at} l e =
     record { cells = sym (l .cells ∙ ap (sets now at) e); end = omega (arith, l .count, l .same, l .onward, l .within, ap length e) }
 
+pub counts-within : (r : ℕ) (xs : List ℕ) → r ≤ length xs → Counts r xs
+counts-within r xs h = (h, sym (length-take-le r xs h))
+
 -- what is read from the front on counts cells at the front
 pub reads-counts : {vs out out′ : List ℕ} {r : ℕ} → Reads vs out 0 out′ r → Counts r out′
-reads-counts {vs} {out} {out′} {r} reads =
-    let h : r ≤ length out′ = omega (arith, reads .end, ap length (reads .cells), length-sets out 0 vs) in
-    (h, sym (length-take-le r out′ h))
+reads-counts {vs} {out} {out′} {r} reads = counts-within r out′ (omega (arith, reads .end, ap length (reads .cells), length-sets out 0 vs))

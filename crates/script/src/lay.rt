@@ -3,8 +3,10 @@
 ghost use mathlib.Core.Path.{_≡_};
 ghost use Prim.Native.Nat.{_+_, _≤_};
 ghost use lib.ListN.{length};
+ghost use Rattle.io.specs.Counts.{Counts};
 use crate::number::number;
 use crate::number::number32;
+use crate::number::within;
 use crate::part::behind;
 use crate::part::front;
 use crate::part::part_end;
@@ -76,7 +78,7 @@ fn put_item(item: &[u8], bytes: &mut [u8])
 }
 
 // Lays the items into the bytes.
-pub fn lay(s: &[u8], bytes: &mut [u8])
+fn lay(s: &[u8], bytes: &mut [u8])
     ensures { λ _. ⌜ length (now (bytes .exit)) ≡ length (now (bytes .entry)) ⌝ }
 {
     let mut at = 0;
@@ -88,13 +90,39 @@ pub fn lay(s: &[u8], bytes: &mut [u8])
 }
 
 // The number of bytes that the items say, or the given one; never more than `most`.
-pub fn laid_length(s: &[u8], given: usize, most: usize) -> usize
+fn laid_length(s: &[u8], given: usize, most: usize) -> usize
     ensures { λ r. ⌜ r ≤ most ⌝ }
 {
-    let mut size = given;
     let said = behind(s, b'#');
     if 0 < said.len() {
-        size = number(said) as usize;
+        within(said, most)
+    } else if given < most {
+        given
+    } else {
+        most
     }
-    if size < most { size } else { most }
+}
+
+// Copies as much as both hold.
+fn copy(from: &[u8], to: &mut [u8])
+    ensures { λ _. ⌜ length (now (to .exit)) ≡ length (now (to .entry)) ⌝ }
+{
+    let mut i = 0;
+    while i < to.len() {
+        if from.len() <= i {
+            return;
+        }
+        to[i] = from[i];
+        i += 1;
+    }
+}
+
+// Lays the items over a copy of `base`, of which `size` bytes count: how many bytes count then.
+pub fn change(items: &[u8], base: &[u8], size: usize, work: &mut [u8]) -> usize
+    ensures counts { λ r. ⌜ Counts r (now (work .exit)) ⌝ }
+    ensures same { λ _. ⌜ length (now (work .exit)) ≡ length (now (work .entry)) ⌝ }
+{
+    copy(base, work);
+    lay(items, work);
+    laid_length(items, size, work.len())
 }

@@ -1,6 +1,6 @@
 // Numbers in decimal digits, and lists of them.
 ghost use mathlib.Core.Path.{_≡_};
-ghost use Prim.Native.Nat.{_<_, _%_};
+ghost use Prim.Native.Nat.{_<_, _%_, min};
 ghost use lib.ListN.{length};
 ghost use Rattle.io.specs.Counts.{Counts};
 ghost use Rattle.script.specs.Number.{noDigit, numberOf, numbersOf};
@@ -43,8 +43,16 @@ pub fn number32(s: &[u8]) -> u32
     (number(s) % 4_294_967_296) as u32
 }
 
+// The same, but no more than `most`.
+pub fn within(s: &[u8], most: usize) -> usize
+    ensures { λ r. ⌜ r ≡ min (numberOf (now (s .entry))) most ⌝ }
+{
+    let n = number(s) as usize;
+    if n < most { n } else { most }
+}
+
 // The numbers of a field, with a space between, at 32 bits and as many as there is room for: how many that is.
-pub fn numbers(s: &[u8], out: &mut [u32]) -> usize
+pub fn read_numbers(s: &[u8], out: &mut [u32]) -> usize
     ensures reads { λ r. ⌜ Reads (numbersOf (now (s .entry))) (now (out .entry)) 0 (now (out .exit)) r ⌝ }
     ensures counts { λ r. ⌜ Counts r (now (out .exit)) ⌝ }
 {

@@ -63,7 +63,7 @@ pub fn put_text(s: &[u8], out: &mut [u8], from: usize) -> usize
 }
 
 // The bytes that a text says, as many as there is room for: how many that is.
-pub fn text(s: &[u8], out: &mut [u8]) -> usize
+pub fn read_text(s: &[u8], out: &mut [u8]) -> usize
     ensures reads { λ r. ⌜ Reads (textOf (now (s .entry))) (now (out .entry)) 0 (now (out .exit)) r ⌝ }
     ensures counts { λ r. ⌜ Counts r (now (out .exit)) ⌝ }
 {
