@@ -80,11 +80,5 @@ pub fn build(line: &[u8]) {
     let size = read_text(field(line, 3), &mut words);
     let count = read_numbers(field(line, 4), &mut counts);
     let total = read_numbers(field(line, 5), &mut numbers);
-    run(
-        room,
-        n,
-        &words[..size],
-        &counts[..count],
-        &numbers[..total],
-    );
+    run(room, n, &words[..size], &counts[..count], &numbers[..total]);
 }

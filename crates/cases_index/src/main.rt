@@ -8,7 +8,6 @@
 //   bytes                     the bytes that a word may have
 //   many|N|size|counts|numbers|bad       into one byte: the first `size` bytes of 65,536 words of four letters, counts and numbers of 1, bad words
 // What stands behind these fields is a remark. A line that begins with # is a heading.
-ghost use Prim.Native.Nat.{_≤_};
 use check::same;
 use script::lay::change;
 use script::part::field;
@@ -50,7 +49,11 @@ fn call(line: &[u8], base: &[u8], size: usize, work: &mut [u8]) {
 }
 
 fn is_heading(line: &[u8]) -> bool {
-    if line.len() == 0 { true } else { line[0] == b'#' }
+    if line.len() == 0 {
+        true
+    } else {
+        line[0] == b'#'
+    }
 }
 
 // Runs a line, if it is no heading: how many bytes the index has from then on.

@@ -5,8 +5,6 @@
 //   probe|items|p|q|a|b    [a, b] probed in the list of p singles and q pairs that the bytes are
 //   join|items|room|..     the bytes as an index, whose entries are joined by each method into eight cells, as above
 // In the last two the items change a copy of the bytes. A line that begins with # is a heading.
-ghost use mathlib.Core.Path.{_≡_};
-ghost use lib.ListN.{length};
 use check::same;
 use script::lay::change;
 use script::part::field;
@@ -40,7 +38,11 @@ fn call(line: &[u8], base: &[u8], size: usize, work: &mut [u8]) {
 }
 
 fn is_heading(line: &[u8]) -> bool {
-    if line.len() == 0 { true } else { line[0] == b'#' }
+    if line.len() == 0 {
+        true
+    } else {
+        line[0] == b'#'
+    }
 }
 
 // Runs a line, if it is no heading: how many bytes are lent from then on.

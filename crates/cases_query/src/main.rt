@@ -31,7 +31,11 @@ fn call(line: &[u8], base: &[u8], size: usize, work: &mut [u8]) {
 }
 
 fn is_heading(line: &[u8]) -> bool {
-    if line.len() == 0 { true } else { line[0] == b'#' }
+    if line.len() == 0 {
+        true
+    } else {
+        line[0] == b'#'
+    }
 }
 
 // Runs a line, if it is no heading: how many bytes the index has from then on.
