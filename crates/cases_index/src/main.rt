@@ -1,95 +1,82 @@
-// Runs a script of cases over the calls that read one index, and writes each case with its answer.
-mod answer;
-mod change;
-mod script;
+// Cases of indexes, one a line of standard input, which is written with its answer:
+//   lay|items                 the index that the lines below ask, from nothing (script::lay has the items)
+//   check|items               these four are asked of a copy of the index with the items laid over it, and answer refusal and value
+//   look|items|word           or 0 and the entry
+//   word|items|entry          and the word
+//   probe|items|entry|a|b     or 0, 0, how many intervals lie below and how many overlap
+//   build|N|room|words|counts|numbers    into the first `room` of 256 bytes; what is refused by 17, 18 or 15 is built again beside each refusal behind it
+//   bytes                     the bytes that a word may have
+//   many|N|size|counts|numbers|bad       into one byte: the first `size` bytes of 65,536 words of four letters, counts and numbers of 1, bad words
+// What stands behind these fields is a remark. A line that begins with # is a heading.
+use check::same;
+use script::lay::change;
+use script::part::field;
+use script::part::part_end;
 
-use answer::write_checked;
-use answer::write_lookup;
-use answer::write_probed;
-use answer::write_word;
-use change::change;
-use change::changed_length;
-use script::behind;
-use script::find_byte;
-use script::number;
+mod build_case;
+mod bytes_case;
+mod index_case;
+mod many_case;
+mod outcome;
+mod print;
 
-fn clear(bytes: &mut [u8]) {
-    let mut i = 0;
-    while i < bytes.len() {
-        bytes[i] = 0;
-        i += 1;
-    }
-}
-
-// Copies as much as both hold.
-fn copy(from: &[u8], to: &mut [u8]) {
-    let mut i = 0;
-    while i < to.len() {
-        if from.len() <= i {
-            return;
-        }
-        to[i] = from[i];
-        i += 1;
-    }
-}
-
-fn probe(index: &[u8], asked: &[u8]) {
-    let range = behind(asked, b' ');
-    let upper = behind(range, b' ');
-    write_probed(directory::probe::probe_entry(
-        index,
-        number(asked, 0),
-        number(range, 0),
-        number(upper, 0),
-    ));
-}
-
-// Asks the index what the line asks, by its first letter.
-fn ask(line: &[u8], kind: u8, index: &[u8]) {
-    let asked = behind(line, b':');
-    if kind == b'c' {
-        write_checked(index::check::check_index(index));
-    } else if kind == b'l' {
-        write_lookup(directory::find::look_up(index, asked));
-    } else if kind == b'p' {
-        probe(index, asked);
+fn on_index(kind: &[u8], line: &[u8], index: &[u8]) {
+    if same(kind, b"check") {
+        index_case::check(index);
+    } else if same(kind, b"look") {
+        index_case::look(line, index);
+    } else if same(kind, b"word") {
+        index_case::word(line, index);
+    } else if same(kind, b"probe") {
+        index_case::probe(line, index);
     } else {
-        let entry = number(asked, 0);
-        write_checked(directory::entry::entry_refusal(index, entry));
-        write_word(directory::entry::entry_word(index, entry));
+        io::write_all(1, b"no such case");
     }
 }
 
-// One line: a new index, whose length is answered, or a case on a copy of the index.
-fn run_line(line: &[u8], base: &mut [u8], work: &mut [u8], length: usize) -> usize {
+fn call(line: &[u8], base: &[u8], size: usize, work: &mut [u8]) {
+    let kind = field(line, 0);
+    if same(kind, b"build") {
+        build_case::build(line);
+    } else if same(kind, b"bytes") {
+        bytes_case::every_byte();
+    } else if same(kind, b"many") {
+        many_case::many(line);
+    } else {
+        let n = change(field(line, 1), base, size, work);
+        on_index(kind, line, &work[..n]);
+    }
+}
+
+fn is_heading(line: &[u8]) -> bool {
     if line.len() == 0 {
-        return length;
+        true
+    } else {
+        line[0] == b'#'
     }
-    let kind = line[0];
-    if kind == b'#' {
-        return length;
+}
+
+// Runs a line, if it is no heading: how many bytes the index has from then on.
+fn run_line(line: &[u8], base: &mut [u8], size: usize, work: &mut [u8]) -> usize {
+    if is_heading(line) {
+        return size;
     }
-    if kind == b'n' {
-        clear(base);
-        change(line, base);
-        return changed_length(line, 0, base.len());
+    if same(field(line, 0), b"lay") {
+        return change(field(line, 1), &io::buffer(), 0, base);
     }
-    copy(base, work);
-    change(line, work);
-    let size = changed_length(line, length, work.len());
-    io::write_all(1, line);
     io::write_all(1, b" -> ");
-    ask(line, kind, &work[..size]);
-    io::write_all(1, b"\n");
-    length
+    call(line, base, size, work);
+    size
 }
 
 fn run(script: &[u8], base: &mut [u8], work: &mut [u8]) {
-    let mut length: usize = 0;
+    let mut size = 0;
     let mut at = 0;
     while at < script.len() {
-        let end = find_byte(script, at, b'\n');
-        length = run_line(&script[at..end], base, work, length);
+        let end = part_end(script, at, b'\n');
+        io::write_all(1, &script[at..end]);
+        size = run_line(&script[at..end], base, size, work);
+        io::write_all(1, b"\n");
         at = end + 1;
     }
 }

@@ -1,128 +1,72 @@
-// Asks questions over indexes, both from standard input. A line `index LENGTH` is followed by that many bytes and a byte 10; every other line has
-// the number of cells lent and the question. Each is written with its answer as the asking program writes it, and `changed` where a cell
-// that is not the answer's was written: all cells hold 4294967295 before.
-ghost use mathlib.Core.Path.{_≡_};
-ghost use Prim.Native.Nat.{min};
-ghost use lib.ListN.{length};
-use list::answer::Answer;
+// Cases of questions, one a line of standard input, which is written with its answer:
+//   read|question              reading it: refusal or 0, its value or the number of words, and where each word stands
+//   lay|items                  the index that the lines below ask, from nothing (script::lay has the items)
+//   ask|items|room|question    asked of a copy of the index with the items laid over it, with the first `room` cells lent: as the asking program
+//                              writes it, and `changed` where a cell that is not the answer's was written
+// What stands behind these fields is a remark. A line that begins with # is a heading.
+use check::same;
+use script::lay::change;
+use script::part::field;
+use script::part::part_end;
 
-mod line;
+mod ask_case;
+mod read_case;
 
-use line::behind;
-use line::number;
-use lines::split::line_end;
-
-fn print_two(a: u64, b: u64) {
-    io::print_decimal(1, a);
-    io::write_all(1, b" ");
-    io::print_decimal(1, b);
-}
-
-fn print_cell(cell: u32) {
-    io::print_decimal(1, cell as u64);
-}
-
-fn print_intervals(cells: &[u32], count: usize) {
-    let mut k = 0;
-    let mut i = 0;
-    while k < count {
-        if cells.len() <= i {
-            return;
-        }
-        if cells.len() - i < 2 {
-            return;
-        }
-        io::write_all(1, b" ");
-        print_cell(cells[i]);
-        io::write_all(1, b"-");
-        print_cell(cells[i + 1]);
-        i += 2;
-        k += 1;
+fn on_index(kind: &[u8], line: &[u8], index: &[u8]) {
+    if same(kind, b"ask") {
+        ask_case::ask(line, index);
+    } else {
+        io::write_all(1, b"no such case");
     }
 }
 
-// Whether a cell from `from` on was written.
-fn is_changed(cells: &[u32], from: usize) -> bool {
-    let mut i = from;
-    while i < cells.len() {
-        if cells[i] != 4294967295 {
-            return true;
-        }
-        i += 1;
-    }
-    false
-}
-
-fn print_listed(cells: &[u32], intervals: usize, records: usize) {
-    io::write_all(1, b"0 0 ");
-    print_two(intervals as u64, records as u64);
-    print_intervals(cells, intervals);
-    if intervals <= cells.len() / 2 {
-        if is_changed(cells, 2 * intervals) {
-            io::write_all(1, b" changed");
-        }
+fn call(line: &[u8], base: &[u8], size: usize, work: &mut [u8]) {
+    let kind = field(line, 0);
+    if same(kind, b"read") {
+        read_case::read(line);
+    } else {
+        let n = change(field(line, 1), base, size, work);
+        on_index(kind, line, &work[..n]);
     }
 }
 
-fn print_answer(answer: Answer, cells: &[u32]) {
-    match answer {
-        Answer::Listed(tally) => print_listed(cells, tally.intervals, tally.records),
-        Answer::Refused(refusal) => {
-            print_two(refusal::number_of(refusal), refusal::value_of(refusal));
-            if is_changed(cells, 0) {
-                io::write_all(1, b" changed");
-            }
-        }
+fn is_heading(line: &[u8]) -> bool {
+    if line.len() == 0 {
+        true
+    } else {
+        line[0] == b'#'
     }
 }
 
-fn smaller(a: usize, b: usize) -> usize
-    ensures { λ r. ⌜ r ≡ min a b ⌝ }
-{
-    if a < b { a } else { b }
-}
-
-// Cells that hold no record number; of which a caller knows how many they are.
-fn fresh_cells() -> [u32; 2048]
-    ensures { λ r. ⌜ 2048 ≡ length r ⌝ }
-{
-    [4294967295; 2048]
-}
-
-// Lends as many of the cells as the line says.
-fn answer_in(index: &[u8], asked: &[u8], cells: &mut [u32]) {
-    let room = smaller(number(asked), cells.len());
-    io::write_all(1, asked);
+// Runs a line, if it is no heading: how many bytes the index has from then on.
+fn run_line(line: &[u8], base: &mut [u8], size: usize, work: &mut [u8]) -> usize {
+    if is_heading(line) {
+        return size;
+    }
+    if same(field(line, 0), b"lay") {
+        return change(field(line, 1), &io::large_buffer(), 0, base);
+    }
     io::write_all(1, b" -> ");
-    let answer = query::ask::ask(index, behind(asked, b' '), &mut cells[..room]);
-    print_answer(answer, cells);
-    io::write_all(1, b"\n");
+    call(line, base, size, work);
+    size
 }
 
-fn answer(index: &[u8], asked: &[u8]) {
-    let mut cells = fresh_cells();
-    answer_in(index, asked, &mut cells);
-}
-
-fn run(input: &[u8]) {
-    let mut start: usize = 0;
-    let mut end: usize = 0;
+fn run(script: &[u8], base: &mut [u8], work: &mut [u8]) {
+    let mut size = 0;
     let mut at = 0;
-    while at < input.len() {
-        let stop = line_end(input, at);
-        if input[at] == b'i' {
-            start = smaller(stop + 1, input.len());
-            end = start + smaller(number(behind(&input[at..stop], b' ')), input.len() - start);
-            at = end + 1;
-        } else {
-            answer(&input[start..end], &input[at..stop]);
-            at = stop + 1;
-        }
+    while at < script.len() {
+        let end = part_end(script, at, b'\n');
+        io::write_all(1, &script[at..end]);
+        size = run_line(&script[at..end], base, size, work);
+        io::write_all(1, b"\n");
+        at = end + 1;
     }
 }
 
 fn main() {
-    let mut input = io::large_buffer();
-    let n = io::read_full(0, &mut input);
-    run(&input[..n]);
+    let mut script = io::large_buffer();
+    let n = io::read_full(0, &mut script);
+    let mut base = io::large_buffer();
+    let mut work = io::large_buffer();
+    run(&script[..n], &mut base, &mut work);
 }

@@ -1,0 +1,21 @@
+-- Two cells at a time.
+use Prim.Native.Nat.{_-_, _≤_}
+use lib.ListN.{length}
+use borrow.Author.Needs.{needs}
+use Rattle.cases_query.proofs.ask_case.print_intervals.Statement.{statement}
+use Rattle.cases_query.proofs.ask_case.print_intervals.Tie as tie
+
+abbrev Inv-loop : tie.InvT-loop
+Inv-loop cells i₀ i = i ≤ length cells
+
+abbrev μ-loop : tie.MeasureT-loop
+μ-loop cells i₀ i = length cells - i
+
+pub print-intervals-spec : {M : Type 1} → statement M
+print-intervals-spec =
+    tie.close
+    (tie.spec
+    Inv-loop
+    μ-loop
+    (λ c. search needs) (λ c. search needs) (λ c. search needs) (λ c. search needs) (λ c. search needs) (λ c. search needs) (λ c. search needs)
+    (λ c κs. search needs) (λ c. search needs) (λ c. search needs) (λ c. search needs) (λ c. search needs))
