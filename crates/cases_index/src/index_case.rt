@@ -1,9 +1,9 @@
 // The calls that read an index.
 use crate::print::print_refusal;
 use crate::print::print_two;
-use index::Checked;
 use directory::Lookup;
 use directory::Probed;
+use index::Checked;
 use script::number::number32;
 use script::part::field;
 use script::text::read_text;
