@@ -1,14 +1,13 @@
 -- Laws of texts: one byte that is spelled at a time.
-use mathlib.Core.Path.{_≡_, refl, sym, ap, _∙_}
+use mathlib.Core.Path.{_≡_, refl, ap, _∙_}
 use mathlib.Core.Bool.{true, false}
 use mathlib.Core.Logic.{_⊎_, inl, inr}
 use mathlib.Core.List.{List, [], _∷_}
 use Prim.Native.Nat.{ℕ, suc, _+_, _*_, _-_, _≤_, _<_}
 use native.Mathlib.Omega.{arith}
-use native.Mathlib.Numerals.{add-one, add-two, add-three}
 use lib.Dec.{eqb}
 use lib.ListN.{length, getD, drop, length-drop}
-use Rattle.laws.proofs.Lists.{drop-next, drop-two, drop-none}
+use Rattle.laws.proofs.Lists.{drop-next, drop-none}
 use Rattle.script.specs.Text.{plain, nibble, textOf}
 
 -- a byte that is itself: no `\`, or no two bytes behind it

@@ -1,7 +1,6 @@
 // Numbers in decimal digits, and lists of them.
 ghost use mathlib.Core.Path.{_≡_};
 ghost use Prim.Native.Nat.{_<_, _%_, min};
-ghost use lib.ListN.{length};
 ghost use Rattle.io.specs.Counts.{Counts};
 ghost use Rattle.script.specs.Number.{noDigit, numberOf, numbersOf};
 ghost use Rattle.script.specs.Reads.{Reads};

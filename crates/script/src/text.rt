@@ -1,8 +1,7 @@
 // Texts: bytes as they stand, but for `/`, which is byte 10, and `\` before two hexadecimal digits, which are one byte.
 ghost use mathlib.Core.Path.{_≡_};
-ghost use mathlib.Core.List.{_∷_};
-ghost use Prim.Native.Nat.{_<_, _≤_};
-ghost use lib.ListN.{length, drop};
+ghost use Prim.Native.Nat.{_<_};
+ghost use lib.ListN.{length};
 ghost use Rattle.io.specs.Counts.{Counts};
 ghost use Rattle.script.specs.Text.{plain, nibble, textOf, Spells};
 ghost use Rattle.script.specs.Reads.{Reads};

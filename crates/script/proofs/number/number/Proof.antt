@@ -1,12 +1,11 @@
 -- The invariant: the number is the one that goes on from the value with what is left.
-use mathlib.Core.Path.{_≡_, refl, sym, ap, _∙_}
-use mathlib.Core.Bool.{true, false}
+use mathlib.Core.Path.{_≡_, refl, sym, _∙_}
 use Prim.Native.Nat.{_-_, _≤_, _<_}
 use native.Mathlib.Omega.{arith}
 use borrow.Author.Needs.{needs}
 use denote.Ref.{now}
 use lib.ListN.{length, drop}
-use Rattle.script.specs.Number.{numberFrom, numberOf, tacked}
+use Rattle.script.specs.Number.{numberFrom, numberOf}
 use Rattle.script.proofs.NumberLaws.{number-on, number-stop, number-end}
 use Rattle.script.proofs.number.number.Statement.{statement}
 use Rattle.script.proofs.number.number.Tie as tie
