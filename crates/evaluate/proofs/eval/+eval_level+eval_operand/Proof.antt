@@ -122,12 +122,6 @@ eval-level-loop-holds t c =
       level-start (a .codes .now) (a .d) (a .k) (a .i) (first .result .code) (first .result .slot) _ (e .reads),
     )
 
-eval-level-code-at-requires : (t : ℕ) → eval-level-lts.Need-code-at-requires (level-claims t) (eval-level-at t) eval-level.Post eval-level-Inv-loop eval-level-μ-loop
-eval-level-code-at-requires t c κs = search needs
-
-eval-level-is-operator-requires : (t : ℕ) → eval-level-lts.Need-is-operator-requires (level-claims t) (eval-level-at t) eval-level.Post eval-level-Inv-loop eval-level-μ-loop
-eval-level-is-operator-requires t c κs = search needs
-
 eval-level-same-length : (t : ℕ) → eval-level-lts.Need-same-length (level-claims t) (eval-level-at t) eval-level.Post eval-level-Inv-loop eval-level-μ-loop
 eval-level-same-length t c =
     let st = c .before .before .before .before .before .before .before .before .before .before .before .before .before .before .before .before in
@@ -253,9 +247,6 @@ eval-level-loop-again t c =
           (λ u v g h m. holds-pair (slotHas (a .index .now) (a .entries .now)) (a .k) (a .base) (opOf (code .result)) u v (l .slot) (l .ws) (right t read) _ g (omega arith) both h m),
     )
 
-eval-operand-code-at-requires : (t : ℕ) → eval-operand-lts.Need-code-at-requires (operand-claims t) (eval-operand-at t) eval-operand.Post
-eval-operand-code-at-requires t c κs = search needs
-
 eval-operand-fill-slot-requires : (t : ℕ) → eval-operand-lts.Need-fill-slot-requires (operand-claims t) (eval-operand-at t) eval-operand.Post
 eval-operand-fill-slot-requires t c κs =
     let st = c .before .before .before .before .before .before .before .before .before .before in
@@ -364,9 +355,6 @@ eval-operand-add-eval-level t c =
     let b = st .good in
     omega arith
 
-eval-operand-sub-eval-level : (t : ℕ) → eval-operand-lts.Need-sub-eval-level (operand-claims t) (eval-operand-at t) eval-operand.Post
-eval-operand-sub-eval-level t c = search needs
-
 eval-operand-eval-level-requires : (t : ℕ) → eval-operand-lts.Need-eval-level-requires (operand-claims t) (eval-operand-at t) eval-operand.Post
 eval-operand-eval-level-requires t c κs =
     let st = c .before .before .before .before .before .before .before .before .before .before .before in
@@ -386,9 +374,6 @@ eval-operand-eval-level-requires t c κs =
         near = omega arith;
       },
     )
-
-eval-operand-code-at-requires-2 : (t : ℕ) → eval-operand-lts.Need-code-at-requires-2 (operand-claims t) (eval-operand-at t) eval-operand.Post
-eval-operand-code-at-requires-2 t c κs = search needs
 
 eval-operand-same-length-3 : (t : ℕ) → eval-operand-lts.Need-same-length-3 (operand-claims t) (eval-operand-at t) eval-operand.Post
 eval-operand-same-length-3 t c = c .before .before .before .before .before .before .eval-level .ensures .hints-long
@@ -462,8 +447,8 @@ pub +eval-level+eval-operand-spec : {M : Type 1} → statement M
     eval-level-μ-loop
     (eval-level-eval-operand-requires t)
     (eval-level-loop-holds t)
-    (eval-level-code-at-requires t)
-    (eval-level-is-operator-requires t)
+    (λ c κs. search needs)
+    (λ c κs. search needs)
     (eval-level-same-length t)
     (eval-level-same-length-2 t)
     (eval-level-returns t)
@@ -488,7 +473,7 @@ pub +eval-level+eval-operand-spec : {M : Type 1} → statement M
     )
     (eval-operand-at t)
     eval-operand.Post
-    (eval-operand-code-at-requires t)
+    (λ c κs. search needs)
     (eval-operand-fill-slot-requires t)
     (eval-operand-add-t21 t)
     (eval-operand-add-t22 t)
@@ -499,9 +484,9 @@ pub +eval-level+eval-operand-spec : {M : Type 1} → statement M
     (eval-operand-returns-3 t)
     (eval-operand-returns-4 t)
     (eval-operand-add-eval-level t)
-    (eval-operand-sub-eval-level t)
+    (λ c. search needs)
     (eval-operand-eval-level-requires t)
-    (eval-operand-code-at-requires-2 t)
+    (λ c κs. search needs)
     (eval-operand-same-length-3 t)
     (eval-operand-same-length-4 t)
     (eval-operand-returns-5 t)
