@@ -25,15 +25,23 @@ use Rattle.question.specs.Readers.{GoodAt, BadAt, Is, Ahead, ReadsQuesti
 
 -- ---- where an answer lies
 
-pub ahead : (at len k n j : ℕ) {r : Read} → r ≡ At n j → Ahead at len k r → (at ≤ n) × (n ≤ len) × (k ≤ j) × (j ≤ 16)
+ahead : (at len k n j : ℕ) {r : Read} → r ≡ At n j → Ahead at len k r → (at ≤ n) × (n ≤ len) × (k ≤ j) × (j ≤ 16)
 ahead at len k n j e h = subst (Ahead at len k) e h
 
 weaken : (at b len k i : ℕ) (r : Read) → at ≤ b → k ≤ i → Ahead b len i r → Ahead at len k r
 weaken at b len k i (At n j) h h′ w = omega arith
 weaken at b len k i (Bad refusal) h h′ w = tt
 
-pub token-lies : (s : List ℕ) (at : ℕ) (t : Token) → NextToken s at t → {b : Token} → t ≡ b → Within at (length s) b
-token-lies s at t nt e = subst (Within at (length s)) e (nt .lies)
+module _ {s : List ℕ} {d k at n j : ℕ} {r : Read} where
+  pub operand-ahead : ReadsOperand s d k at r → r ≡ At n j → (at ≤ n) × (n ≤ length s) × (k ≤ j) × (j ≤ 16)
+  operand-ahead h e = ahead at (length s) k n j e (h .ahead)
+
+  pub question-ahead : ReadsQuestion s d k at r → r ≡ At n j → (at ≤ n) × (n ≤ length s) × (k ≤ j) × (j ≤ 16)
+  question-ahead h e = ahead at (length s) k n j e (h .ahead)
+
+module _ {s : List ℕ} {at : ℕ} {t b : Token} where
+  pub token-lies : NextToken s at t → t ≡ b → Within at (length s) b
+  token-lies nt e = subst (Within at (length s)) e (nt .lies)
 
 -- the tokens left start where their first token does
 place-is : (s : List ℕ) (at : ℕ) (t : Token) → Within at (length s) t → startOf t ≡ placeOf (length s) (headed s t)
@@ -66,7 +74,7 @@ bind-map s o g (Bad refusal) i = bind-bad s o (λ a z i. good (g a) z i) refusal
 
 -- ---- tokens that cannot be taken
 
-pub none-operand : (rule : Rule) (f d k : ℕ) (s : List ℕ) (t : Token) → OneOf (0 ∷ 2 ∷ 4 ∷ 5 ∷ []) (tagOf the-type t) → operand rule (suc f) d k (headed s t) ≡ bad 9 (headed s t)
+none-operand : (rule : Rule) (f d k : ℕ) (s : List ℕ) (t : Token) → OneOf (0 ∷ 2 ∷ 4 ∷ 5 ∷ []) (tagOf the-type t) → operand rule (suc f) d k (headed s t) ≡ bad 9 (headed s t)
 unfolding operand
 none-operand rule f d k s (End p) h = refl
 none-operand rule f d k s (Word p q) h = absurd (miss (0 ∷ 2 ∷ 4 ∷ 5 ∷ []) 1 tt h)
@@ -75,7 +83,7 @@ none-operand rule f d k s (Open p) h = absurd (miss (0 ∷ 2 ∷ 4 ∷ 5 ∷ [])
 none-operand rule f d k s (Close p) h = refl
 none-operand rule f d k s (Other p) h = refl
 
-pub none-links : (rule : Rule) (f d k : ℕ) (s : List ℕ) (t : Token) → OneOf (0 ∷ 1 ∷ 3 ∷ 4 ∷ 5 ∷ []) (tagOf the-type t) → links rule (suc f) d k (headed s t) ≡ good [] (headed s t) k
+none-links : (rule : Rule) (f d k : ℕ) (s : List ℕ) (t : Token) → OneOf (0 ∷ 1 ∷ 3 ∷ 4 ∷ 5 ∷ []) (tagOf the-type t) → links rule (suc f) d k (headed s t) ≡ good [] (headed s t) k
 unfolding links
 none-links rule f d k s (End p) h = refl
 none-links rule f d k s (Word p q) h = refl
@@ -84,7 +92,7 @@ none-links rule f d k s (Open p) h = refl
 none-links rule f d k s (Close p) h = refl
 none-links rule f d k s (Other p) h = refl
 
-pub none-closed : (k : ℕ) (e : Tree) (s : List ℕ) (t : Token) → OneOf (0 ∷ 1 ∷ 2 ∷ 3 ∷ 5 ∷ []) (tagOf the-type t) → closed e (headed s t) k ≡ bad 9 (headed s t)
+none-closed : (k : ℕ) (e : Tree) (s : List ℕ) (t : Token) → OneOf (0 ∷ 1 ∷ 2 ∷ 3 ∷ 5 ∷ []) (tagOf the-type t) → closed e (headed s t) k ≡ bad 9 (headed s t)
 none-closed k e s (End p) h = refl
 none-closed k e s (Word p q) h = refl
 none-closed k e s (Op o p q) h = refl
@@ -115,56 +123,54 @@ above : (P : ℕ → Type 0) (f m : ℕ) → m < f → ((g : ℕ) → m ≤ g �
 above P zero m h k = absurd (not-suc-le-zero h)
 above P (suc g) m h k = k g (omega arith)
 
-module _ (s : List ℕ) (d k at : ℕ) (t : Token) (nt : NextToken s at t) where
+module _ {s : List ℕ} {at : ℕ} {t : Token} (nt : NextToken s at t) where
   heads : {b : Token} → t ≡ b → tokensAt s at ≡ headed s b
   heads e = nt .heads ∙ ap (headed s) e
-
-  lies : {b : Token} → t ≡ b → Within at (length s) b
-  lies e = subst (Within at (length s)) e (nt .lies)
 
   refused : {A : Type 0} (o : Out A) → o ≡ bad 9 (headed s t) → BadAt s (Grammar (startOf t)) o
   unfolding refusalOf
   refused o e = record { number = 9; left = headed s t; says = e; is = ap Grammar (place-is s at t (nt .lies)) }
 
-  pub operand-word : (p q : ℕ) → t ≡ Word p q → k < 16 → ReadsOperand s d k at (At q (k + 1))
+module _ {s : List ℕ} {d k at : ℕ} {t : Token} (nt : NextToken s at t) where
+  pub operand-word : {p q : ℕ} → t ≡ Word p q → k < 16 → ReadsOperand s d k at (At q (k + 1))
   unfolding operand
-  operand-word p q e h =
-      let w = lies e in
+  operand-word {p} {q} e h =
+      let w = token-lies nt e in
       record {
         ahead = omega arith;
         reads =
             λ rule f lt. above (λ f. GoodAt s q (k + 1) (operand rule f d k (tokensAt s at))) f (2 * (length s - at)) lt
-            (λ g le. record { got = word (cut s p q); says = rw (heads e, lt-ltb k 16 h) });
+            (λ g le. record { got = word (cut s p q); says = rw (heads nt e, lt-ltb k 16 h) });
       }
 
-  pub operand-many : (p q : ℕ) → t ≡ Word p q → 16 ≤ k → ReadsOperand s d k at (Bad (WordLimit p))
+  pub operand-many : {p q : ℕ} → t ≡ Word p q → 16 ≤ k → ReadsOperand s d k at (Bad (WordLimit p))
   unfolding operand refusalOf
-  operand-many p q e h =
+  operand-many {p} {q} e h =
       record {
         ahead = tt;
         reads =
             λ rule f lt. above (λ f. BadAt s (WordLimit p) (operand rule f d k (tokensAt s at))) f (2 * (length s - at)) lt
-            (λ g le. record { number = 10; left = headed s (Word p q); says = rw (heads e, le-ltb k 16 h); is = refl });
+            (λ g le. record { number = 10; left = headed s (Word p q); says = rw (heads nt e, le-ltb k 16 h); is = refl });
       }
 
-  pub operand-deep : (p : ℕ) → t ≡ Open p → d ≡ 0 → ReadsOperand s d k at (Bad (BracketLimit p))
+  pub operand-deep : {p : ℕ} → t ≡ Open p → d ≡ 0 → ReadsOperand s d k at (Bad (BracketLimit p))
   unfolding operand refusalOf
-  operand-deep p e h =
+  operand-deep {p} e h =
       record {
         ahead = tt;
         reads =
             λ rule f lt. above (λ f. BadAt s (BracketLimit p) (operand rule f d k (tokensAt s at))) f (2 * (length s - at)) lt
-            (λ g le. record { number = 11; left = headed s (Open p); says = rw (heads e, eq-eqb d 0 h); is = refl });
+            (λ g le. record { number = 11; left = headed s (Open p); says = rw (heads nt e, eq-eqb d 0 h); is = refl });
       }
 
-  pub operand-none : OneOf (0 ∷ 2 ∷ 4 ∷ 5 ∷ []) (tagOf the-type t) → (v : ℕ) → v ≡ startOf t → ReadsOperand s d k at (Bad (Grammar v))
-  operand-none o v e =
+  pub operand-none : OneOf (0 ∷ 2 ∷ 4 ∷ 5 ∷ []) (tagOf the-type t) → {v : ℕ} → v ≡ startOf t → ReadsOperand s d k at (Bad (Grammar v))
+  operand-none o {v} e =
       rw e
       record {
         ahead = tt;
         reads =
             λ rule f lt. above (λ f. BadAt s (Grammar (startOf t)) (operand rule f d k (tokensAt s at))) f (2 * (length s - at)) lt
-            (λ g le. refused _ (rw (heads refl) (none-operand rule g d k s t o)));
+            (λ g le. refused nt _ (rw (heads nt refl) (none-operand rule g d k s t o)));
       }
 
   pub links-none : at ≤ length s → k ≤ 16 → OneOf (0 ∷ 1 ∷ 3 ∷ 4 ∷ 5 ∷ []) (tagOf the-type t) → ReadsLinks s d k at (At at k)
@@ -173,28 +179,28 @@ module _ (s : List ℕ) (d k at : ℕ) (t : Token) (nt : NextToken s at t) where
         ahead = omega arith;
         reads =
             λ rule f lt. above (λ f. GoodAt s at k (links rule f d k (tokensAt s at))) f (2 * (length s - at)) lt
-            (λ g le. record { got = []; says = rw (heads refl) (none-links rule g d k s t o) });
+            (λ g le. record { got = []; says = rw (heads nt refl) (none-links rule g d k s t o) });
       }
 
   -- a part in brackets: p is what its reader answered
-  module _ (place : ℕ) (is : t ≡ Open place) (some : d ≡ 0 → ⊥) (p : Read) (hp : ReadsQuestion s (d - 1) k (place + 1) p) where
+  module _ {place : ℕ} (is : t ≡ Open place) (some : d ≡ 0 → ⊥) {p : Read} (hp : ReadsQuestion s (d - 1) k (place + 1) p) where
     part-read : (r : Read) → ((rule : Rule) (g : ℕ) → 2 * (length s - at) ≤ g → Is s r (bind (question rule g (d - 1) k (tokensAt s (place + 1))) closed)) →
         (rule : Rule) (f : ℕ) → 2 * (length s - at) < f → Is s r (operand rule f d k (tokensAt s at))
     unfolding operand
     part-read r y rule f lt =
         above (λ f. Is s r (operand rule f d k (tokensAt s at))) f (2 * (length s - at)) lt
-        (λ g le. rw (heads is, ne-eqb d 0 some) (y rule g le))
+        (λ g le. rw (heads nt is, ne-eqb d 0 some) (y rule g le))
 
     inner : (rule : Rule) (g : ℕ) → 2 * (length s - at) ≤ g → Is s p (question rule g (d - 1) k (tokensAt s (place + 1)))
-    inner rule g le = let w = lies is in hp .reads rule g (omega arith)
+    inner rule g le = let w = token-lies nt is in hp .reads rule g (omega arith)
 
-    pub operand-bad : (refusal : Refusal) → p ≡ Bad refusal → ReadsOperand s d k at (Bad refusal)
-    operand-bad refusal e = record { ahead = tt; reads = part-read (Bad refusal) (λ rule g le. bind-off s _ closed refusal p e (inner rule g le)) }
+    pub operand-bad : {refusal : Refusal} → p ≡ Bad refusal → ReadsOperand s d k at (Bad refusal)
+    operand-bad {refusal} e = record { ahead = tt; reads = part-read (Bad refusal) (λ rule g le. bind-off s _ closed refusal p e (inner rule g le)) }
 
-    module _ (n j : ℕ) (e : p ≡ At n j) (c : Token) (nc : NextToken s n c) where
-      pub operand-part : (q : ℕ) → c ≡ Close q → ReadsOperand s d k at (At (q + 1) j)
-      operand-part q ec =
-          let w = lies is in
+    module _ {n j : ℕ} (e : p ≡ At n j) {c : Token} (nc : NextToken s n c) where
+      pub operand-part : {q : ℕ} → c ≡ Close q → ReadsOperand s d k at (At (q + 1) j)
+      operand-part {q} ec =
+          let w = token-lies nt is in
           let a = ahead (place + 1) (length s) k n j e (hp .ahead) in
           let v : Within n (length s) (Close q) = subst (Within n (length s)) ec (nc .lies) in
           record {
@@ -204,9 +210,9 @@ module _ (s : List ℕ) (d k at : ℕ) (t : Token) (nt : NextToken s at t) where
                 (λ x. record { got = part x; says = rw (nc .heads ∙ ap (headed s) ec) }));
           }
 
-      pub operand-unclosed : OneOf (0 ∷ 1 ∷ 2 ∷ 3 ∷ 5 ∷ []) (tagOf the-type c) → (v : ℕ) → v ≡ startOf c → ReadsOperand s d k at (Bad (Grammar v))
+      pub operand-unclosed : OneOf (0 ∷ 1 ∷ 2 ∷ 3 ∷ 5 ∷ []) (tagOf the-type c) → {v : ℕ} → v ≡ startOf c → ReadsOperand s d k at (Bad (Grammar v))
       unfolding refusalOf
-      operand-unclosed o v ev =
+      operand-unclosed o {v} ev =
           rw ev
           record {
             ahead = tt;
@@ -216,24 +222,24 @@ module _ (s : List ℕ) (d k at : ℕ) (t : Token) (nt : NextToken s at t) where
           }
 
   -- an operator: p is what the operand's reader answered behind it
-  module _ (o : op.Op) (place end : ℕ) (is : t ≡ Op o place end) (p : Read) (hp : ReadsOperand s d k end p) where
+  module _ {o : op.Op} {place end : ℕ} (is : t ≡ Op o place end) {p : Read} (hp : ReadsOperand s d k end p) where
     link-read : (r : Read) →
         ((rule : Rule) (g : ℕ) → 2 * (length s - at) ≤ g → Is s r (bind (operand rule g d k (tokensAt s end)) (λ x z j. bind (links rule g d j z) (λ ls y i. good (link o x ∷ ls) y i)))) →
         (rule : Rule) (f : ℕ) → 2 * (length s - at) < f → Is s r (links rule f d k (tokensAt s at))
     unfolding links
     link-read r y rule f lt =
         above (λ f. Is s r (links rule f d k (tokensAt s at))) f (2 * (length s - at)) lt
-        (λ g le. rw (heads is) (y rule g le))
+        (λ g le. rw (heads nt is) (y rule g le))
 
     linked : (rule : Rule) (g : ℕ) → 2 * (length s - at) ≤ g → Is s p (operand rule g d k (tokensAt s end))
-    linked rule g le = let w = lies is in hp .reads rule g (omega arith)
+    linked rule g le = let w = token-lies nt is in hp .reads rule g (omega arith)
 
-    pub links-bad : (refusal : Refusal) → p ≡ Bad refusal → ReadsLinks s d k at (Bad refusal)
-    links-bad refusal e = record { ahead = tt; reads = link-read (Bad refusal) (λ rule g le. bind-off s _ _ refusal p e (linked rule g le)) }
+    pub links-bad : {refusal : Refusal} → p ≡ Bad refusal → ReadsLinks s d k at (Bad refusal)
+    links-bad {refusal} e = record { ahead = tt; reads = link-read (Bad refusal) (λ rule g le. bind-off s _ _ refusal p e (linked rule g le)) }
 
-    pub links-on : (n j : ℕ) → p ≡ At n j → (r : Read) → ReadsLinks s d j n r → ReadsLinks s d k at r
-    links-on n j e r hr =
-        let w = lies is in
+    pub links-on : {n j : ℕ} → p ≡ At n j → {r : Read} → ReadsLinks s d j n r → ReadsLinks s d k at r
+    links-on {n} {j} e {r} hr =
+        let w = token-lies nt is in
         let a = ahead end (length s) k n j e (hp .ahead) in
         record {
           ahead = weaken at n (length s) k j r (omega arith) (omega arith) (hr .ahead);
@@ -244,18 +250,18 @@ module _ (s : List ℕ) (d k at : ℕ) (t : Token) (nt : NextToken s at t) where
 
 -- ---- a question: p is what its first operand's reader answered
 
-module _ (s : List ℕ) (d k at : ℕ) (p : Read) (hp : ReadsOperand s d k at p) where
+module _ {s : List ℕ} {d k at : ℕ} {p : Read} (hp : ReadsOperand s d k at p) where
   level-read : (r : Read) →
       ((rule : Rule) (g : ℕ) → 2 * (length s - at) + 1 ≤ g → Is s r (bind (operand rule g d k (tokensAt s at)) (λ x z j. bind (links rule g d j z) (λ ls y i. good (rule x ls) y i)))) →
       (rule : Rule) (f : ℕ) → 2 * (length s - at) + 1 < f → Is s r (question rule f d k (tokensAt s at))
   unfolding question
   level-read r y rule f lt = above (λ f. Is s r (question rule f d k (tokensAt s at))) f (2 * (length s - at) + 1) lt (λ g le. y rule g le)
 
-  pub question-bad : (refusal : Refusal) → p ≡ Bad refusal → ReadsQuestion s d k at (Bad refusal)
-  question-bad refusal e = record { ahead = tt; reads = level-read (Bad refusal) (λ rule g le. bind-off s _ _ refusal p e (hp .reads rule g (omega arith))) }
+  pub question-bad : {refusal : Refusal} → p ≡ Bad refusal → ReadsQuestion s d k at (Bad refusal)
+  question-bad {refusal} e = record { ahead = tt; reads = level-read (Bad refusal) (λ rule g le. bind-off s _ _ refusal p e (hp .reads rule g (omega arith))) }
 
-  pub question-on : (n j : ℕ) → p ≡ At n j → (r : Read) → ReadsLinks s d j n r → ReadsQuestion s d k at r
-  question-on n j e r hr =
+  pub question-on : {n j : ℕ} → p ≡ At n j → {r : Read} → ReadsLinks s d j n r → ReadsQuestion s d k at r
+  question-on {n} {j} e {r} hr =
       let a = ahead at (length s) k n j e (hp .ahead) in
       record {
         ahead = weaken at n (length s) k j r (omega arith) (omega arith) (hr .ahead);
@@ -269,16 +275,16 @@ module _ (s : List ℕ) (d k at : ℕ) (p : Read) (hp : ReadsOperand s d k at p)
 answer-bad : (s : List ℕ) (refusal : Refusal) (o : Out Tree) → BadAt s refusal o → Refused refusal ≡ answer (outcome (length s) o)
 answer-bad s refusal o b = ap Refused (b .is) ∙ sym (ap (λ (y : Out Tree). answer (outcome (length s) y)) (b .says))
 
-module _ (s : List ℕ) (p : Read) (hp : ReadsQuestion s 8 0 0 p) where
+module _ {s : List ℕ} {p : Read} (hp : ReadsQuestion s 8 0 0 p) where
   level : (rule : Rule) → Is s p (question rule (2 * length s + 2) 8 0 (tokens s))
   unfolding tokens
   level rule = hp .reads rule (2 * length s + 2) (omega arith)
 
-  pub whole-bad : (refusal : Refusal) → p ≡ Bad refusal → ReadsWhole s (Refused refusal)
+  pub whole-bad : {refusal : Refusal} → p ≡ Bad refusal → ReadsWhole s (Refused refusal)
   unfolding whole
-  whole-bad refusal e rule = answer-bad s refusal _ (bind-off s (question rule (2 * length s + 2) 8 0 (tokens s)) ended refusal p e (level rule))
+  whole-bad {refusal} e rule = answer-bad s refusal _ (bind-off s (question rule (2 * length s + 2) 8 0 (tokens s)) ended refusal p e (level rule))
 
-  module _ (n j : ℕ) (e : p ≡ At n j) (c : Token) (nc : NextToken s n c) where
+  module _ {n j : ℕ} (e : p ≡ At n j) {c : Token} (nc : NextToken s n c) where
     got : (rule : Rule) → GoodAt s n j (question rule (2 * length s + 2) 8 0 (tokens s))
     got rule = subst (λ (y : Read). Is s y (question rule (2 * length s + 2) 8 0 (tokens s))) e (level rule)
 
@@ -286,7 +292,7 @@ module _ (s : List ℕ) (p : Read) (hp : ReadsQuestion s 8 0 0 p) where
     unfolding whole
     whole-ended o rule = rw (got rule .says, nc .heads, some-ended j (got rule .got) s c o)
 
-    pub whole-more : OneOf (1 ∷ 2 ∷ 3 ∷ 4 ∷ 5 ∷ []) (tagOf the-type c) → (v : ℕ) → v ≡ startOf c → ReadsWhole s (Refused (Grammar v))
+    pub whole-more : OneOf (1 ∷ 2 ∷ 3 ∷ 4 ∷ 5 ∷ []) (tagOf the-type c) → {v : ℕ} → v ≡ startOf c → ReadsWhole s (Refused (Grammar v))
     unfolding whole refusalOf
-    whole-more o v ev rule =
+    whole-more o {v} ev rule =
         rw (got rule .says, nc .heads, none-ended j (got rule .got) s c o) (ap (λ (i : ℕ). Refused (Grammar i)) (ev ∙ place-is s n c (nc .lies)))

@@ -84,71 +84,38 @@ operator-here t c =
     let is = operator-code (code .result) (sym (c .before .is-operator .ensures) ∙ not-false (c .before .is-operator .result) (c .if1 .left)) in
     (is, code-within (c .before .before .before .before .before .before .before .args .codes .now) (c .before .before .before .loop .at) (let r = op-range (opOf (code .result)) in let w = code .ensures in omega arith))
 
-look-level-look-operand-requires : (t : ℕ) → look-level-lts.Need-look-operand-requires (level-claims t) (look-level-at t) look-level.Post look-level-Inv-loop look-level-μ-loop
-look-level-look-operand-requires t c κs = search needs
-
 look-level-loop-holds : (t : ℕ) → look-level-lts.Need-loop-holds (level-claims t) (look-level-at t) look-level.Post look-level-Inv-loop look-level-μ-loop
 look-level-loop-holds t c =
-    let start = c .before .before .before in
-    let codes = start .args .codes .now in
-    let senses = start .args .senses .now in
-    let i = start .args .i in
-    let k = start .args .k in
-    let d = start .args .d in
+    let a = c .before .before .before .args in
     let first = c .look-operand in
     let r = first .result in
-    (first .ensures .ahead, first .ensures .inside, level-start codes d k i (r .code) (r .slot) (Tells senses k (r .inside) (r .until)) (first .ensures .reads))
-
-look-level-code-at-requires : (t : ℕ) → look-level-lts.Need-code-at-requires (level-claims t) (look-level-at t) look-level.Post look-level-Inv-loop look-level-μ-loop
-look-level-code-at-requires t c κs = search needs
-
-look-level-is-operator-requires : (t : ℕ) → look-level-lts.Need-is-operator-requires (level-claims t) (look-level-at t) look-level.Post look-level-Inv-loop look-level-μ-loop
-look-level-is-operator-requires t c κs = search needs
+    (first .ensures .ahead, first .ensures .inside, level-start (a .codes .now) (a .d) (a .k) (a .i) (r .code) (r .slot) _ (first .ensures .reads))
 
 look-level-returns : (t : ℕ) → look-level-lts.Need-returns (level-claims t) (look-level-at t) look-level.Post look-level-Inv-loop look-level-μ-loop
 look-level-returns t c =
-    let start = c .before .before .before .before .before .before .before in
-    let codes = start .args .codes .now in
-    let senses = start .args .senses .now in
-    let i = start .args .i in
-    let k = start .args .k in
-    let d = start .args .d in
+    let a = c .before .before .before .before .before .before .before .args in
     let at = c .before .before .before .loop in
     let none = operator-none (c .before .before .code-at .result) (sym (c .before .is-operator .ensures) ∙ not-true (c .before .is-operator .result) (c .if1 .taken)) in
     record {
       ahead = at .inv .0;
       inside = at .inv .1;
-      reads = level-end codes d k i (at .at) (at .slot) (Tells senses k (at .inside) (at .until)) (at .inv .2) (λ o e. none o (c .before .before .code-at .ensures ∙ e));
+      reads = level-end (a .codes .now) (a .d) (a .k) (a .i) (at .at) (at .slot) _ (at .inv .2) (λ o e. none o (c .before .before .code-at .ensures ∙ e));
     }
 
 look-level-add-look-operand : (t : ℕ) → look-level-lts.Need-add-look-operand (level-claims t) (look-level-at t) look-level.Post look-level-Inv-loop look-level-μ-loop
-look-level-add-look-operand t c =
-    let operator = operator-here t c in
-    omega (arith, operator .1)
+look-level-add-look-operand t c = omega (arith, operator-here t c .1)
 
 look-level-look-operand-requires-2 : (t : ℕ) → look-level-lts.Need-look-operand-requires-2 (level-claims t) (look-level-at t) look-level.Post look-level-Inv-loop look-level-μ-loop
-look-level-look-operand-requires-2 t c κs =
-    let start = c .before .before .before .before .before .before .before in
-    let operator = operator-here t c in
-    (omega arith, (omega (arith, operator .1), start .pre .1 .1))
-
-look-level-pair-senses-requires : (t : ℕ) → look-level-lts.Need-pair-senses-requires (level-claims t) (look-level-at t) look-level.Post look-level-Inv-loop look-level-μ-loop
-look-level-pair-senses-requires t c κs = search needs
+look-level-look-operand-requires-2 t c κs = (omega arith, (omega (arith, operator-here t c .1), c .before .before .before .before .before .before .before .pre .1 .1))
 
 look-level-loop-less : (t : ℕ) → look-level-lts.Need-loop-less (level-claims t) (look-level-at t) look-level.Post look-level-Inv-loop look-level-μ-loop
 look-level-loop-less t c =
-    let operator = operator-here t (c .before .before) in
     let next = c .before .look-operand2 .ensures in
-    omega (arith, operator .1, next .ahead, next .inside)
+    omega (arith, operator-here t (c .before .before) .1, next .ahead, next .inside)
 
 look-level-loop-again : (t : ℕ) → look-level-lts.Need-loop-again (level-claims t) (look-level-at t) look-level.Post look-level-Inv-loop look-level-μ-loop
 look-level-loop-again t c =
-    let start = c .before .before .before .before .before .before .before .before .before in
-    let codes = start .args .codes .now in
-    let senses = start .args .senses .now in
-    let i = start .args .i in
-    let k = start .args .k in
-    let d = start .args .d in
+    let a = c .before .before .before .before .before .before .before .before .before .args in
     let at = c .before .before .before .before .before .loop in
     let operator = operator-here t (c .before .before) in
     let code = c .before .before .before .before .code-at in
@@ -158,185 +125,128 @@ look-level-loop-again t c =
     let r = c .pair-senses .result in (
       omega (arith, next .ensures .ahead),
       next .ensures .inside,
-      level-step codes d k i (at .at) (at .slot) (n .code) (n .slot)
-          (Tells senses k (at .inside) (at .until))
-          (Tells senses (at .slot) (n .inside) (n .until))
-          (Tells senses k (r .inside) (r .until))
-          o (sym (code .ensures) ∙ operator .0) (at .inv .2) (next .ensures .reads)
-          (λ a b h s u. tells-pair senses k (r .inside) (r .until) o a b (at .slot) h (at .inside) (n .inside) (at .until) (n .until) (c .pair-senses .ensures o (operator .0)) s u),
+      level-step (a .codes .now) (a .d) (a .k) (a .i) (at .at) (at .slot) (n .code) (n .slot) _ _ _ o (sym (code .ensures) ∙ operator .0) (at .inv .2) (next .ensures .reads)
+          (λ x y h s u. tells-pair (a .senses .now) (a .k) (r .inside) (r .until) o x y (at .slot) h (at .inside) (n .inside) (at .until) (n .until) (c .pair-senses .ensures o (operator .0)) s u),
     )
 
-look-operand-code-at-requires : (t : ℕ) → look-operand-lts.Need-code-at-requires (operand-claims t) (look-operand-at t) look-operand.Post
-look-operand-code-at-requires t c κs = search needs
+-- ---- an operand
+
+-- where it is no part, a word stands there
+abbrev AtWord : ℕ → Type 0
+AtWord t = look-operand-lts.Else1 (operand-claims t) (look-operand-at t) look-operand.Post
+
+word-here : (t : ℕ) (c : AtWord t) → let a = c .before .before .before .before .args in (getD (a .codes .now) (a .i) 6 ≡ 0) × (a .i < length (a .codes .now))
+word-here t c =
+    let a = c .before .before .before .before .args in
+    let here : getD (a .codes .now) (a .i) 6 ≡ 0 = sym (c .before .code-at .ensures) ∙ c .if1 .left in
+    (here, code-within (a .codes .now) (a .i) (omega arith))
 
 look-operand-look-part-requires : (t : ℕ) → look-operand-lts.Need-look-part-requires (operand-claims t) (look-operand-at t) look-operand.Post
 look-operand-look-part-requires t c κs =
     let start = c .before .before .before .before in
     (omega arith, (start .pre .1 .0, start .pre .1 .1, λ e. c .if1 .taken (c .before .code-at .ensures ∙ e)))
 
-look-operand-returns : (t : ℕ) → look-operand-lts.Need-returns (operand-claims t) (look-operand-at t) look-operand.Post
-look-operand-returns t c = c .look-part .ensures
-
-look-operand-unread-requires : (t : ℕ) → look-operand-lts.Need-unread-requires (operand-claims t) (look-operand-at t) look-operand.Post
-look-operand-unread-requires t c κs = search needs
-
 look-operand-returns-2 : (t : ℕ) → look-operand-lts.Need-returns-2 (operand-claims t) (look-operand-at t) look-operand.Post
 look-operand-returns-2 t c =
     let start = c .before .before .before .before .before .before in
-    let codes = start .args .codes .now in
-    let senses = start .args .senses .now in
-    let i = start .args .i in
-    let k = start .args .k in
-    let d = start .args .d in
-    let here : getD codes i 6 ≡ 0 = sym (c .before .before .before .code-at .ensures) ∙ c .before .before .if1 .left in
-    let r = c .unread .result in
+    let a = start .args in
+    let r = c .unread in
     record {
-      ahead = omega (arith, c .unread .ensures);
-      inside = omega (arith, start .pre .1 .0, c .unread .ensures);
-      reads = λ f. operand-many codes f d k i here (r .code) (r .slot) (Tells senses k (r .inside) (r .until)) (c .before .if2 .taken);
+      ahead = omega (arith, r .ensures);
+      inside = omega (arith, start .pre .1 .0, r .ensures);
+      reads = λ f. operand-many (a .codes .now) f (a .d) (a .k) (a .i) (word-here t (c .before .before) .0) (r .result .code) (r .result .slot) _ (c .before .if2 .taken);
     }
 
-look-operand-sense-of-requires : (t : ℕ) → look-operand-lts.Need-sense-of-requires (operand-claims t) (look-operand-at t) look-operand.Post
-look-operand-sense-of-requires t c κs = search needs
-
 look-operand-add-t9 : (t : ℕ) → look-operand-lts.Need-add-t9 (operand-claims t) (look-operand-at t) look-operand.Post
-look-operand-add-t9 t c =
-    let start = c .before .before .before .before .before .before in
-    let codes = start .args .codes .now in
-    let i = start .args .i in
-    let here : getD codes i 6 ≡ 0 = sym (c .before .before .before .code-at .ensures) ∙ c .before .before .if1 .left in
-    let within = code-within codes i (omega arith) in
-    omega arith
-
-look-operand-add-t10 : (t : ℕ) → look-operand-lts.Need-add-t10 (operand-claims t) (look-operand-at t) look-operand.Post
-look-operand-add-t10 t c = search needs
+look-operand-add-t9 t c = omega (arith, word-here t (c .before .before) .1)
 
 look-operand-returns-3 : (t : ℕ) → look-operand-lts.Need-returns-3 (operand-claims t) (look-operand-at t) look-operand.Post
 look-operand-returns-3 t c =
-    let start = c .before .before .before .before .before .before in
-    let codes = start .args .codes .now in
-    let senses = start .args .senses .now in
-    let i = start .args .i in
-    let k = start .args .k in
-    let d = start .args .d in
-    let here : getD codes i 6 ≡ 0 = sym (c .before .before .before .code-at .ensures) ∙ c .before .before .if1 .left in
-    let within = code-within codes i (omega arith) in
-    let r = c .sense-of .result in
+    let a = c .before .before .before .before .before .before .args in
+    let here = word-here t (c .before .before) in
+    let r = c .sense-of in
     record {
       ahead = omega arith;
-      inside = omega arith;
-      reads = λ f. operand-word codes f d k i here (Tells senses k (r .inside) (r .until)) (tells-word senses k (r .inside) (r .until) (c .sense-of .ensures .0) (c .sense-of .ensures .1));
+      inside = omega (arith, here .1);
+      reads = λ f. operand-word (a .codes .now) f (a .d) (a .k) (a .i) (here .0) _ (tells-word (a .senses .now) (a .k) (r .result .inside) (r .result .until) (r .ensures .0) (r .ensures .1));
     }
 
-look-part-code-at-requires : (t : ℕ) → look-part-lts.Need-code-at-requires (part-claims t) (look-part-at t) look-part.Post
-look-part-code-at-requires t c κs = search needs
+-- ---- a part
 
-look-part-unread-requires : (t : ℕ) → look-part-lts.Need-unread-requires (part-claims t) (look-part-at t) look-part.Post
-look-part-unread-requires t c κs = search needs
+-- where one can stand, its bracket opens there
+abbrev AtOpen : ℕ → Type 0
+AtOpen t = look-part-lts.Else1 (part-claims t) (look-part-at t) look-part.Post
+
+open-here : (t : ℕ) (c : AtOpen t) → let a = c .before .before .before .before .args in (getD (a .codes .now) (a .i) 6 ≡ 4) × (a .i < length (a .codes .now))
+open-here t c =
+    let a = c .before .before .before .before .args in
+    let here : getD (a .codes .now) (a .i) 6 ≡ 4 = sym (c .before .code-at .ensures) ∙ c .if1 .left in
+    (here, code-within (a .codes .now) (a .i) (omega arith))
+
+-- where it ends, its bracket closes there
+abbrev AtClose : ℕ → Type 0
+AtClose t = look-part-lts.Else3 (part-claims t) (look-part-at t) look-part.Post
+
+close-here : (t : ℕ) (c : AtClose t) → let codes = c .before .before .before .before .before .before .before .before .args .codes .now in let i = c .before .before .look-level .result .code in (getD codes i 6 ≡ 5) × (i < length codes)
+close-here t c =
+    let codes = c .before .before .before .before .before .before .before .before .args .codes .now in
+    let i = c .before .before .look-level .result .code in
+    let there : getD codes i 6 ≡ 5 = sym (c .before .code-at2 .ensures) ∙ c .if3 .left in
+    (there, code-within codes i (omega arith))
 
 look-part-returns : (t : ℕ) → look-part-lts.Need-returns (part-claims t) (look-part-at t) look-part.Post
 look-part-returns t c =
     let start = c .before .before .before .before .before in
-    let codes = start .args .codes .now in
-    let senses = start .args .senses .now in
-    let i = start .args .i in
-    let k = start .args .k in
-    let d = start .args .d in
-    let r = c .unread .result in
+    let a = start .args in
+    let r = c .unread in
     record {
-      ahead = omega (arith, c .unread .ensures);
-      inside = omega (arith, start .pre .1 .0, c .unread .ensures);
-      reads = λ f. operand-none codes f d k i (r .code) (r .slot) (Tells senses k (r .inside) (r .until)) (start .pre .1 .2) (λ e. c .before .if1 .taken (c .before .before .code-at .ensures ∙ e));
+      ahead = omega (arith, r .ensures);
+      inside = omega (arith, start .pre .1 .0, r .ensures);
+      reads = λ f. operand-none (a .codes .now) f (a .d) (a .k) (a .i) (r .result .code) (r .result .slot) _ (start .pre .1 .2) (λ e. c .before .if1 .taken (c .before .before .code-at .ensures ∙ e));
     }
-
-look-part-unread-requires-2 : (t : ℕ) → look-part-lts.Need-unread-requires-2 (part-claims t) (look-part-at t) look-part.Post
-look-part-unread-requires-2 t c κs = search needs
 
 look-part-returns-2 : (t : ℕ) → look-part-lts.Need-returns-2 (part-claims t) (look-part-at t) look-part.Post
 look-part-returns-2 t c =
     let start = c .before .before .before .before .before .before in
-    let codes = start .args .codes .now in
-    let senses = start .args .senses .now in
-    let i = start .args .i in
-    let k = start .args .k in
-    let d = start .args .d in
-    let here : getD codes i 6 ≡ 4 = sym (c .before .before .before .code-at .ensures) ∙ c .before .before .if1 .left in
-    let r = c .unread2 .result in
+    let a = start .args in
+    let r = c .unread2 in
     record {
-      ahead = omega (arith, c .unread2 .ensures);
-      inside = omega (arith, start .pre .1 .0, c .unread2 .ensures);
-      reads = λ f. operand-deep codes f d k i here (r .code) (r .slot) (Tells senses k (r .inside) (r .until)) (c .before .if2 .taken);
+      ahead = omega (arith, r .ensures);
+      inside = omega (arith, start .pre .1 .0, r .ensures);
+      reads = λ f. operand-deep (a .codes .now) f (a .d) (a .k) (a .i) (open-here t (c .before .before) .0) (r .result .code) (r .result .slot) _ (c .before .if2 .taken);
     }
 
 look-part-add-look-level : (t : ℕ) → look-part-lts.Need-add-look-level (part-claims t) (look-part-at t) look-part.Post
-look-part-add-look-level t c =
-    let start = c .before .before .before .before .before in
-    let codes = start .args .codes .now in
-    let i = start .args .i in
-    let here : getD codes i 6 ≡ 4 = sym (c .before .before .code-at .ensures) ∙ c .before .if1 .left in
-    let within = code-within codes i (omega arith) in
-    omega arith
-
-look-part-sub-look-level : (t : ℕ) → look-part-lts.Need-sub-look-level (part-claims t) (look-part-at t) look-part.Post
-look-part-sub-look-level t c = search needs
+look-part-add-look-level t c = omega (arith, open-here t (c .before) .1)
 
 look-part-look-level-requires : (t : ℕ) → look-part-lts.Need-look-level-requires (part-claims t) (look-part-at t) look-part.Post
-look-part-look-level-requires t c κs =
-    let start = c .before .before .before .before .before in
-    let codes = start .args .codes .now in
-    let i = start .args .i in
-    let here : getD codes i 6 ≡ 4 = sym (c .before .before .code-at .ensures) ∙ c .before .if1 .left in
-    let within = code-within codes i (omega arith) in
-    (omega arith, (omega arith, start .pre .1 .1))
-
-look-part-code-at-requires-2 : (t : ℕ) → look-part-lts.Need-code-at-requires-2 (part-claims t) (look-part-at t) look-part.Post
-look-part-code-at-requires-2 t c κs = search needs
-
-look-part-unread-requires-3 : (t : ℕ) → look-part-lts.Need-unread-requires-3 (part-claims t) (look-part-at t) look-part.Post
-look-part-unread-requires-3 t c κs = search needs
+look-part-look-level-requires t c κs = (omega arith, (omega (arith, open-here t (c .before) .1), c .before .before .before .before .before .pre .1 .1))
 
 look-part-returns-3 : (t : ℕ) → look-part-lts.Need-returns-3 (part-claims t) (look-part-at t) look-part.Post
 look-part-returns-3 t c =
-    let start = c .before .before .before .before .before .before .before .before .before in
-    let codes = start .args .codes .now in
-    let senses = start .args .senses .now in
-    let i = start .args .i in
-    let k = start .args .k in
-    let d = start .args .d in
-    let here : getD codes i 6 ≡ 4 = sym (c .before .before .before .before .before .before .code-at .ensures) ∙ c .before .before .before .before .before .if1 .left in
+    let a = c .before .before .before .before .before .before .before .before .before .args in
     let inner = c .before .before .before .look-level in
     let p = inner .result in
-    let r = c .unread3 .result in
+    let r = c .unread3 in
     record {
-      ahead = omega (arith, inner .ensures .ahead, c .unread3 .ensures);
-      inside = omega (arith, inner .ensures .inside, c .unread3 .ensures);
-      reads = λ f. operand-unclosed codes f d k i here (p .code) (p .slot) (Tells senses k (p .inside) (p .until)) (inner .ensures .reads) (r .code) (r .slot) (Tells senses k (r .inside) (r .until)) (λ e. c .before .if3 .taken (c .before .before .code-at2 .ensures ∙ e));
+      ahead = omega (arith, inner .ensures .ahead, r .ensures);
+      inside = omega (arith, inner .ensures .inside, r .ensures);
+      reads = λ f. operand-unclosed (a .codes .now) f (a .d) (a .k) (a .i) (open-here t (c .before .before .before .before .before) .0) (p .code) (p .slot) _ (inner .ensures .reads) (r .result .code) (r .result .slot) _ (λ e. c .before .if3 .taken (c .before .before .code-at2 .ensures ∙ e));
     }
 
 look-part-add-t11 : (t : ℕ) → look-part-lts.Need-add-t11 (part-claims t) (look-part-at t) look-part.Post
-look-part-add-t11 t c =
-    let start = c .before .before .before .before .before .before .before .before in
-    let codes = start .args .codes .now in
-    let close = code-within codes (c .before .before .look-level .result .code) (omega (arith, c .before .code-at2 .ensures, c .if3 .left)) in
-    omega arith
+look-part-add-t11 t c = omega (arith, close-here t c .1)
 
 look-part-returns-4 : (t : ℕ) → look-part-lts.Need-returns-4 (part-claims t) (look-part-at t) look-part.Post
 look-part-returns-4 t c =
-    let start = c .before .before .before .before .before .before .before .before in
-    let codes = start .args .codes .now in
-    let senses = start .args .senses .now in
-    let i = start .args .i in
-    let k = start .args .k in
-    let d = start .args .d in
-    let here : getD codes i 6 ≡ 4 = sym (c .before .before .before .before .before .code-at .ensures) ∙ c .before .before .before .before .if1 .left in
+    let a = c .before .before .before .before .before .before .before .before .args in
     let inner = c .before .before .look-level in
     let p = inner .result in
-    let there : getD codes (p .code) 6 ≡ 5 = sym (c .before .code-at2 .ensures) ∙ c .if3 .left in
-    let close = code-within codes (p .code) (omega arith) in
+    let there = close-here t c in
     record {
       ahead = omega (arith, inner .ensures .ahead);
-      inside = omega arith;
-      reads = λ f. operand-part codes f d k i here (p .code) (p .slot) (Tells senses k (p .inside) (p .until)) (inner .ensures .reads) (Tells senses k (p .inside) (p .until)) there (tells-part senses k (p .inside) (p .until));
+      inside = omega (arith, there .1);
+      reads = λ f. operand-part (a .codes .now) f (a .d) (a .k) (a .i) (open-here t (c .before .before .before .before) .0) (p .code) (p .slot) _ (inner .ensures .reads) _ (there .0) (tells-part (a .senses .now) (a .k) (p .inside) (p .until));
     }
 
 pub +look-level+look-operand+look-part-spec : {M : Type 1} → statement M
@@ -346,41 +256,41 @@ pub +look-level+look-operand+look-part-spec : {M : Type 1} → statement M
     look-level.Post
     look-level-Inv-loop
     look-level-μ-loop
-    (look-level-look-operand-requires t)
+    (λ c κs. search needs)
     (look-level-loop-holds t)
-    (look-level-code-at-requires t)
-    (look-level-is-operator-requires t)
+    (λ c κs. search needs)
+    (λ c κs. search needs)
     (look-level-returns t)
     (look-level-add-look-operand t)
     (look-level-look-operand-requires-2 t)
-    (look-level-pair-senses-requires t)
+    (λ c κs. search needs)
     (look-level-loop-less t)
     (look-level-loop-again t))
     (λ t. look-operand-lts.spec (operand-claims t)
     (look-operand-at t)
     look-operand.Post
-    (look-operand-code-at-requires t)
+    (λ c κs. search needs)
     (look-operand-look-part-requires t)
-    (look-operand-returns t)
-    (look-operand-unread-requires t)
+    (λ c. c .look-part .ensures)
+    (λ c κs. search needs)
     (look-operand-returns-2 t)
-    (look-operand-sense-of-requires t)
+    (λ c κs. search needs)
     (look-operand-add-t9 t)
-    (look-operand-add-t10 t)
+    (λ c. search needs)
     (look-operand-returns-3 t))
     λ t. look-part-lts.spec (part-claims t)
     (look-part-at t)
     look-part.Post
-    (look-part-code-at-requires t)
-    (look-part-unread-requires t)
+    (λ c κs. search needs)
+    (λ c κs. search needs)
     (look-part-returns t)
-    (look-part-unread-requires-2 t)
+    (λ c κs. search needs)
     (look-part-returns-2 t)
     (look-part-add-look-level t)
-    (look-part-sub-look-level t)
+    (λ c. search needs)
     (look-part-look-level-requires t)
-    (look-part-code-at-requires-2 t)
-    (look-part-unread-requires-3 t)
+    (λ c κs. search needs)
+    (λ c κs. search needs)
     (look-part-returns-3 t)
     (look-part-add-t11 t)
     (look-part-returns-4 t)

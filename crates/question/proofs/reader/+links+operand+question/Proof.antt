@@ -49,457 +49,132 @@ abbrev question-below : ℕ → In 1 question-kinds.ps
 question-below t =
     and 1 question-kinds.ps (falls 1 question-kinds.ps _<_ μ-question t) question.Pre
 
-links-next-token-requires : (t : ℕ) → links-lts.Need-next-token-requires (
-  next-token-reads.Asked,
-  next-token-reads.Learnt,
-  operand-below t,
-  operand.Post,
-  links-below t,
-  links.Post,
-) (links-at t) links.Post
-links-next-token-requires t c κs = search needs
+-- what the calls of each promise
+abbrev links-claims : ℕ → links-lts.Claims
+links-claims t = (next-token-reads.Asked, next-token-reads.Learnt, operand-below t, operand.Post, links-below t, links.Post)
 
-links-enum-known-token : (t : ℕ) → links-lts.Need-enum-known-token (
-  next-token-reads.Asked,
-  next-token-reads.Learnt,
-  operand-below t,
-  operand.Post,
-  links-below t,
-  links.Post,
-) (links-at t) links.Post
-links-enum-known-token t c = search needs
+abbrev operand-claims : ℕ → operand-lts.Claims
+operand-claims t = (next-token-reads.Asked, next-token-reads.Learnt, question-below t, question.Post, token-start-reads.Asked, token-start-reads.Learnt)
 
-links-operand-requires : (t : ℕ) → links-lts.Need-operand-requires (
-  next-token-reads.Asked,
-  next-token-reads.Learnt,
-  operand-below t,
-  operand.Post,
-  links-below t,
-  links.Post,
-) (links-at t) links.Post
+abbrev question-claims : ℕ → question-lts.Claims
+question-claims t = (operand-below t, operand.Post, links-below t, links.Post)
+
+links-operand-requires : (t : ℕ) → links-lts.Need-operand-requires (links-claims t) (links-at t) links.Post
 links-operand-requires t c κs =
-    let w = laws.token-lies (c .before .before .before .before .before .args .s .now) (c .before .before .before .before .before .args .at) _ (c .before .before .before .next-token .ensures) (c .before .token .given .1) in
+    let w = laws.token-lies (c .before .before .before .next-token .ensures) (c .before .token .given .1) in
     omega arith
 
-links-enum-known-next : (t : ℕ) → links-lts.Need-enum-known-next (
-  next-token-reads.Asked,
-  next-token-reads.Learnt,
-  operand-below t,
-  operand.Post,
-  links-below t,
-  links.Post,
-) (links-at t) links.Post
-links-enum-known-next t c = search needs
-
-links-links-requires : (t : ℕ) → links-lts.Need-links-requires (
-  next-token-reads.Asked,
-  next-token-reads.Learnt,
-  operand-below t,
-  operand.Post,
-  links-below t,
-  links.Post,
-) (links-at t) links.Post
+links-links-requires : (t : ℕ) → links-lts.Need-links-requires (links-claims t) (links-at t) links.Post
 links-links-requires t c κs =
-    let i = c .before .before .before .before .before .before .before .before .before .args in
-    let w = laws.token-lies (i .s .now) (i .at) _ (c .before .before .before .before .before .before .before .next-token .ensures) (c .before .before .before .before .before .token .given .1) in
-    let a = laws.ahead (c .before .before .before .before .before .token .given .0 .1 .1 .0) (length (i .s .now)) (i .words) (c .before .next .given .0 .0) (c .before .next .given .0 .1 .0) (c .before .next .given .1) (c .before .before .before .operand .ensures .ahead) in
+    let linked = c .before .before .before in
+    let w = laws.token-lies (linked .before .before .before .before .next-token .ensures) (linked .before .before .token .given .1) in
+    let a = laws.operand-ahead (linked .operand .ensures) (c .before .next .given .1) in
     omega arith
 
-links-enum-known-refusal : (t : ℕ) → links-lts.Need-enum-known-refusal (
-  next-token-reads.Asked,
-  next-token-reads.Learnt,
-  operand-below t,
-  operand.Post,
-  links-below t,
-  links.Post,
-) (links-at t) links.Post
-links-enum-known-refusal t c = search needs
-
-links-returns : (t : ℕ) → links-lts.Need-returns (
-  next-token-reads.Asked,
-  next-token-reads.Learnt,
-  operand-below t,
-  operand.Post,
-  links-below t,
-  links.Post,
-) (links-at t) links.Post
+links-returns : (t : ℕ) → links-lts.Need-returns (links-claims t) (links-at t) links.Post
 links-returns t c =
-    let i = c .before .before .before .before .before .before .before .before .before .before .args in
-    let token = c .before .before .before .before .before .before .token .given in
-    let next = c .before .before .next .given in
-    laws.links-on (i .s .now) (i .room) (i .words) (i .at) (c .before .before .before .before .before .before .before .before .next-token .result) (c .before .before .before .before .before .before .before .before .next-token .ensures) (token .0 .0) (token .0 .1 .0) (token .0 .1 .1 .0) (token .1)
-    (c .before .before .before .before .operand .result) (c .before .before .before .before .operand .ensures) (next .0 .0) (next .0 .1 .0) (next .1) (c .links .result) (c .links .ensures)
+    let linked = c .before .before .before .before in
+    laws.links-on (linked .before .before .before .before .next-token .ensures) (linked .before .before .token .given .1) (linked .operand .ensures) (c .before .before .next .given .1) (c .links .ensures)
 
-links-returns-2 : (t : ℕ) → links-lts.Need-returns-2 (
-  next-token-reads.Asked,
-  next-token-reads.Learnt,
-  operand-below t,
-  operand.Post,
-  links-below t,
-  links.Post,
-) (links-at t) links.Post
+links-returns-2 : (t : ℕ) → links-lts.Need-returns-2 (links-claims t) (links-at t) links.Post
 links-returns-2 t c =
-    let i = c .before .before .before .before .before .before .before .before .before .args in
-    let token = c .before .before .before .before .before .token .given in
-    laws.links-bad (i .s .now) (i .room) (i .words) (i .at) (c .before .before .before .before .before .before .before .next-token .result) (c .before .before .before .before .before .before .before .next-token .ensures) (token .0 .0) (token .0 .1 .0) (token .0 .1 .1 .0) (token .1)
-    (c .before .before .before .operand .result) (c .before .before .before .operand .ensures) (c .before .refusal .given .0 .0) (c .before .refusal .given .1)
+    let linked = c .before .before .before in
+    laws.links-bad (linked .before .before .before .before .next-token .ensures) (linked .before .before .token .given .1) (linked .operand .ensures) (c .before .refusal .given .1)
 
-links-returns-3 : (t : ℕ) → links-lts.Need-returns-3 (
-  next-token-reads.Asked,
-  next-token-reads.Learnt,
-  operand-below t,
-  operand.Post,
-  links-below t,
-  links.Post,
-) (links-at t) links.Post
-links-returns-3 t c =
-    let i = c .before .before .before .args in
-    laws.links-none (i .s .now) (i .room) (i .words) (i .at) (c .before .next-token .result) (c .before .next-token .ensures) (omega arith) (omega arith) (c .match .keys2)
+links-returns-3 : (t : ℕ) → links-lts.Need-returns-3 (links-claims t) (links-at t) links.Post
+links-returns-3 t c = laws.links-none (c .before .next-token .ensures) (omega arith) (omega arith) (c .match .keys2)
 
-operand-next-token-requires : (t : ℕ) → operand-lts.Need-next-token-requires (
-  next-token-reads.Asked,
-  next-token-reads.Learnt,
-  question-below t,
-  question.Post,
-  token-start-reads.Asked,
-  token-start-reads.Learnt,
-) (operand-at t) operand.Post
-operand-next-token-requires t c κs = search needs
+operand-returns : (t : ℕ) → operand-lts.Need-returns (operand-claims t) (operand-at t) operand.Post
+operand-returns t c = laws.operand-deep (c .before .before .before .before .next-token .ensures) (c .before .before .token2 .given .1) (c .if2 .taken)
 
-operand-enum-known-token : (t : ℕ) → operand-lts.Need-enum-known-token (
-  next-token-reads.Asked,
-  next-token-reads.Learnt,
-  question-below t,
-  question.Post,
-  token-start-reads.Asked,
-  token-start-reads.Learnt,
-) (operand-at t) operand.Post
-operand-enum-known-token t c = search needs
-
-operand-add-t17 : (t : ℕ) → operand-lts.Need-add-t17 (
-  next-token-reads.Asked,
-  next-token-reads.Learnt,
-  question-below t,
-  question.Post,
-  token-start-reads.Asked,
-  token-start-reads.Learnt,
-) (operand-at t) operand.Post
-operand-add-t17 t c = search needs
-
-operand-enum-known-token-2 : (t : ℕ) → operand-lts.Need-enum-known-token-2 (
-  next-token-reads.Asked,
-  next-token-reads.Learnt,
-  question-below t,
-  question.Post,
-  token-start-reads.Asked,
-  token-start-reads.Learnt,
-) (operand-at t) operand.Post
-operand-enum-known-token-2 t c = search needs
-
-operand-returns : (t : ℕ) → operand-lts.Need-returns (
-  next-token-reads.Asked,
-  next-token-reads.Learnt,
-  question-below t,
-  question.Post,
-  token-start-reads.Asked,
-  token-start-reads.Learnt,
-) (operand-at t) operand.Post
-operand-returns t c =
-    let i = c .before .before .before .before .before .before .args in
-    laws.operand-deep (i .s .now) (i .room) (i .words) (i .at) (c .before .before .before .before .next-token .result) (c .before .before .before .before .next-token .ensures) (c .before .before .token2 .given .0 .0) (c .before .before .token2 .given .1) (c .if2 .taken)
-
-operand-sub-question : (t : ℕ) → operand-lts.Need-sub-question (
-  next-token-reads.Asked,
-  next-token-reads.Learnt,
-  question-below t,
-  question.Post,
-  token-start-reads.Asked,
-  token-start-reads.Learnt,
-) (operand-at t) operand.Post
-operand-sub-question t c = search needs
-
-operand-add-question : (t : ℕ) → operand-lts.Need-add-question (
-  next-token-reads.Asked,
-  next-token-reads.Learnt,
-  question-below t,
-  question.Post,
-  token-start-reads.Asked,
-  token-start-reads.Learnt,
-) (operand-at t) operand.Post
+operand-add-question : (t : ℕ) → operand-lts.Need-add-question (operand-claims t) (operand-at t) operand.Post
 operand-add-question t c =
-    let w = laws.token-lies (c .before .before .before .before .before .before .args .s .now) (c .before .before .before .before .before .before .args .at) _ (c .before .before .before .before .next-token .ensures) (c .before .before .token2 .given .1) in
+    let w = laws.token-lies (c .before .before .before .before .next-token .ensures) (c .before .before .token2 .given .1) in
     omega arith
 
-operand-question-requires : (t : ℕ) → operand-lts.Need-question-requires (
-  next-token-reads.Asked,
-  next-token-reads.Learnt,
-  question-below t,
-  question.Post,
-  token-start-reads.Asked,
-  token-start-reads.Learnt,
-) (operand-at t) operand.Post
+operand-question-requires : (t : ℕ) → operand-lts.Need-question-requires (operand-claims t) (operand-at t) operand.Post
 operand-question-requires t c κs =
-    let w = laws.token-lies (c .before .before .before .before .before .before .args .s .now) (c .before .before .before .before .before .before .args .at) _ (c .before .before .before .before .next-token .ensures) (c .before .before .token2 .given .1) in
+    let w = laws.token-lies (c .before .before .before .before .next-token .ensures) (c .before .before .token2 .given .1) in
     omega arith
 
-operand-enum-known-next : (t : ℕ) → operand-lts.Need-enum-known-next (
-  next-token-reads.Asked,
-  next-token-reads.Learnt,
-  question-below t,
-  question.Post,
-  token-start-reads.Asked,
-  token-start-reads.Learnt,
-) (operand-at t) operand.Post
-operand-enum-known-next t c = search needs
-
-operand-next-token-requires-2 : (t : ℕ) → operand-lts.Need-next-token-requires-2 (
-  next-token-reads.Asked,
-  next-token-reads.Learnt,
-  question-below t,
-  question.Post,
-  token-start-reads.Asked,
-  token-start-reads.Learnt,
-) (operand-at t) operand.Post
+operand-next-token-requires-2 : (t : ℕ) → operand-lts.Need-next-token-requires-2 (operand-claims t) (operand-at t) operand.Post
 operand-next-token-requires-2 t c κs =
-    let i = c .before .before .before .before .before .before .before .before .before .before .args in
-    let a = laws.ahead (c .before .before .before .before .before .before .token2 .given .0 .0 + 1) (length (i .s .now)) (i .words) (c .before .next .given .0 .0) (c .before .next .given .0 .1 .0) (c .before .next .given .1) (c .before .before .before .question .ensures .ahead) in
+    let a = laws.question-ahead (c .before .before .before .question .ensures) (c .before .next .given .1) in
     omega arith
 
-operand-enum-known-close : (t : ℕ) → operand-lts.Need-enum-known-close (
-  next-token-reads.Asked,
-  next-token-reads.Learnt,
-  question-below t,
-  question.Post,
-  token-start-reads.Asked,
-  token-start-reads.Learnt,
-) (operand-at t) operand.Post
-operand-enum-known-close t c = search needs
-
-operand-add-t26 : (t : ℕ) → operand-lts.Need-add-t26 (
-  next-token-reads.Asked,
-  next-token-reads.Learnt,
-  question-below t,
-  question.Post,
-  token-start-reads.Asked,
-  token-start-reads.Learnt,
-) (operand-at t) operand.Post
+operand-add-t26 : (t : ℕ) → operand-lts.Need-add-t26 (operand-claims t) (operand-at t) operand.Post
 operand-add-t26 t c =
-    let w = laws.token-lies (c .before .before .before .before .before .before .before .before .before .before .before .before .before .before .args .s .now) (c .before .before .before .before .before .next .given .0 .0) _ (c .before .before .before .next-token2 .ensures) (c .before .close .given .1) in
+    let w = laws.token-lies (c .before .before .before .next-token2 .ensures) (c .before .close .given .1) in
     omega arith
 
-operand-token-start-requires : (t : ℕ) → operand-lts.Need-token-start-requires (
-  next-token-reads.Asked,
-  next-token-reads.Learnt,
-  question-below t,
-  question.Post,
-  token-start-reads.Asked,
-  token-start-reads.Learnt,
-) (operand-at t) operand.Post
-operand-token-start-requires t c κs = search needs
+operand-returns-2 : (t : ℕ) → operand-lts.Need-returns-2 (operand-claims t) (operand-at t) operand.Post
+operand-returns-2 t c = laws.operand-word (c .before .before .before .before .next-token .ensures) (c .before .before .token .given .1) (c .if1 .taken)
 
-operand-enum-known-refusal : (t : ℕ) → operand-lts.Need-enum-known-refusal (
-  next-token-reads.Asked,
-  next-token-reads.Learnt,
-  question-below t,
-  question.Post,
-  token-start-reads.Asked,
-  token-start-reads.Learnt,
-) (operand-at t) operand.Post
-operand-enum-known-refusal t c = search needs
+operand-returns-3 : (t : ℕ) → operand-lts.Need-returns-3 (operand-claims t) (operand-at t) operand.Post
+operand-returns-3 t c = laws.operand-many (c .before .before .before .before .next-token .ensures) (c .before .before .token .given .1) (c .if1 .left)
 
-operand-token-start-requires-2 : (t : ℕ) → operand-lts.Need-token-start-requires-2 (
-  next-token-reads.Asked,
-  next-token-reads.Learnt,
-  question-below t,
-  question.Post,
-  token-start-reads.Asked,
-  token-start-reads.Learnt,
-) (operand-at t) operand.Post
-operand-token-start-requires-2 t c κs = search needs
-
-operand-returns-2 : (t : ℕ) → operand-lts.Need-returns-2 (
-  next-token-reads.Asked,
-  next-token-reads.Learnt,
-  question-below t,
-  question.Post,
-  token-start-reads.Asked,
-  token-start-reads.Learnt,
-) (operand-at t) operand.Post
-operand-returns-2 t c =
-    let i = c .before .before .before .before .before .before .args in
-    let token = c .before .before .token .given in
-    laws.operand-word (i .s .now) (i .room) (i .words) (i .at) (c .before .before .before .before .next-token .result) (c .before .before .before .before .next-token .ensures) (token .0 .0) (token .0 .1 .0) (token .1) (c .if1 .taken)
-
-operand-returns-3 : (t : ℕ) → operand-lts.Need-returns-3 (
-  next-token-reads.Asked,
-  next-token-reads.Learnt,
-  question-below t,
-  question.Post,
-  token-start-reads.Asked,
-  token-start-reads.Learnt,
-) (operand-at t) operand.Post
-operand-returns-3 t c =
-    let i = c .before .before .before .before .before .before .args in
-    let token = c .before .before .token .given in
-    laws.operand-many (i .s .now) (i .room) (i .words) (i .at) (c .before .before .before .before .next-token .result) (c .before .before .before .before .next-token .ensures) (token .0 .0) (token .0 .1 .0) (token .1) (c .if1 .left)
-
-operand-returns-4 : (t : ℕ) → operand-lts.Need-returns-4 (
-  next-token-reads.Asked,
-  next-token-reads.Learnt,
-  question-below t,
-  question.Post,
-  token-start-reads.Asked,
-  token-start-reads.Learnt,
-) (operand-at t) operand.Post
+operand-returns-4 : (t : ℕ) → operand-lts.Need-returns-4 (operand-claims t) (operand-at t) operand.Post
 operand-returns-4 t c =
-    let i = c .before .before .before .before .before .before .before .before .before .before .before .before .before .before .args in
-    let bracket = c .before .before .before .before .before .before .before .before .before .before .token2 .given in
-    let next = c .before .before .before .before .before .next .given in
-    laws.operand-part (i .s .now) (i .room) (i .words) (i .at) (c .before .before .before .before .before .before .before .before .before .before .before .before .next-token .result) (c .before .before .before .before .before .before .before .before .before .before .before .before .next-token .ensures) (bracket .0 .0) (bracket .1) (c .before .before .before .before .before .before .before .before .if2 .left)
-    (c .before .before .before .before .before .before .before .question .result) (c .before .before .before .before .before .before .before .question .ensures) (next .0 .0) (next .0 .1 .0) (next .1) (c .before .before .before .next-token2 .result) (c .before .before .before .next-token2 .ensures) (c .before .close .given .0 .0) (c .before .close .given .1)
+    let inner = c .before .before .before .before .before .before .before in
+    laws.operand-part (inner .before .before .before .before .before .next-token .ensures) (inner .before .before .before .token2 .given .1) (inner .before .if2 .left) (inner .question .ensures)
+    (c .before .before .before .before .before .next .given .1) (c .before .before .before .next-token2 .ensures) (c .before .close .given .1)
 
-operand-returns-5 : (t : ℕ) → operand-lts.Need-returns-5 (
-  next-token-reads.Asked,
-  next-token-reads.Learnt,
-  question-below t,
-  question.Post,
-  token-start-reads.Asked,
-  token-start-reads.Learnt,
-) (operand-at t) operand.Post
+operand-returns-5 : (t : ℕ) → operand-lts.Need-returns-5 (operand-claims t) (operand-at t) operand.Post
 operand-returns-5 t c =
-    let i = c .before .before .before .before .before .before .before .before .before .before .before .before .before .args in
-    let bracket = c .before .before .before .before .before .before .before .before .before .token2 .given in
-    let next = c .before .before .before .before .next .given in
-    laws.operand-unclosed (i .s .now) (i .room) (i .words) (i .at) (c .before .before .before .before .before .before .before .before .before .before .before .next-token .result) (c .before .before .before .before .before .before .before .before .before .before .before .next-token .ensures) (bracket .0 .0) (bracket .1) (c .before .before .before .before .before .before .before .if2 .left)
-    (c .before .before .before .before .before .before .question .result) (c .before .before .before .before .before .before .question .ensures) (next .0 .0) (next .0 .1 .0) (next .1) (c .before .before .next-token2 .result) (c .before .before .next-token2 .ensures) (c .before .match3 .keys2) (c .token-start .result) (c .token-start .ensures)
+    let inner = c .before .before .before .before .before .before in
+    laws.operand-unclosed (inner .before .before .before .before .before .next-token .ensures) (inner .before .before .before .token2 .given .1) (inner .before .if2 .left) (inner .question .ensures)
+    (c .before .before .before .before .next .given .1) (c .before .before .next-token2 .ensures) (c .before .match3 .keys2) (c .token-start .ensures)
 
-operand-returns-6 : (t : ℕ) → operand-lts.Need-returns-6 (
-  next-token-reads.Asked,
-  next-token-reads.Learnt,
-  question-below t,
-  question.Post,
-  token-start-reads.Asked,
-  token-start-reads.Learnt,
-) (operand-at t) operand.Post
+operand-returns-6 : (t : ℕ) → operand-lts.Need-returns-6 (operand-claims t) (operand-at t) operand.Post
 operand-returns-6 t c =
-    let i = c .before .before .before .before .before .before .before .before .before .before .args in
-    let bracket = c .before .before .before .before .before .before .token2 .given in
-    laws.operand-bad (i .s .now) (i .room) (i .words) (i .at) (c .before .before .before .before .before .before .before .before .next-token .result) (c .before .before .before .before .before .before .before .before .next-token .ensures) (bracket .0 .0) (bracket .1) (c .before .before .before .before .if2 .left)
-    (c .before .before .before .question .result) (c .before .before .before .question .ensures) (c .before .refusal .given .0 .0) (c .before .refusal .given .1)
+    let inner = c .before .before .before in
+    laws.operand-bad (inner .before .before .before .before .before .next-token .ensures) (inner .before .before .before .token2 .given .1) (inner .before .if2 .left) (inner .question .ensures) (c .before .refusal .given .1)
 
-operand-returns-7 : (t : ℕ) → operand-lts.Need-returns-7 (
-  next-token-reads.Asked,
-  next-token-reads.Learnt,
-  question-below t,
-  question.Post,
-  token-start-reads.Asked,
-  token-start-reads.Learnt,
-) (operand-at t) operand.Post
-operand-returns-7 t c =
-    let i = c .before .before .before .before .args in
-    laws.operand-none (i .s .now) (i .room) (i .words) (i .at) (c .before .before .next-token .result) (c .before .before .next-token .ensures) (c .before .match .keys3) (c .token-start2 .result) (c .token-start2 .ensures)
+operand-returns-7 : (t : ℕ) → operand-lts.Need-returns-7 (operand-claims t) (operand-at t) operand.Post
+operand-returns-7 t c = laws.operand-none (c .before .before .next-token .ensures) (c .before .match .keys3) (c .token-start2 .ensures)
 
-question-operand-requires : (t : ℕ) → question-lts.Need-operand-requires (
-  operand-below t,
-  operand.Post,
-  links-below t,
-  links.Post,
-) (question-at t) question.Post
-question-operand-requires t c κs = search needs
-
-question-enum-known-next : (t : ℕ) → question-lts.Need-enum-known-next (
-  operand-below t,
-  operand.Post,
-  links-below t,
-  links.Post,
-) (question-at t) question.Post
-question-enum-known-next t c = search needs
-
-question-links-requires : (t : ℕ) → question-lts.Need-links-requires (
-  operand-below t,
-  operand.Post,
-  links-below t,
-  links.Post,
-) (question-at t) question.Post
+question-links-requires : (t : ℕ) → question-lts.Need-links-requires (question-claims t) (question-at t) question.Post
 question-links-requires t c κs =
-    let i = c .before .before .before .before .before .args in
-    let a = laws.ahead (i .at) (length (i .s .now)) (i .words) (c .before .next .given .0 .0) (c .before .next .given .0 .1 .0) (c .before .next .given .1) (c .before .before .before .operand .ensures .ahead) in
+    let a = laws.operand-ahead (c .before .before .before .operand .ensures) (c .before .next .given .1) in
     omega arith
 
-question-enum-known-refusal : (t : ℕ) → question-lts.Need-enum-known-refusal (
-  operand-below t,
-  operand.Post,
-  links-below t,
-  links.Post,
-) (question-at t) question.Post
-question-enum-known-refusal t c = search needs
+question-returns : (t : ℕ) → question-lts.Need-returns (question-claims t) (question-at t) question.Post
+question-returns t c = laws.question-on (c .before .before .before .before .operand .ensures) (c .before .before .next .given .1) (c .links .ensures)
 
-question-returns : (t : ℕ) → question-lts.Need-returns (
-  operand-below t,
-  operand.Post,
-  links-below t,
-  links.Post,
-) (question-at t) question.Post
-question-returns t c =
-    let i = c .before .before .before .before .before .before .args in
-    let next = c .before .before .next .given in
-    laws.question-on (i .s .now) (i .room) (i .words) (i .at) (c .before .before .before .before .operand .result) (c .before .before .before .before .operand .ensures) (next .0 .0) (next .0 .1 .0) (next .1) (c .links .result) (c .links .ensures)
-
-question-returns-2 : (t : ℕ) → question-lts.Need-returns-2 (
-  operand-below t,
-  operand.Post,
-  links-below t,
-  links.Post,
-) (question-at t) question.Post
-question-returns-2 t c =
-    let i = c .before .before .before .before .before .args in
-    laws.question-bad (i .s .now) (i .room) (i .words) (i .at) (c .before .before .before .operand .result) (c .before .before .before .operand .ensures) (c .before .refusal .given .0 .0) (c .before .refusal .given .1)
+question-returns-2 : (t : ℕ) → question-lts.Need-returns-2 (question-claims t) (question-at t) question.Post
+question-returns-2 t c = laws.question-bad (c .before .before .before .operand .ensures) (c .before .refusal .given .1)
 
 pub +links+operand+question-spec : {M : Type 1} → statement M
-+links+operand+question-spec = close μ-links μ-operand μ-question (λ t. links-lts.spec (
-  next-token-reads.Asked,
-  next-token-reads.Learnt,
-  operand-below t,
-  operand.Post,
-  links-below t,
-  links.Post,
-)
++links+operand+question-spec = close μ-links μ-operand μ-question (λ t. links-lts.spec (links-claims t)
     (links-at t)
     links.Post
-    (links-next-token-requires t)
-    (links-enum-known-token t)
+    (λ c κs. search needs)
+    (λ c. search needs)
     (links-operand-requires t)
-    (links-enum-known-next t)
+    (λ c. search needs)
     (links-links-requires t)
-    (links-enum-known-refusal t)
+    (λ c. search needs)
     (links-returns t)
     (links-returns-2 t)
     (links-returns-3 t))
-    (λ t. operand-lts.spec (
-      next-token-reads.Asked,
-      next-token-reads.Learnt,
-      question-below t,
-      question.Post,
-      token-start-reads.Asked,
-      token-start-reads.Learnt,
-    )
+    (λ t. operand-lts.spec (operand-claims t)
     (operand-at t)
     operand.Post
-    (operand-next-token-requires t)
-    (operand-enum-known-token t)
-    (operand-add-t17 t)
-    (operand-enum-known-token-2 t)
+    (λ c κs. search needs)
+    (λ c. search needs)
+    (λ c. search needs)
+    (λ c. search needs)
     (operand-returns t)
-    (operand-sub-question t)
+    (λ c. search needs)
     (operand-add-question t)
     (operand-question-requires t)
-    (operand-enum-known-next t)
+    (λ c. search needs)
     (operand-next-token-requires-2 t)
-    (operand-enum-known-close t)
+    (λ c. search needs)
     (operand-add-t26 t)
-    (operand-token-start-requires t)
-    (operand-enum-known-refusal t)
-    (operand-token-start-requires-2 t)
+    (λ c κs. search needs)
+    (λ c. search needs)
+    (λ c κs. search needs)
     (operand-returns-2 t)
     (operand-returns-3 t)
     (operand-returns-4 t)
@@ -507,12 +182,12 @@ pub +links+operand+question-spec : {M : Type 1} → statement M
     (operand-returns-6 t)
     (operand-returns-7 t))
     λ t. question-lts.spec
-    (operand-below t, operand.Post, links-below t, links.Post)
+    (question-claims t)
     (question-at t)
     question.Post
-    (question-operand-requires t)
-    (question-enum-known-next t)
+    (λ c κs. search needs)
+    (λ c. search needs)
     (question-links-requires t)
-    (question-enum-known-refusal t)
+    (λ c. search needs)
     (question-returns t)
     (question-returns-2 t)

@@ -1,6 +1,5 @@
 -- By what the question's reader answers, and by the token behind it.
 use native.Mathlib.Omega.{arith}
-use lib.ListN.{length}
 use Rattle.question.proofs.ReaderLaws as laws
 use borrow.Author.Needs.{needs}
 use Rattle.question.proofs.reader.read_whole.Statement.{statement}
@@ -8,21 +7,17 @@ use Rattle.question.proofs.reader.read_whole.Tie as tie
 
 next-token-requires : tie.Need-next-token-requires
 next-token-requires c κs =
-    let a = laws.ahead 0 (length (c .before .before .before .before .before .args .s .now)) 0 (c .before .next .given .0 .0) (c .before .next .given .0 .1 .0) (c .before .next .given .1) (c .before .before .before .question .ensures .ahead) in
+    let a = laws.question-ahead (c .before .before .before .question .ensures) (c .before .next .given .1) in
     omega arith
 
 returns : tie.Need-returns
-returns c =
-    let next = c .before .before .before .before .next .given in
-    laws.whole-ended (c .before .before .before .before .before .before .before .before .args .s .now) (c .before .before .before .before .before .before .question .result) (c .before .before .before .before .before .before .question .ensures) (next .0 .0) (next .0 .1 .0) (next .1) (c .before .before .next-token .result) (c .before .before .next-token .ensures) (c .before .match2 .keys1)
+returns c = laws.whole-ended (c .before .before .before .before .before .before .question .ensures) (c .before .before .before .before .next .given .1) (c .before .before .next-token .ensures) (c .before .match2 .keys1)
 
 returns-2 : tie.Need-returns-2
-returns-2 c =
-    let next = c .before .before .before .before .next .given in
-    laws.whole-more (c .before .before .before .before .before .before .before .before .args .s .now) (c .before .before .before .before .before .before .question .result) (c .before .before .before .before .before .before .question .ensures) (next .0 .0) (next .0 .1 .0) (next .1) (c .before .before .next-token .result) (c .before .before .next-token .ensures) (c .before .match2 .keys2) (c .token-start .result) (c .token-start .ensures)
+returns-2 c = laws.whole-more (c .before .before .before .before .before .before .question .ensures) (c .before .before .before .before .next .given .1) (c .before .before .next-token .ensures) (c .before .match2 .keys2) (c .token-start .ensures)
 
 returns-3 : tie.Need-returns-3
-returns-3 c = laws.whole-bad (c .before .before .before .before .before .args .s .now) (c .before .before .before .question .result) (c .before .before .before .question .ensures) (c .before .refusal .given .0 .0) (c .before .refusal .given .1)
+returns-3 c = laws.whole-bad (c .before .before .before .question .ensures) (c .before .refusal .given .1)
 
 pub read-whole-spec : {M : Type 1} → statement M
 read-whole-spec =
