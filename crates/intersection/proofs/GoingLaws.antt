@@ -33,7 +33,7 @@ pub record Going (index entries : List ℕ) (e : ℕ) (writing : Bool) (out₀ o
   pub read : ReadTo (highest index) (singlesIn index e) (lowerIn index e) (upperIn index e) at k
   pub swept : Tallied (inAll index entries) writing out₀ out t x
 
-module _ (index entries : List ℕ) (asked : Asked index entries) (j : ℕ) (h : j < length entries) where
+module _ {index entries : List ℕ} (asked : Asked index entries) {j : ℕ} (h : j < length entries) where
   list-top : highest index ≤ top
   list-top = sound-trailer index (asked .sound) .highest-bound
 
@@ -41,19 +41,19 @@ module _ (index entries : List ℕ) (asked : Asked index entries) (j : ℕ) (h :
   out-all : (z : ℕ) → names (listOf index (getD entries j 0)) z ≡ false → inAll index entries z ≡ false
   out-all z e = every-out index entries j z h e
 
-  pub going-start : (writing : Bool) (out : List ℕ) (t : Tally) → t .intervals ≡ 0 → t .records ≡ 0 →
+  pub going-start : {writing : Bool} {out : List ℕ} {t : Tally} → t .intervals ≡ 0 → t .records ≡ 0 →
       Going index entries (getD entries j 0) writing out out t start 0
-  going-start w out t e f =
+  going-start {writing} {out} {t} e f =
       record {
         x = 1;
         k = 1;
         near = (omega arith, omega arith);
         passed = refl;
         read = read-start (highest index) (singlesIn index (getD entries j 0)) (lowerIn index (getD entries j 0)) (upperIn index (getD entries j 0)) (entry-kept index (asked .sound) (getD entries j 0) (asked .below j h));
-        swept = tallied-start (inAll index entries) w out t e f;
+        swept = tallied-start (inAll index entries) writing out t e f;
       }
 
-  module _ (writing : Bool) (out₀ out : List ℕ) (t : Tally) (at : Place) (i : ℕ) (g : Going index entries (getD entries j 0) writing out₀ out t at i) where
+  module _ {writing : Bool} {out₀ out : List ℕ} {t : Tally} {at : Place} {i : ℕ} (g : Going index entries (getD entries j 0) writing out₀ out t at i) where
     abbrev S : List ℕ
     S = singlesIn index (getD entries j 0)
 
@@ -120,9 +120,9 @@ module _ (index entries : List ℕ) (asked : Asked index entries) (j : ℕ) (h :
             records-small = between-records-few (inAll index entries) top writing out₀ out (g .x) (2 * t .intervals) (t .records) (g .swept) l u reach (bounds .1) up low stop;
           }
 
-      pub going-next : (out′ : List ℕ) (t′ : Tally) → CellsPut writing out out′ t (between (inAll index entries) l u) t′ →
+      pub going-next : {out′ : List ℕ} {t′ : Tally} → CellsPut writing out out′ t (between (inAll index entries) l u) t′ →
           Going index entries (getD entries j 0) writing out₀ out′ t′ (nextPlace S L at) (i + 1)
-      going-next out′ t′ q =
+      going-next {out′} {t′} q =
           let e = between-even (inAll index entries) l u in
           let f = next-fits S L at o in
           let p = g .passed in

@@ -220,12 +220,12 @@ pub record Line (index entries : List ℕ) (writing : Bool) (out₀ out keys : L
   pub queue : Keys (length entries) size keys (dueAt index entries places)
   pub state : Active index entries writing out₀ out places t active
 
-module _ (index entries : List ℕ) (asked : Asked index entries) (writing : Bool) (out₀ : List ℕ) where
-  pub line-start : (keys : List ℕ) (size : ℕ) (places : List Place) (t : Tally) (active : Interval) → length keys ≡ 16 →
+module _ {index entries : List ℕ} (asked : Asked index entries) {writing : Bool} {out₀ : List ℕ} where
+  pub line-start : {keys : List ℕ} {size : ℕ} {places : List Place} {t : Tally} {active : Interval} → length keys ≡ 16 →
       Keys (length entries) (length entries) keys (dueAt index entries (replicate 16 start)) → size ≡ length entries → places ≡ replicate 16 start →
       t .intervals ≡ 0 → t .records ≡ 0 → active .lower ≡ getD keys 0 0 / 32 → active .upper ≡ getD keys 0 0 / 32 →
       Line index entries writing out₀ out₀ keys size places t active
-  line-start keys size places t active l k n e a b c d = record {
+  line-start {keys} {size} {places} {t} {active} l k n e a b c d = record {
     long = l;
     small = let f = asked .few in omega arith;
     wide = ap length e;
@@ -233,7 +233,7 @@ module _ (index entries : List ℕ) (asked : Asked index entries) (writing : Boo
     state = rw e (active-start index entries asked writing out₀ keys t active l k a b c d);
   }
 
-  module _ (out keys : List ℕ) (size : ℕ) (places : List Place) (t : Tally) (active : Interval) (s : Line index entries writing out₀ out keys size places t active) where
+  module _ {out keys : List ℕ} {size : ℕ} {places : List Place} {t : Tally} {active : Interval} (s : Line index entries writing out₀ out keys size places t active) where
     module _ (some : 0 < size) where
       front : Front (length entries) (getD keys 0 0) (dueAt index entries places)
       front = keys-front (length entries) size keys (dueAt index entries places) (asked .few) (s .queue) some (let l = s .long in let m = s .small in omega arith)
@@ -245,32 +245,36 @@ module _ (index entries : List ℕ) (asked : Asked index entries) (writing : Boo
       pub line-goes : GoesAt index entries places (getD keys 0 0 % 16)
       line-goes = front-goes index entries places (active .upper + 2) (getD keys 0 0) (s .state .read) front
 
-      pub line-next : (next : Interval) → next .lower ≡ lowerNext index entries places (getD keys 0 0 % 16) →
+      pub line-next : {next : Interval} → next .lower ≡ lowerNext index entries places (getD keys 0 0 % 16) →
           next .upper ≡ upperNext index entries places (getD keys 0 0 % 16) → Next index entries places (getD keys 0 0 % 16) next
-      line-next = front-next index entries places (active .upper + 2) (getD keys 0 0) (s .state .read) front
+      line-next {next} = front-next index entries places (active .upper + 2) (getD keys 0 0) (s .state .read) front next
 
-      pub line-on : (places′ : List Place) → places′ ≡ placesOn index entries places (getD keys 0 0 % 16) →
+      pub line-fits : {next : Interval} → Next index entries places (getD keys 0 0 % 16) next → (writing ≡ true → length (unionOf (listsOf index entries)) ≤ length out₀) →
+          isApart active next ≡ true → Fitting writing out t active
+      line-fits {next} n = active-fits index entries asked writing out₀ out places t active (s .state) (getD keys 0 0 % 16) next n
+
+      pub line-on : {places′ : List Place} → places′ ≡ placesOn index entries places (getD keys 0 0 % 16) →
           (getD places′ (getD keys 0 0 % 16) start .p .0 ≤ length (singlesIn index (getD entries (getD keys 0 0 % 16) 0)))
           × (getD places′ (getD keys 0 0 % 16) start .q .0 ≤ length (lowerIn index (getD entries (getD keys 0 0 % 16) 0)))
-      line-on places′ e =
+      line-on e =
           let few = asked .few in
           let l = line-list in
           rw e (on-fits index entries places (s .wide) (getD keys 0 0 % 16) (omega arith) (active .upper + 2) (active .upper + 2) (s .state .read) line-list line-goes)
 
-      pub line-less : (places′ : List Place) → places′ ≡ placesOn index entries places (getD keys 0 0 % 16) → leftSum index entries places′ < leftSum index entries places
-      line-less places′ e =
+      pub line-less : {places′ : List Place} → places′ ≡ placesOn index entries places (getD keys 0 0 % 16) → leftSum index entries places′ < leftSum index entries places
+      line-less e =
           let few = asked .few in
           let l = line-list in
           rw e (left-less index entries places (s .wide) (getD keys 0 0 % 16) (omega arith) (active .upper + 2) (active .upper + 2) (s .state .read) line-list line-goes)
 
-      pub line-step : (next : Interval) (out′ keys′ : List ℕ) (size′ : ℕ) (places′ : List Place) (t′ : Tally) (active′ : Interval)
+      pub line-step : {next : Interval} {out′ keys′ : List ℕ} {size′ : ℕ} {places′ : List Place} {t′ : Tally} {active′ : Interval}
           → Next index entries places (getD keys 0 0 % 16) next
           → PutWhere (isApart active next) writing out out′ t active t′
           → Joined active next active′
           → places′ ≡ placesOn index entries places (getD keys 0 0 % 16)
           → Refilled (getD keys 0 0 % 16) (dueAt index entries places′ (getD keys 0 0 % 16)) size keys size′ keys′
           → Line index entries writing out₀ out′ keys′ size′ places′ t′ active′
-      line-step next out′ keys′ size′ places′ t′ active′ n put joined e r =
+      line-step {next} {out′} {keys′} {size′} {places′} {t′} {active′} n put joined e r =
           let few = asked .few in
           let l = line-list in
           let j = getD keys 0 0 % 16 in
@@ -290,6 +294,6 @@ module _ (index entries : List ℕ) (asked : Asked index entries) (writing : Boo
     pub line-last : size ≤ 0 → (writing ≡ true → length (unionOf (listsOf index entries)) ≤ length out₀) → Fitting writing out t active
     line-last h r = last-fits index entries asked writing out₀ out places t active (s .state) (line-none h) r
 
-    pub line-end : size ≤ 0 → (writing ≡ true → length (unionOf (listsOf index entries)) ≤ length out₀) → (out′ : List ℕ) (t′ : Tally) →
+    pub line-end : size ≤ 0 → (writing ≡ true → length (unionOf (listsOf index entries)) ≤ length out₀) → {out′ : List ℕ} {t′ : Tally} →
         Put writing out out′ t active t′ → Sweeps (unionOf (listsOf index entries)) writing out₀ out′ t′
-    line-end h r out′ t′ put = last-put index entries asked writing out₀ out places t active (s .state) (line-none h) out′ t′ r put
+    line-end h r {out′} {t′} put = last-put index entries asked writing out₀ out places t active (s .state) (line-none h) out′ t′ r put

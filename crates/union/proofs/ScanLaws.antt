@@ -67,11 +67,11 @@ pub record Scan (index entries : List ℕ) (writing : Bool) (out₀ out keys : L
   pub over : Over index entries places ins line count lower
   pub stretch : Stretch (inAny index entries) writing out₀ out t line count lower
 
-module _ (index entries : List ℕ) (asked : Asked index entries) (writing : Bool) (out₀ : List ℕ) where
-  pub scan-start : (keys : List ℕ) (size : ℕ) (places : List Place) (t : Tally) (count lower : ℕ) → length keys ≡ 16 →
+module _ {index entries : List ℕ} (asked : Asked index entries) {writing : Bool} {out₀ : List ℕ} where
+  pub scan-start : {keys : List ℕ} {size : ℕ} {places : List Place} {t : Tally} {count lower : ℕ} → length keys ≡ 16 →
       Keys (length entries) (length entries) keys (dueAt index entries (replicate 16 start)) → size ≡ length entries → places ≡ replicate 16 start →
       t .intervals ≡ 0 → t .records ≡ 0 → count ≡ 0 → Scan index entries writing out₀ out₀ keys size places t count lower
-  scan-start keys size places t count lower l k n e a b c = record {
+  scan-start {keys} {size} {places} {t} {count} {lower} l k n e a b c = record {
     long = l;
     small = let few = asked .few in omega arith;
     wide = ap length e;
@@ -99,7 +99,7 @@ module _ (index entries : List ℕ) (asked : Asked index entries) (writing : Boo
     };
   }
 
-  module _ (out keys : List ℕ) (size : ℕ) (places : List Place) (t : Tally) (count lower : ℕ) (g : Scan index entries writing out₀ out keys size places t count lower) where
+  module _ {out keys : List ℕ} {size : ℕ} {places : List Place} {t : Tally} {count lower : ℕ} (g : Scan index entries writing out₀ out keys size places t count lower) where
     module _ (some : 0 < size) where
       front : Front (length entries) (getD keys 0 0) (dueScan index entries places (g .ins))
       front = keys-front (length entries) size keys (dueScan index entries places (g .ins)) (asked .few) (g .queue) some (let l = g .long in let m = g .small in omega arith)
@@ -118,10 +118,10 @@ module _ (index entries : List ℕ) (asked : Asked index entries) (writing : Boo
             over-few index entries asked places (turnedTo true (getD keys 0 0 % 16) (g .ins)) (getD keys 0 0 / 32) (count + 1) (lowerFrom count lower (getD keys 0 0 / 32))
             (begun-over index entries asked places (g .ins) (g .line) count lower (g .over) (getD keys 0 0) front even (lowerFrom count lower (getD keys 0 0 / 32)) refl)
 
-        pub lower-step : (lower′ : ℕ) (keys′ : List ℕ) → lower′ ≡ lowerFrom count lower (getD keys 0 0 / 32) →
+        pub lower-step : {lower′ : ℕ} {keys′ : List ℕ} → lower′ ≡ lowerFrom count lower (getD keys 0 0 / 32) →
             Refilled (getD keys 0 0 % 16) (upperMark (upperNext index entries places (getD keys 0 0 % 16)) ∷ []) size keys size keys′ →
             Scan index entries writing out₀ out keys′ size places t (count + 1) lower′
-        lower-step lower′ keys′ e r =
+        lower-step {lower′} {keys′} e r =
             let j = getD keys 0 0 % 16 in
             let reach = begun-reach index entries asked places (g .ins) (g .line) count lower (g .over) (getD keys 0 0) front even in
             record {
@@ -164,16 +164,16 @@ module _ (index entries : List ℕ) (asked : Asked index entries) (writing : Boo
             let h = reach in
             (omega arith, λ c. stretch-fits (inAny index entries) writing out₀ out t (g .line) count lower (g .stretch) (getD keys 0 0 / 32) upper-some (h .0) (h .1) in-line (h .2) (stop c) r)
 
-        pub upper-on : (places′ : List Place) → places′ ≡ placesOn index entries places (getD keys 0 0 % 16) →
+        pub upper-on : {places′ : List Place} → places′ ≡ placesOn index entries places (getD keys 0 0 % 16) →
             (getD places′ (getD keys 0 0 % 16) start .p .0 ≤ length (singlesIn index (getD entries (getD keys 0 0 % 16) 0)))
             × (getD places′ (getD keys 0 0 % 16) start .q .0 ≤ length (lowerIn index (getD entries (getD keys 0 0 % 16) 0)))
-        upper-on places′ e =
+        upper-on e =
             let few = asked .few in
             let l = scan-list in
             rw e (on-fits index entries places (g .wide) (getD keys 0 0 % 16) (omega arith) (g .line + 1) (g .line + 1) (g .over .read) scan-list upper-goes)
 
-        pub upper-less : (places′ : List Place) → places′ ≡ placesOn index entries places (getD keys 0 0 % 16) → leftSum index entries places′ < leftSum index entries places
-        upper-less places′ e =
+        pub upper-less : {places′ : List Place} → places′ ≡ placesOn index entries places (getD keys 0 0 % 16) → leftSum index entries places′ < leftSum index entries places
+        upper-less e =
             let few = asked .few in
             let l = scan-list in
             rw e (left-less index entries places (g .wide) (getD keys 0 0 % 16) (omega arith) (g .line + 1) (g .line + 1) (g .over .read) scan-list upper-goes)
@@ -185,12 +185,12 @@ module _ (index entries : List ℕ) (asked : Asked index entries) (writing : Boo
             let l = scan-list in
             rw (ne-eqb i (getD keys 0 0 % 16) ne, places-other index entries places (g .wide) (getD keys 0 0 % 16) (omega arith) i ne)
 
-        pub upper-step : (out′ keys′ : List ℕ) (size′ : ℕ) (places′ : List Place) (t′ : Tally)
+        pub upper-step : {out′ keys′ : List ℕ} {size′ : ℕ} {places′ : List Place} {t′ : Tally}
             → PutWhere (eqb (count - 1) 0) writing out out′ t (upTo lower (getD keys 0 0 / 32)) t′
             → places′ ≡ placesOn index entries places (getD keys 0 0 % 16)
             → Refilled (getD keys 0 0 % 16) (dueAt index entries places′ (getD keys 0 0 % 16)) size keys size′ keys′
             → Scan index entries writing out₀ out′ keys′ size′ places′ t′ (count - 1) lower
-        upper-step out′ keys′ size′ places′ t′ put e r =
+        upper-step {out′} {keys′} {size′} {places′} {t′} put e r =
             let few = asked .few in
             let l = scan-list in
             let h = reach in
