@@ -11,8 +11,7 @@ use lib.Seq.{sets, length-sets}
 use Rattle.laws.proofs.Tests.{leb-cases}
 use Rattle.laws.proofs.Lists.{sets-append}
 use Rattle.list.specs.Stretches.{turned, stretches, cellsOf, recordsFrom}
-use Rattle.list.proofs.StretchLaws.{stretches-end, cells-length}
-use Rattle.list.proofs.RecordLaws.{recordsFrom-length}
+use Rattle.list.proofs.StretchLaws.{stretches-end}
 use Rattle.list.proofs.SweepLaws.{Swept, members-on, members-all, members-none}
 use Rattle.window.specs.Window.{member, Holds}
 use Rattle.window.specs.Flips.{odd, flips, before}
@@ -66,14 +65,7 @@ stretches-none : (p : ℕ → Bool) (b : Bool) (x j : ℕ) → b ≡ false → j
 unfolding stretches
 stretches-none p b x j e z = rw (e, z)
 
-module _ (p : ℕ → Bool) (n : ℕ) (writing : Bool) (out₀ out : List ℕ) (x k recs : ℕ) (s : Swept p n writing out₀ out (odd k) x k recs) where
-  -- both counts fit
-  pub swept-few : k ≤ n + 1
-  swept-few = omega (arith, s .count, ap length (s .left), length-append (s .done) (stretches p (odd k) x (n + 1 - x)), cells-length p n)
-
-  pub swept-counted : recs ≤ n
-  swept-counted = let a = s .near in omega (arith, s .members, recordsFrom-length p 1 (x - 1))
-
+module _ {p : ℕ → Bool} {n : ℕ} {writing : Bool} {out₀ out : List ℕ} {x k recs : ℕ} (s : Swept p n writing out₀ out (odd k) x k recs) where
   -- cells written behind those that are done
   more-written : (vs : List ℕ) → cond writing (sets out k vs) out ≡ cond writing (sets out₀ 0 (s .done ++ vs)) out₀
   more-written vs = go writing refl
@@ -153,12 +145,12 @@ module _ (p : ℕ → Bool) (n : ℕ) (writing : Bool) (out₀ out : List ℕ) (
       near = (let a = s .near in omega arith, omega arith);
     }
 
-    pub swept-step : (out′ : List ℕ) (k′ recs′ : ℕ) → Stepped p x m writing k recs out out′ k′ recs′ → Swept p n writing out₀ out′ (odd k′) (min (x + m) (n + 1)) k′ recs′
-    swept-step out′ k′ recs′ t = rw (t .cells, t .records, t .written) step-swept
+    pub swept-step : {out′ : List ℕ} {k′ recs′ : ℕ} → Stepped p x m writing k recs out out′ k′ recs′ → Swept p n writing out₀ out′ (odd k′) (min (x + m) (n + 1)) k′ recs′
+    swept-step t = rw (t .cells, t .records, t .written) step-swept
 
 -- ---- the end: a stretch that is still open ends with n
 
-module _ (p : ℕ → Bool) (n : ℕ) (writing : Bool) (out₀ out : List ℕ) (k recs : ℕ) (s : Swept p n writing out₀ out (odd k) (n + 1) k recs) where
+module _ {p : ℕ → Bool} {n : ℕ} {writing : Bool} {out₀ out : List ℕ} {k recs : ℕ} (s : Swept p n writing out₀ out (odd k) (n + 1) k recs) where
   abbrev last : List ℕ
   last = turned (odd k) false (n + 1) []
 
@@ -168,15 +160,15 @@ module _ (p : ℕ → Bool) (n : ℕ) (writing : Bool) (out₀ out : List ℕ) (
       ∙ sym (ap (λ (r : List ℕ). last ++ r) (stretches-end p false n (n + 1) (omega arith)) ∙ append-nil last)
 
   pub close-room : writing ≡ true → length (cellsOf p n) ≤ length out₀ → k + length (turned (odd k) false (n + 1) []) ≤ length out
-  close-room w h = more-room p n writing out₀ out (n + 1) k recs s last (stretches p false (n + 1) (n + 1 - (n + 1))) end-left w h
+  close-room w h = more-room s last (stretches p false (n + 1) (n + 1 - (n + 1))) end-left w h
 
-  pub swept-close : (out′ : List ℕ) (r : ℕ) → Put (turned (odd k) false (n + 1) []) k writing out out′ r → Swept p n writing out₀ out′ false (n + 1) r recs
-  swept-close out′ r put = record {
+  pub swept-close : {out′ : List ℕ} {r : ℕ} → Put (turned (odd k) false (n + 1) []) k writing out out′ r → Swept p n writing out₀ out′ false (n + 1) r recs
+  swept-close put = record {
     done = s .done ++ last;
-    count = more-length p n writing out₀ out (n + 1) k recs s last ∙ sym (put .count);
+    count = more-length s last ∙ sym (put .count);
     left =
         s .left ∙ ap (λ (r : List ℕ). s .done ++ r) end-left ∙ sym (append-assoc (s .done) last (stretches p false (n + 1) (n + 1 - (n + 1))));
-    written = put .written ∙ more-written p n writing out₀ out (n + 1) k recs s last;
+    written = put .written ∙ more-written s last;
     members = s .members;
     near = s .near;
   }

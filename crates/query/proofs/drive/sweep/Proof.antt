@@ -1,17 +1,18 @@
 -- The loop keeps the sweep of every tree that the codes read as; behind the last step the open stretch is closed.
 use mathlib.Core.Path.{_≡_, sym, _∙_}
-use Prim.Native.Nat.{_+_, _-_, _≤_}
+use Prim.Native.Nat.{ℕ, _+_, _-_, _≤_, _<_}
 use native.Mathlib.Omega.{arith}
+use mathlib.Core.Bool.{Bool, false}
 use lib.ListN.{length}
-use Rattle.list.proofs.SweepLaws.{Swept, swept-start, swept-count, swept-length}
+use Rattle.list.proofs.SweepLaws.{Swept, swept-start, swept-count, swept-length, swept-cells-few, swept-records-few}
 use Rattle.index.proofs.SoundLaws.{sound-trailer}
 use Rattle.question.specs.Grammar.{Tree}
 use Rattle.window.specs.Flips.{odd}
 use borrow.Author.Needs.{needs}
 use Rattle.slots.specs.Slots.{slotHas}
 use Rattle.evaluate.specs.Senses.{Sensed}
-use Rattle.query.specs.Drive.{TreeOf, testOf}
-use Rattle.window.proofs.StepLaws.{swept-few, swept-counted, step-room, swept-step, close-room, swept-close}
+use Rattle.query.specs.Drive.{TreeOf, testOf, Fits}
+use Rattle.window.proofs.StepLaws.{step-room, swept-step, close-room, swept-close}
 use Rattle.query.proofs.DriveLaws.{test-above, swept-tallied}
 use Rattle.query.proofs.drive.sweep.Statement.{statement}
 use Rattle.query.proofs.drive.sweep.Tie as tie
@@ -25,6 +26,27 @@ Inv-loop codes index entries slots n hints₀ senses₀ ws₀ writing out₀ at�
 abbrev μ-loop : tie.MeasureT-loop
 μ-loop codes index entries slots n hints₀ senses₀ ws₀ writing out₀ at₀ hints senses ws out at = n + 1 - at .x
 
+abbrev In-loop : Type 0
+In-loop = tie.At-loop Inv-loop μ-loop
+
+-- what the sweep was asked, and how far it is with the tree whose list has room
+abbrev asked : In-loop → tie.Start Inv-loop μ-loop
+asked c = c .before .before .before .before .before .before .before .before
+
+abbrev fit : (c : In-loop) → let a = asked c .args in Fits (a .codes .now) (a .index .now) (a .entries .now) (a .n) (a .writing) (a .out .now)
+fit c = asked c .pre .1 .1
+
+abbrev test : In-loop → Tree → ℕ → Bool
+test c t = let a = asked c .args in testOf (a .index .now) (a .entries .now) t
+
+swept : (c : In-loop) → let a = asked c .args in let l = c .loop in
+    Swept (test c (fit c .tree)) (a .n) (a .writing) (a .out .now) (l .out) (odd (l .at .cells)) (l .at .x) (l .at .cells) (l .at .records)
+swept c = c .loop .inv .6 (fit c .tree) (fit c .reads)
+
+-- no record above the highest satisfies a tree
+above : (c : In-loop) (t : Tree) (y : ℕ) → asked c .args .n < y → test c t y ≡ false
+above c t y h = let a = asked c .args in let lent = asked c .pre .0 in test-above (a .index .now) (a .entries .now) (lent .0 .sound) t y (omega (arith, lent .2))
+
 loop-holds : tie.Need-loop-holds Inv-loop μ-loop
 loop-holds c =
     let start = c .before .before .before .before .before .before .before in
@@ -35,17 +57,12 @@ loop-holds c =
 
 step-requires : tie.Need-step-requires Inv-loop μ-loop
 step-requires c κs =
-    let start = c .before .before .before .before .before .before .before .before .before .before .before .before .before .before in
-    let a = start .args in
-    let lent = start .pre .0 in
-    let slotted = start .pre .1 .0 in
-    let fit = start .pre .1 .1 in
-    let l = c .before .before .before .before .before .before .loop in
-    let inv = l .inv in
-    let swept = inv .6 (fit .tree) (fit .reads) in
-    let p = testOf (a .index .now) (a .entries .now) (fit .tree) in
+    let here = c .before .before .before .before .before .before in
+    let lent = asked here .pre .0 in
+    let slotted = asked here .pre .1 .0 in
+    let inv = here .loop .inv in
     let more = c .before .before .before .before .if1 .taken in
-    let near = sound-trailer (a .index .now) (lent .0 .sound) .highest-bound in (
+    let near = sound-trailer (asked here .args .index .now) (lent .0 .sound) .highest-bound in (
       (record { sound = lent .0 .sound; entries-long = lent .0 .entries-long; hints-long = inv .0 }, inv .1),
       (
         record { long = inv .4; few = slotted .few; all = slotted .all; sensed = inv .5 },
@@ -53,17 +70,16 @@ step-requires c κs =
           record {
             some = inv .2;
             most = inv .3;
-            begun = swept .near .0;
+            begun = swept here .near .0;
             more = omega arith;
             near = omega (arith, lent .2);
-            few = swept-few p (a .n) (a .writing) (a .out .now) _ (l .at .x) (l .at .cells) (l .at .records) swept;
-            counted = swept-counted p (a .n) (a .writing) (a .out .now) _ (l .at .x) (l .at .cells) (l .at .records) swept;
+            few = swept-cells-few (swept here);
+            counted = swept-records-few (swept here);
           },
           record {
-            tree = fit .tree;
-            reads = fit .reads;
-            room = λ w m h. step-room p (a .n) (a .writing) (a .out .now) _ (l .at .x) (l .at .cells) (l .at .records) swept
-                (λ y g. test-above (a .index .now) (a .entries .now) (lent .0 .sound) (fit .tree) y (omega (arith, lent .2))) m h (omega arith) w (fit .room w);
+            tree = fit here .tree;
+            reads = fit here .reads;
+            room = λ w m h. step-room (swept here) (above here (fit here .tree)) m h (omega arith) w (fit here .room w);
           },
         ),
       ),
@@ -71,102 +87,61 @@ step-requires c κs =
 
 loop-less : tie.Need-loop-less Inv-loop μ-loop
 loop-less c =
-    let start = c .before .before .before .before .before .before .before .before .before .before .before .before .before .before .before .before .before .before .before .before .before .before .before in
-    let a = start .args in
-    let lent = start .pre .0 in
-    let fit = start .pre .1 .1 in
-    let l = c .before .before .before .before .before .before .before .before .before .before .before .before .before .before .before .loop in
-    let inv = l .inv in
-    let swept = inv .6 (fit .tree) (fit .reads) in
+    let here = c .before .before .before .before .before .before .before .before .before .before .before .before .before .before .before in
     let more = c .before .before .before .before .before .before .before .before .before .before .before .before .before .if1 .taken in
-    let moved = c .before .before .before .before .before .before .before .before .step .ensures .1 .1 .1 (fit .tree) (fit .reads) in
-    omega (arith, moved .to, moved .some, swept .near)
+    let moved = c .before .before .before .before .before .before .before .before .step .ensures .1 .1 .1 (fit here .tree) (fit here .reads) in
+    omega (arith, moved .to, moved .some, swept here .near)
 
 loop-again : tie.Need-loop-again Inv-loop μ-loop
 loop-again c =
-    let start = c .before .before .before .before .before .before .before .before .before .before .before .before .before .before .before .before .before .before .before .before .before .before .before in
-    let a = start .args in
-    let lent = start .pre .0 in
-    let fit = start .pre .1 .1 in
-    let l = c .before .before .before .before .before .before .before .before .before .before .before .before .before .before .before .loop in
-    let inv = l .inv in
-    let swept = inv .6 (fit .tree) (fit .reads) in
+    let here = c .before .before .before .before .before .before .before .before .before .before .before .before .before .before .before in
+    let inv = here .loop .inv in
     let more = c .before .before .before .before .before .before .before .before .before .before .before .before .before .if1 .taken in
-    let kept = c .before .before .before .before .before .before .before .before .step .ensures .0 in
-    let senses = c .before .before .before .before .before .before .before .before .step .ensures .1 .0 in
-    let words = c .before .before .before .before .before .before .before .before .step .ensures .1 .1 .0 in (
-      kept .hints-long ∙ inv .0,
-      kept .ws-long ∙ inv .1,
-      words .0,
-      words .1,
-      senses .0 ∙ inv .4,
-      senses .1,
-      λ t o. let moved = c .before .before .before .before .before .before .before .before .step .ensures .1 .1 .1 t o in
-          rw (moved .to)
-          (swept-step (testOf (a .index .now) (a .entries .now) t) (a .n) (a .writing) (a .out .now) _ (l .at .x) (l .at .cells) (l .at .records) (inv .6 t o)
-          (λ y g. test-above (a .index .now) (a .entries .now) (lent .0 .sound) t y (omega (arith, lent .2))) (moved .far) (moved .some) (omega arith) _ _ _ (moved .step)),
+    let e = c .before .before .before .before .before .before .before .before .step .ensures in (
+      e .0 .hints-long ∙ inv .0,
+      e .0 .ws-long ∙ inv .1,
+      e .1 .1 .0 .0,
+      e .1 .1 .0 .1,
+      e .1 .0 .0 ∙ inv .4,
+      e .1 .0 .1,
+      λ t o. let moved = e .1 .1 .1 t o in rw (moved .to) (swept-step (inv .6 t o) (above here t) (moved .far) (moved .some) (omega arith) (moved .step)),
     )
 
 put-turn-requires : tie.Need-put-turn-requires Inv-loop μ-loop
 put-turn-requires c κs =
     let start = c .before .before .before .before .before .before .before .before .before .before .before in
-    let a = start .args in
-    let lent = start .pre .0 in
-    let fit = start .pre .1 .1 in
     let l = c .before .before .before .loop in
-    let inv = l .inv in
-    let swept = inv .6 (fit .tree) (fit .reads) in
-    let p = testOf (a .index .now) (a .entries .now) (fit .tree) in
+    let fits = start .pre .1 .1 in
+    let done = l .inv .6 (fits .tree) (fits .reads) in
     let over = c .before .if1 .left in
-    let few = swept-few p (a .n) (a .writing) (a .out .now) _ (l .at .x) (l .at .cells) (l .at .records) swept in
-    let e : l .at .x ≡ a .n + 1 = omega (arith, swept .near) in
-    (swept .near .0, omega arith, λ w. rw e (close-room p (a .n) (a .writing) (a .out .now) _ (l .at .cells) (l .at .records) (rw e at swept) w (fit .room w)))
-
-same-length : tie.Need-same-length Inv-loop μ-loop
-same-length c = c .before .before .before .before .before .before .loop .inv .0 ∙ sym (c .before .before .before .before .before .before .before .before .before .before .before .before .before .before .pre .0 .0 .hints-long)
-
-same-length-2 : tie.Need-same-length-2 Inv-loop μ-loop
-same-length-2 c = c .before .before .before .before .before .before .loop .inv .4 ∙ sym (c .before .before .before .before .before .before .before .before .before .before .before .before .before .before .pre .1 .0 .long)
-
-same-length-3 : tie.Need-same-length-3 Inv-loop μ-loop
-same-length-3 c = c .before .before .before .before .before .before .loop .inv .1 ∙ sym (c .before .before .before .before .before .before .before .before .before .before .before .before .before .before .pre .0 .1)
-
-same-length-4 : tie.Need-same-length-4 Inv-loop μ-loop
-same-length-4 c =
-    let start = c .before .before .before .before .before .before .before .before .before .before .before .before .before .before in
-    let a = start .args in
-    let lent = start .pre .0 in
-    let fit = start .pre .1 .1 in
-    let l = c .before .before .before .before .before .before .loop in
-    let inv = l .inv in
-    let swept = inv .6 (fit .tree) (fit .reads) in
-    let same = swept-length swept in
-    search needs
+    let few = swept-cells-few done in
+    let e : l .at .x ≡ start .args .n + 1 = omega (arith, done .near) in
+    (done .near .0, omega arith, λ w. rw e (close-room (rw e at done) w (fits .room w)))
 
 returns : tie.Need-returns Inv-loop μ-loop
 returns c t o =
     let start = c .before .before .before .before .before .before .before .before .before .before .before .before .before .before in
     let a = start .args in
-    let lent = start .pre .0 in
-    let fit = start .pre .1 .1 in
     let l = c .before .before .before .before .before .before .loop in
-    let inv = l .inv in
-    let swept = inv .6 (fit .tree) (fit .reads) in
-    let p = testOf (a .index .now) (a .entries .now) (fit .tree) in
-    let q = testOf (a .index .now) (a .entries .now) t in
+    let fits = start .pre .1 .1 in
+    let done = l .inv .6 (fits .tree) (fits .reads) in
     let over = c .before .before .before .before .if1 .left in
     let put = c .before .before .put-turn .ensures in
-    let e : l .at .x ≡ a .n + 1 = omega (arith, swept .near) in
+    let e : l .at .x ≡ a .n + 1 = omega (arith, done .near) in
     let last = rw e at put in
-    let mine = swept-close p (a .n) (a .writing) (a .out .now) _ (l .at .cells) (l .at .records) (rw e at swept) _ _ last in
-    let yours = swept-close q (a .n) (a .writing) (a .out .now) _ (l .at .cells) (l .at .records) (rw e at (inv .6 t o)) _ _ last in
-    let m = swept-count p (a .n) (a .writing) (a .out .now) _ _ (l .at .records) mine in
-    let y = swept-count q (a .n) (a .writing) (a .out .now) _ _ (l .at .records) yours in
-    swept-tallied q (a .n) (a .writing) (a .out .now) _ _ (l .at .records) yours (λ w. let room = fit .room w in omega arith)
+    let mine = swept-close (rw e at done) last in
+    let yours = swept-close (rw e at (l .inv .6 t o)) last in
+    let m = swept-count (testOf (a .index .now) (a .entries .now) (fits .tree)) (a .n) (a .writing) (a .out .now) _ _ (l .at .records) mine in
+    let y = swept-count (testOf (a .index .now) (a .entries .now) t) (a .n) (a .writing) (a .out .now) _ _ (l .at .records) yours in
+    swept-tallied yours (λ w. let room = fits .room w in omega arith)
 
 pub sweep-spec : {M : Type 1} → statement M
 sweep-spec =
     tie.close
     (tie.spec
-    Inv-loop μ-loop loop-holds step-requires loop-less loop-again put-turn-requires same-length same-length-2
-    same-length-3 same-length-4 returns)
+    Inv-loop μ-loop loop-holds step-requires loop-less loop-again put-turn-requires
+    (λ c. let here = c .before .before .before .before .before .before in here .loop .inv .0 ∙ sym (asked here .pre .0 .0 .hints-long))
+    (λ c. let here = c .before .before .before .before .before .before in here .loop .inv .4 ∙ sym (asked here .pre .1 .0 .long))
+    (λ c. let here = c .before .before .before .before .before .before in here .loop .inv .1 ∙ sym (asked here .pre .0 .1))
+    (λ c. let same = swept-length (swept (c .before .before .before .before .before .before)) in search needs)
+    returns)
