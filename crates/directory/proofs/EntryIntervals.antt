@@ -27,11 +27,10 @@ module _ (index : List ℕ) (s : Sound index) (i : ℕ) (h : i < wordCount index
   pub entry-intervals : intervals (listOf index i) ≡ length (singlesOf index i) / 4 + length (lowerOf index i) / 4
   entry-intervals = let e = entry-walked in omega (arith, numbersIn-length (singlesOf index i), numbersIn-length (lowerOf index i))
 
+  -- as the entry counts them
+  pub entry-counted : intervals (listOf index i) ≡ singleCount index i + pairCount index i
+  entry-counted = let e = entry-intervals in omega (arith, singles-length index s i h, lower-length index s i h)
+
   -- four bytes an interval at least
   pub entry-few : intervals (listOf index i) ≤ 4194304
-  entry-few =
-      few (listStart index i) (singleCount index i) (pairCount index i) (length index) (intervals (listOf index i)) (length (singlesOf index i)) (length (lowerOf index i))
-      (sound-list-room index s i h) (sound-length index s .1) (singles-length index s i h) (lower-length index s i h) entry-intervals
-    where
-      few : (x a b size n l m : ℕ) → x + 4 * a + 8 * b ≤ size → size ≤ 16777216 → l ≡ 4 * a → m ≡ 4 * b → n ≡ l / 4 + m / 4 → n ≤ 4194304
-      few x a b size n l m r z e f g = omega arith
+  entry-few = let e = entry-counted in let l = sound-length index s .1 in omega (arith, sound-list-room index s i h)

@@ -66,5 +66,6 @@ pub fn interval_count(index: &[u8], i: usize) -> usize
     requires { ⌜ Sound (now index) × (i < wordCount (now index)) ⌝ }
     ensures { λ r. ⌜ (r ≡ intervals (listOf (now (index .entry)) i)) × (r ≤ 4194304) ⌝ }
 {
-    singles_of(index, i).len() / 4 + lower_of(index, i).len() / 4
+    let entry = sound_entry(index, i);
+    entry.singles + entry.pairs
 }

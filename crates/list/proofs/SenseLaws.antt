@@ -66,6 +66,13 @@ end-is xs i h = rw (le-ltb i (length xs) h)
 pub number-inside : (xs : List ℕ) (i x : ℕ) → numberOrEnd xs i ≤ x → x ≤ top → i < length xs
 number-inside xs i x h m = leb-cases (length xs) i (λ g. absurd (let e = end-is xs i g in omega arith)) (λ g. g)
 
+-- so where r is what is next and not past x, it stands in the region
+pub number-found : (xs : List ℕ) (i x r : ℕ) → r ≡ numberOrEnd xs i → r ≤ x → x ≤ top → (i < length xs) × (getD xs i 0 ≤ x)
+number-found xs i x r e h m =
+    let g = number-inside xs i x (omega arith) m in
+    let v = number-is xs i g in
+    (g, omega arith)
+
 end-near : (xs : List ℕ) (i : ℕ) → ((j : ℕ) → j < length xs → getD xs j 0 ≤ top) → numberOrEnd xs i ≤ top + 1
 end-near xs i f =
     leb-cases (length xs) i (λ h. let e = end-is xs i h in omega arith) (λ h. let e = number-is xs i h in let g = f i h in omega arith)

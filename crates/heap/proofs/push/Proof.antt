@@ -13,12 +13,6 @@ Inv-loop heap₀ size x i₀ heap i = GoingUp size x heap₀ heap i
 abbrev μ-loop : tie.MeasureT-loop
 μ-loop heap₀ size x i₀ heap i = i
 
-loop-holds : tie.Need-loop-holds Inv-loop μ-loop
-loop-holds c = up-start (c .args .size) (c .args .x) (now (c .args .heap)) (c .pre .0) (c .pre .1)
-
-same-length : tie.Need-same-length Inv-loop μ-loop
-same-length c = simp length-set (c .before .before .before .loop .inv .room)
-
 returns : tie.Need-returns Inv-loop μ-loop
 returns c =
     let at = c .before .before .before in
@@ -31,9 +25,6 @@ loop-again c =
     let a = at .before .args in
     up-step (a .size) (a .x) (now (a .heap)) (omega arith) (at .loop .heap) (at .loop .i) (at .loop .inv) (omega arith) (c .if1 .left)
 
-same-length-2 : tie.Need-same-length-2 Inv-loop μ-loop
-same-length-2 c = simp length-set (c .before .loop .inv .room)
-
 returns-2 : tie.Need-returns-2 Inv-loop μ-loop
 returns-2 c =
     let at = c .before in
@@ -44,6 +35,6 @@ pub push-spec : {M : Type 1} → statement M
 push-spec =
     tie.close
     (tie.spec
-    Inv-loop μ-loop loop-holds (λ c. search needs) (λ c. search needs) (λ c. search needs) (λ c. search needs)
-    (λ c. search needs) same-length returns (λ c. search needs) (λ c. search needs) (λ c. search needs) loop-again
-    (λ c. search needs) (λ c. search needs) same-length-2 returns-2)
+    Inv-loop μ-loop (λ c. up-start (c .args .size) (c .args .x) (now (c .args .heap)) (c .pre .0) (c .pre .1)) (λ c. search needs) (λ c. search needs) (λ c. search needs) (λ c. search needs)
+    (λ c. search needs) (λ c. simp length-set (c .before .before .before .loop .inv .room)) returns (λ c. search needs) (λ c. search needs) (λ c. search needs) loop-again
+    (λ c. search needs) (λ c. search needs) (λ c. simp length-set (c .before .loop .inv .room)) returns-2)

@@ -19,9 +19,6 @@ loop-holds c =
     let a = c .before .args in
     down-start (a .size) (a .x) (now (a .heap)) (c .before .pre .1) (c .before .pre .0) (c .before .pre .2)
 
-same-length : tie.Need-same-length Inv-loop μ-loop
-same-length c = simp length-set (c .before .before .before .before .before .loop .inv .room)
-
 returns : tie.Need-returns Inv-loop μ-loop
 returns c =
     let at = c .before .before .before .before .before in
@@ -36,9 +33,6 @@ loop-again c =
     let called = c .before .before .lesser-below in
     down-step (a .size) (a .x) (now (a .heap)) (omega arith) (at .loop .heap) (at .loop .i) (called .result) (at .loop .inv) (called .ensures) (c .if1 .left)
 
-same-length-2 : tie.Need-same-length-2 Inv-loop μ-loop
-same-length-2 c = simp length-set (c .before .loop .inv .room)
-
 returns-2 : tie.Need-returns-2 Inv-loop μ-loop
 returns-2 c =
     let at = c .before in
@@ -50,5 +44,5 @@ replace-least-spec =
     tie.close
     (tie.spec
     Inv-loop μ-loop loop-holds (λ c. search needs) (λ c. search needs) (λ c κs. search needs) (λ c. search needs)
-    (λ c. search needs) (λ c. search needs) (λ c. search needs) same-length returns (λ c. search needs)
-    (λ c. search needs) (λ c. search needs) loop-again (λ c. search needs) (λ c. search needs) same-length-2 returns-2)
+    (λ c. search needs) (λ c. search needs) (λ c. search needs) (λ c. simp length-set (c .before .before .before .before .before .loop .inv .room)) returns (λ c. search needs)
+    (λ c. search needs) (λ c. search needs) loop-again (λ c. search needs) (λ c. search needs) (λ c. simp length-set (c .before .loop .inv .room)) returns-2)

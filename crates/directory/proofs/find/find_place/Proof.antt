@@ -16,9 +16,6 @@ Inv-loop index word low₀ high₀ low high = (low ≤ placeOf index word) × (p
 abbrev μ-loop : tie.MeasureT-loop
 μ-loop index word low₀ high₀ low high = high - low
 
-word-count-requires : tie.Need-word-count-requires Inv-loop μ-loop
-word-count-requires c κs = c .before .before .pre
-
 loop-holds : tie.Need-loop-holds Inv-loop μ-loop
 loop-holds c =
     let start = c .before .before .before in
@@ -55,5 +52,5 @@ pub find-place-spec : {M : Type 1} → statement M
 find-place-spec =
     tie.close
     (tie.spec
-    Inv-loop μ-loop word-count-requires loop-holds (λ c. search needs) (λ c. search needs) stands-before-requires
+    Inv-loop μ-loop (λ c κs. c .before .before .pre) loop-holds (λ c. search needs) (λ c. search needs) stands-before-requires
     (λ c. search needs) (λ c. search needs) loop-again (λ c. search needs) loop-again-2 (λ c. search needs))

@@ -1,10 +1,8 @@
 -- A list has an interval for each single and for each pair.
-use mathlib.Core.Path.{ap}
 use native.Mathlib.Omega.{arith}
 use denote.Ref.{now}
-use lib.ListN.{length}
 use borrow.Author.Needs.{needs}
-use Rattle.directory.proofs.EntryIntervals.{entry-intervals, entry-few}
+use Rattle.directory.proofs.EntryIntervals.{entry-counted, entry-few}
 use Rattle.directory.proofs.parts.interval_count.Statement.{statement}
 use Rattle.directory.proofs.parts.interval_count.Tie as tie
 
@@ -14,11 +12,12 @@ returns c =
     let index = now (start .args .index) in
     let i = start .args .i in
     let pre = start .pre in
-    let s = ap length (c .before .singles-of .ensures) in
-    let l = ap length (c .lower-of .ensures) in
-    let e = entry-intervals index (pre .0) i (pre .1) in
+    let e = c .before .sound-entry .ensures .0 in
+    let s = e .singles in
+    let p = e .pairs in
+    let n = entry-counted index (pre .0) i (pre .1) in
     let f = entry-few index (pre .0) i (pre .1) in
     (omega arith, omega arith)
 
 pub interval-count-spec : {M : Type 1} → statement M
-interval-count-spec = tie.close (tie.spec (λ c κs. search needs) (λ c κs. search needs) (λ c. search needs) returns)
+interval-count-spec = tie.close (tie.spec (λ c κs. search needs) (λ c. search needs) returns)

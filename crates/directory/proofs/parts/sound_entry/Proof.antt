@@ -4,9 +4,6 @@ use Rattle.index.proofs.FrameLaws.{framed}
 use Rattle.directory.proofs.parts.sound_entry.Statement.{statement}
 use Rattle.directory.proofs.parts.sound_entry.Tie as tie
 
-read-trailer-requires : tie.Need-read-trailer-requires
-read-trailer-requires c κs = sound-length (c .before .args .index .now) (c .before .pre .0) .0
-
 entry-at-requires : tie.Need-entry-at-requires
 entry-at-requires c κs =
     let index = c .before .before .args .index .now in
@@ -27,4 +24,4 @@ returns c =
     )
 
 pub sound-entry-spec : {M : Type 1} → statement M
-sound-entry-spec = tie.close (tie.spec read-trailer-requires entry-at-requires returns)
+sound-entry-spec = tie.close (tie.spec (λ c κs. sound-length (c .before .args .index .now) (c .before .pre .0) .0) entry-at-requires returns)

@@ -12,9 +12,6 @@ use Rattle.index.proofs.FrameLaws.{trailer-highest, trailer-count, trai
 use Rattle.index.proofs.check.trailer_good.Statement.{statement}
 use Rattle.index.proofs.check.trailer_good.Tie as tie
 
-returns : tie.Need-returns
-returns c = sym (ap not (trailer-highest (now (c .before .before .before .args .index)) (omega arith)))
-
 returns-2 : tie.Need-returns-2
 returns-2 c = sym (ap not (trailer-count (now (c .before .before .before .before .before .args .index)) (omega arith) (omega arith)))
 
@@ -33,4 +30,4 @@ pub trailer-good-spec : {M : Type 1} → statement M
 trailer-good-spec =
     tie.close
     (tie.spec
-    returns returns-2 returns-3 (λ c κs. search needs) (λ c. search needs) returns-4)
+    (λ c. sym (ap not (trailer-highest (now (c .before .before .before .args .index)) (omega arith)))) returns-2 returns-3 (λ c κs. search needs) (λ c. search needs) returns-4)

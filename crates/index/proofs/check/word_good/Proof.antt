@@ -7,9 +7,6 @@ use borrow.Author.Needs.{needs}
 use Rattle.index.proofs.check.word_good.Statement.{statement}
 use Rattle.index.proofs.check.word_good.Tie as tie
 
-returns : tie.Need-returns
-returns c = rw (sym (c .before .is-word .ensures) ∙ not-true _ (c .if1 .taken))
-
 returns-2 : tie.Need-returns-2
 returns-2 c =
     let start = c .before .before .before .before .before .before .before in
@@ -38,5 +35,5 @@ pub word-good-spec : {M : Type 1} → statement M
 word-good-spec =
     tie.close
     (tie.spec
-    (λ c κs. search needs) returns (λ c κs. search needs) (λ c. search needs) (λ c. search needs) (λ c. search needs)
+    (λ c κs. search needs) (λ c. rw (sym (c .before .is-word .ensures) ∙ not-true _ (c .if1 .taken))) (λ c κs. search needs) (λ c. search needs) (λ c. search needs) (λ c. search needs)
     returns-2 returns-3 returns-4)

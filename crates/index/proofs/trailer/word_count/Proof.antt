@@ -3,9 +3,6 @@ use Rattle.index.proofs.SoundLaws.{sound-length, sound-trailer}
 use Rattle.index.proofs.trailer.word_count.Statement.{statement}
 use Rattle.index.proofs.trailer.word_count.Tie as tie
 
-read-trailer-requires : tie.Need-read-trailer-requires
-read-trailer-requires c κs = sound-length (c .before .args .index .now) (c .before .pre) .0
-
 returns : tie.Need-returns
 returns c =
     let index = c .before .before .args .index .now in
@@ -13,4 +10,4 @@ returns c =
     (n, rw n (sound-trailer index (c .before .before .pre) .count-bound))
 
 pub word-count-spec : {M : Type 1} → statement M
-word-count-spec = tie.close (tie.spec read-trailer-requires returns)
+word-count-spec = tie.close (tie.spec (λ c κs. sound-length (c .before .args .index .now) (c .before .pre) .0) returns)

@@ -15,9 +15,6 @@ Inv-loop index entries j x b until₀ k₀ until k = Looked index entries x b un
 abbrev μ-loop : tie.MeasureT-loop
 μ-loop index entries j x b until₀ k₀ until k = length entries - k
 
-add-until : tie.Need-add-until Inv-loop μ-loop
-add-until c = let m = c .before .before .pre .0 .high in omega arith
-
 loop-holds : tie.Need-loop-holds Inv-loop μ-loop
 loop-holds c =
     let start = c .before .before in
@@ -27,9 +24,6 @@ sense-of-requires : tie.Need-sense-of-requires Inv-loop μ-loop
 sense-of-requires c κs =
     let start = c .before .before .before .before in
     (start .pre .0, start .pre .1, c .loop-test .taken)
-
-add-smaller : tie.Need-add-smaller Inv-loop μ-loop
-add-smaller c = let m = c .before .before .before .before .before .before .before .pre .0 .high in omega arith
 
 returns : tie.Need-returns Inv-loop μ-loop
 returns c =
@@ -64,5 +58,5 @@ pub probe-spec : {M : Type 1} → statement M
 probe-spec =
     tie.close
     (tie.spec
-    Inv-loop μ-loop add-until loop-holds sense-of-requires add-smaller (λ c κs. search needs) returns
+    Inv-loop μ-loop (λ c. omega (arith, c .before .before .pre .0 .high)) loop-holds sense-of-requires (λ c. omega (arith, c .before .before .before .before .before .before .before .pre .0 .high)) (λ c κs. search needs) returns
     (λ c κs. search needs) (λ c. search needs) (λ c. search needs) loop-again returns-2)

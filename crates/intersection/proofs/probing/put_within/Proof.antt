@@ -65,12 +65,9 @@ returns c =
     let a = start .args in
     cut-end (inAll (now (a .index)) (now (a .entries))) (a .within .lower) (a .within .upper) (a .writing) (now (a .out)) (a .before) (at .out) (at .tally) (at .piece .«open») (at .piece .lower) (at .x) (at .inv) _ (put .close-piece2 .result) (put .before .before .loop-test .left) (put .close-piece2 .ensures)
 
-same-length : tie.Need-same-length Inv-loop μ-loop
-same-length c = cells-put-long _ _ _ _ _ _ (returns c)
-
 pub put-within-spec : {M : Type 1} → statement M
 put-within-spec =
     tie.close
     (tie.spec
     Inv-loop μ-loop loop-holds probe-requires close-piece-requires (λ c κs. search needs) loop-less loop-again
-    close-piece-requires-2 same-length returns)
+    close-piece-requires-2 (λ c. cells-put-long _ _ _ _ _ _ (returns c)) returns)

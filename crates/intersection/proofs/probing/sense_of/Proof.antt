@@ -16,9 +16,6 @@ returns c =
       same = λ y f g. rw (c .if1 .taken) (w .covers y f (omega arith));
     }
 
-cast-sense-in : tie.Need-cast-sense-in
-cast-sense-in c = omega (arith, c .shared-slice-known3 .given (c .before .before .before .before .args .k))
-
 sense-in-requires : tie.Need-sense-in-requires
 sense-in-requires c κs =
     let start = c .before .before .before .before in
@@ -31,5 +28,5 @@ pub sense-of-spec : {M : Type 1} → statement M
 sense-of-spec =
     tie.close
     (tie.spec
-    (λ c. search needs) returns (λ c. search needs) (λ c. search needs) cast-sense-in sense-in-requires
+    (λ c. search needs) returns (λ c. search needs) (λ c. search needs) (λ c. omega (arith, c .shared-slice-known3 .given (c .before .before .before .before .args .k))) sense-in-requires
     (λ c. search needs))

@@ -15,22 +15,10 @@ Inv-loop index entries best₀ fewest₀ j₀ best fewest j = Best index entries
 abbrev μ-loop : tie.MeasureT-loop
 μ-loop index entries best₀ fewest₀ j₀ best fewest j = length entries - j
 
-shared-slice-read-interval-count : tie.Need-shared-slice-read-interval-count Inv-loop μ-loop
-shared-slice-read-interval-count c = let s = c .before .before .before .pre .some in omega arith
-
-cast-interval-count : tie.Need-cast-interval-count Inv-loop μ-loop
-cast-interval-count c = omega (arith, c .shared-slice-known3 .given 0)
-
-interval-count-requires : tie.Need-interval-count-requires Inv-loop μ-loop
-interval-count-requires c κs = let a = c .before .before .before .pre in (a .sound, a .below 0 (a .some))
-
 loop-holds : tie.Need-loop-holds Inv-loop μ-loop
 loop-holds c =
     let start = c .before .before .before .before in
     best-start (now (start .args .index)) (now (start .args .entries)) (c .interval-count .result) (start .pre .some) (c .interval-count .ensures .0)
-
-cast-interval-count-2 : tie.Need-cast-interval-count-2 Inv-loop μ-loop
-cast-interval-count-2 c = omega (arith, c .shared-slice-known4 .given (c .before .before .loop .j))
 
 interval-count-requires-2 : tie.Need-interval-count-requires-2 Inv-loop μ-loop
 interval-count-requires-2 c κs =
@@ -61,6 +49,6 @@ pub shortest-spec : {M : Type 1} → statement M
 shortest-spec =
     tie.close
     (tie.spec
-    Inv-loop μ-loop shared-slice-read-interval-count cast-interval-count interval-count-requires loop-holds
-    (λ c. search needs) (λ c. search needs) cast-interval-count-2 interval-count-requires-2 (λ c. search needs)
+    Inv-loop μ-loop (λ c. omega (arith, c .before .before .before .pre .some)) (λ c. omega (arith, c .shared-slice-known3 .given 0)) (λ c κs. let a = c .before .before .before .pre in (a .sound, a .below 0 (a .some))) loop-holds
+    (λ c. search needs) (λ c. search needs) (λ c. omega (arith, c .shared-slice-known4 .given (c .before .before .loop .j))) interval-count-requires-2 (λ c. search needs)
     (λ c. search needs) loop-again returns)

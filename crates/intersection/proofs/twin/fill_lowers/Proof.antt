@@ -23,12 +23,6 @@ loop-holds c =
     let begin = c .before .before .before in
     (omega arith, lowers-start (now (begin .args .index)) (now (begin .args .entries)) (λ i. getD (begin .args .t3) i start) (now (begin .args .lowers)), begin .pre .2)
 
-shared-slice-read-next-interval : tie.Need-shared-slice-read-next-interval Inv-loop μ-loop
-shared-slice-read-next-interval c = omega arith
-
-cast-next-interval : tie.Need-cast-next-interval Inv-loop μ-loop
-cast-next-interval c = omega (arith, c .shared-slice-known3 .given (c .before .before .loop .j))
-
 array-copy-out-next-interval : tie.Need-array-copy-out-next-interval Inv-loop μ-loop
 array-copy-out-next-interval c =
     let few = c .before .before .before .before .before .before .pre .0 .few in
@@ -58,12 +52,6 @@ push-requires c κs =
     let i = at .loop .inv in
     let l = i .2 in
     (omega arith, i .1 .heap)
-
-add-j : tie.Need-add-j Inv-loop μ-loop
-add-j c = omega arith
-
-loop-less : tie.Need-loop-less Inv-loop μ-loop
-loop-less c = omega arith
 
 loop-again : tie.Need-loop-again Inv-loop μ-loop
 loop-again c =
@@ -95,6 +83,6 @@ pub fill-lowers-spec : {M : Type 1} → statement M
 fill-lowers-spec =
     tie.close
     (tie.spec
-    Inv-loop μ-loop loop-holds (λ c. search needs) shared-slice-read-next-interval cast-next-interval
-    (λ c. search needs) array-copy-out-next-interval next-interval-requires sub-push push-requires add-j loop-less
+    Inv-loop μ-loop loop-holds (λ c. search needs) (λ c. omega arith) (λ c. omega (arith, c .shared-slice-known3 .given (c .before .before .loop .j)))
+    (λ c. search needs) array-copy-out-next-interval next-interval-requires sub-push push-requires (λ c. omega arith) (λ c. omega arith)
     loop-again same-length returns)

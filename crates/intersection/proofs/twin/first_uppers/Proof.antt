@@ -22,12 +22,6 @@ abbrev μ-loop : tie.MeasureT-loop
 loop-holds : tie.Need-loop-holds Inv-loop μ-loop
 loop-holds c = let pre = c .before .before .before .pre in (omega arith, frontier-start (now (c .before .before .before .args .index)) (now (c .before .before .before .args .entries)) (λ i. start) (now (c .before .before .before .args .uppers)), pre .1)
 
-shared-slice-read-next-interval : tie.Need-shared-slice-read-next-interval Inv-loop μ-loop
-shared-slice-read-next-interval c = omega arith
-
-cast-next-interval : tie.Need-cast-next-interval Inv-loop μ-loop
-cast-next-interval c = omega (arith, c .shared-slice-known3 .given (c .before .before .loop .j))
-
 next-interval-requires : tie.Need-next-interval-requires Inv-loop μ-loop
 next-interval-requires c κs =
     let start = c .before .before .before .before .before .before in
@@ -59,12 +53,6 @@ push-requires c κs =
     let l = i .2 in
     (omega arith, i .1 .heap)
 
-add-j : tie.Need-add-j Inv-loop μ-loop
-add-j c = omega arith
-
-loop-less : tie.Need-loop-less Inv-loop μ-loop
-loop-less c = omega arith
-
 loop-again : tie.Need-loop-again Inv-loop μ-loop
 loop-again c =
     let push = c .before .before in
@@ -94,5 +82,5 @@ pub first-uppers-spec : {M : Type 1} → statement M
 first-uppers-spec =
     tie.close
     (tie.spec
-    Inv-loop μ-loop loop-holds (λ c. search needs) shared-slice-read-next-interval cast-next-interval
-    next-interval-requires key-of-requires push-requires add-j loop-less loop-again same-length returns)
+    Inv-loop μ-loop loop-holds (λ c. search needs) (λ c. omega arith) (λ c. omega (arith, c .shared-slice-known3 .given (c .before .before .loop .j)))
+    next-interval-requires key-of-requires push-requires (λ c. omega arith) (λ c. omega arith) loop-again same-length returns)

@@ -29,9 +29,6 @@ returns c =
     let r = sweep .before .before .if1 .taken in
     listed (joinOf (a .method) (listsOf (now (a .index)) (now (a .entries)))) (now (a .out)) _ _ (omega arith) (sweep .sweep .ensures)
 
-sweep-requires-2 : tie.Need-sweep-requires-2
-sweep-requires-2 c κs = (c .before .before .before .before .before .before .pre, λ w. true-false (sym w))
-
 returns-2 : tie.Need-returns-2
 returns-2 c =
     let count = c .before .before .before .before in
@@ -58,5 +55,5 @@ pub join-asked-spec : {M : Type 1} → statement M
 join-asked-spec =
     tie.close
     (tie.spec
-    (λ c κs. search needs) sweep-requires (λ c. search needs) returns sweep-requires-2 (λ c. search needs) returns-2
+    (λ c κs. search needs) sweep-requires (λ c. search needs) returns (λ c κs. (c .before .before .before .before .before .before .pre, λ w. true-false (sym w))) (λ c. search needs) returns-2
     sweep-requires-3 (λ c. search needs) returns-3)

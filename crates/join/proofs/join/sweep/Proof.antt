@@ -23,9 +23,6 @@ sweep-probing-requires c κs =
     let pre = c .before .before .before .before .before .before .pre in
     rw (c .before .enum-told4 .given .1) at pre
 
-returns : tie.Need-returns
-returns c = rw (c .before .before .before .before .enum-told .given .1) (c .before .before .sweep-scan .ensures)
-
 returns-2 : tie.Need-returns-2
 returns-2 c = rw (c .before .before .before .before .enum-told2 .given .1) (c .before .before .sweep-active .ensures)
 
@@ -40,5 +37,5 @@ sweep-spec =
     tie.close
     (tie.spec
     (λ c. search needs) sweep-scan-requires (λ c. search needs) sweep-active-requires (λ c. search needs)
-    sweep-twin-requires (λ c. search needs) sweep-probing-requires (λ c. search needs) returns (λ c. search needs)
+    sweep-twin-requires (λ c. search needs) sweep-probing-requires (λ c. search needs) (λ c. rw (c .before .before .before .before .enum-told .given .1) (c .before .before .sweep-scan .ensures)) (λ c. search needs)
     returns-2 (λ c. search needs) returns-3 (λ c. search needs) returns-4)

@@ -24,9 +24,6 @@ loop-holds c =
     let args = c .before .before .before .args in
     (omega arith, first-start (badEntryNumber (now (args .index)) (now (args .entries))) (length (now (args .entries))))
 
-cast-if1 : tie.Need-cast-if1 Inv-loop μ-loop
-cast-if1 c = omega (arith, c .shared-slice-known3 .given (c .before .before .loop .i))
-
 returns : tie.Need-returns Inv-loop μ-loop
 returns c =
     let at = c .before .before .before in
@@ -57,5 +54,5 @@ pub first-bad-number-spec : {M : Type 1} → statement M
 first-bad-number-spec =
     tie.close
     (tie.spec
-    Inv-loop μ-loop (λ c κs. search needs) loop-holds (λ c. search needs) (λ c. search needs) cast-if1 returns
+    Inv-loop μ-loop (λ c κs. search needs) loop-holds (λ c. search needs) (λ c. search needs) (λ c. omega (arith, c .shared-slice-known3 .given (c .before .before .loop .i))) returns
     (λ c. search needs) (λ c. search needs) loop-again returns-2)

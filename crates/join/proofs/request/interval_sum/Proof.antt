@@ -18,28 +18,10 @@ Inv-loop index entries sum₀ j₀ sum j =
 abbrev μ-loop : tie.MeasureT-loop
 μ-loop index entries sum₀ j₀ sum j = length entries - j
 
-loop-holds : tie.Need-loop-holds Inv-loop μ-loop
-loop-holds c = (omega arith, omega arith, omega arith)
-
-shared-slice-read-interval-count : tie.Need-shared-slice-read-interval-count Inv-loop μ-loop
-shared-slice-read-interval-count c = omega arith
-
-cast-interval-count : tie.Need-cast-interval-count Inv-loop μ-loop
-cast-interval-count c = omega (arith, c .shared-slice-known3 .given (c .before .before .loop .j))
-
 interval-count-requires : tie.Need-interval-count-requires Inv-loop μ-loop
 interval-count-requires c κs =
     let pre = c .before .before .before .before .before .pre in
     (pre .sound, pre .below (c .before .before .loop .j) (c .before .loop-test .taken))
-
-add-sum : tie.Need-add-sum Inv-loop μ-loop
-add-sum c = let few = c .before .before .before .before .before .before .pre .few in omega arith
-
-add-j : tie.Need-add-j Inv-loop μ-loop
-add-j c = omega arith
-
-loop-less : tie.Need-loop-less Inv-loop μ-loop
-loop-less c = omega arith
 
 loop-again : tie.Need-loop-again Inv-loop μ-loop
 loop-again c =
@@ -64,5 +46,5 @@ pub interval-sum-spec : {M : Type 1} → statement M
 interval-sum-spec =
     tie.close
     (tie.spec
-    Inv-loop μ-loop loop-holds (λ c. search needs) shared-slice-read-interval-count cast-interval-count
-    interval-count-requires add-sum add-j loop-less loop-again returns)
+    Inv-loop μ-loop (λ c. (omega arith, omega arith, omega arith)) (λ c. search needs) (λ c. omega arith) (λ c. omega (arith, c .shared-slice-known3 .given (c .before .before .loop .j)))
+    interval-count-requires (λ c. omega (arith, c .before .before .before .before .before .before .pre .few)) (λ c. omega arith) (λ c. omega arith) loop-again returns)

@@ -5,12 +5,9 @@ use borrow.Author.Needs.{needs}
 use Rattle.list.proofs.hints.keep_hint.Statement.{statement}
 use Rattle.list.proofs.hints.keep_hint.Tie as tie
 
-slice-write-hints-2 : tie.Need-slice-write-hints-2
-slice-write-hints-2 c = let pre = c .before .before .pre in simp length-set (omega arith)
-
 pub keep-hint-spec : {M : Type 1} → statement M
 keep-hint-spec =
     tie.close
     (tie.spec
     (λ c. search needs) (λ c. search needs) (λ c. search needs) (λ c. search needs) (λ c. search needs)
-    (λ c. search needs) slice-write-hints-2 (λ c. search needs) (λ c. search needs))
+    (λ c. search needs) (λ c. let pre = c .before .before .pre in simp length-set (omega arith)) (λ c. search needs) (λ c. search needs))

@@ -1,7 +1,8 @@
 -- The list rule for what is left is the same in each turn, or the turn breaks it.
-use Prim.Native.Nat.{_≤_, _-_, _/_}
+use Prim.Native.Nat.{ℕ, _≤_, _<_, _-_, _/_}
 use mathlib.Core.Path.{_≡_, refl, sym, _∙_}
 use native.Mathlib.Omega.{arith}
+use mathlib.Core.List.{List}
 use lib.ListN.{length}
 use denote.Ref.{now}
 use borrow.Author.Needs.{needs}
@@ -33,80 +34,59 @@ loop-holds c =
     let long = start .pre .0 in
     (refl, omega arith, omega arith, omega arith, omega arith, kept-start _ _ _ _)
 
+-- both bounds of the pair are read
+abbrev Read : Type 0
+Read = tie.After-number-at2 Inv-loop μ-loop
+
+abbrev begin : Read → tie.Start Inv-loop μ-loop
+begin c = c .before .before .before .before .before .before .before .before
+
+abbrev S : Read → List ℕ
+S c = numbersIn (now (begin c .args .singles))
+
+abbrev L : Read → List ℕ
+L c = numbersIn (now (begin c .args .lower))
+
+abbrev U : Read → List ℕ
+U c = numbersIn (now (begin c .args .upper))
+
+long : (c : Read) → length (L c) ≡ length (U c)
+long c = let inv = c .before .before .before .before .loop .inv in omega (arith, inv .1, inv .2)
+
+here : (c : Read) → c .before .before .before .before .loop .q .0 < length (L c)
+here c = let inv = c .before .before .before .before .loop .inv in omega (arith, inv .1, c .before .before .if1 .taken)
+
 returns : tie.Need-returns Inv-loop μ-loop
 returns c =
-    let read = c .before in
-    let at = read .before .before .before .before in
-    let l = at .loop in
-    let inv = l .inv in
-    let test = read .before .before .if1 .taken in
-    let a = at .before .before .before .before .args in
-    let S = numbersIn (now (a .singles)) in
-    let L = numbersIn (now (a .lower)) in
-    let U = numbersIn (now (a .upper)) in
-    let el = read .before .number-at .ensures in
-    let eu = read .number-at2 .ensures in
-    sym (inv .5 ∙ kept-pair-short (a .n) S L U (l .least) (l .p .0) (l .q .0) (omega arith) (inv .3) (omega arith) (omega (arith, c .if2 .taken)))
+    let r = c .before in
+    let l = r .before .before .before .before .loop in
+    sym (l .inv .5 ∙ kept-pair-short (begin r .args .n) (S r) (L r) (U r) (l .least) (l .p .0) (l .q .0) (long r) (l .inv .3) (here r) (omega (arith, r .before .number-at .ensures, r .number-at2 .ensures, c .if2 .taken)))
 
 returns-2 : tie.Need-returns-2 Inv-loop μ-loop
 returns-2 c =
-    let read = c .before .before in
-    let at = read .before .before .before .before in
-    let l = at .loop in
-    let inv = l .inv in
-    let test = read .before .before .if1 .taken in
-    let a = at .before .before .before .before .args in
-    let S = numbersIn (now (a .singles)) in
-    let L = numbersIn (now (a .lower)) in
-    let U = numbersIn (now (a .upper)) in
-    let el = read .before .number-at .ensures in
-    let eu = read .number-at2 .ensures in
-    sym (inv .5 ∙ kept-pair-over (a .n) S L U (l .least) (l .p .0) (l .q .0) (omega arith) (inv .3) (omega arith) (omega (arith, c .if3 .taken)))
+    let r = c .before .before in
+    let l = r .before .before .before .before .loop in
+    sym (l .inv .5 ∙ kept-pair-over (begin r .args .n) (S r) (L r) (U r) (l .least) (l .p .0) (l .q .0) (long r) (l .inv .3) (here r) (omega (arith, r .number-at2 .ensures, c .if3 .taken)))
 
 returns-3 : tie.Need-returns-3 Inv-loop μ-loop
 returns-3 c =
-    let read = c .before .before .before .before .before in
-    let at = read .before .before .before .before in
-    let l = at .loop in
-    let inv = l .inv in
-    let test = read .before .before .if1 .taken in
-    let start = at .before .before .before .before in
-    let a = start .args in
-    let S = numbersIn (now (a .singles)) in
-    let L = numbersIn (now (a .lower)) in
-    let U = numbersIn (now (a .upper)) in
-    let low = read .before .number-at in
-    let high = read .number-at2 in
-    let pass = c .before .before .pass-singles in
-    let lu = c .before .before .before .before .if2 .left in
-    let un = c .before .before .before .if3 .left in
+    let r = c .before .before .before .before .before in
+    let l = r .before .before .before .before .loop in
     sym
-    (inv .5
-    ∙ turn-near (a .n) S L U (start .pre .1) (omega arith) (l .least) (l .p .0) (l .q .0) (inv .3)
-    (low .result) (high .result) (pass .result) (omega arith) (low .ensures) (high .ensures) (omega arith) (omega arith) (pass .ensures) (c .if4 .taken))
+    (l .inv .5
+    ∙ turn-near (begin r .args .n) (S r) (L r) (U r) (begin r .pre .1) (long r) (l .least) (l .p .0) (l .q .0) (l .inv .3)
+    _ _ _ (here r) (r .before .number-at .ensures) (r .number-at2 .ensures) (c .before .before .before .before .if2 .left) (c .before .before .before .if3 .left) (c .before .before .pass-singles .ensures) (c .if4 .taken))
 
 loop-again : tie.Need-loop-again Inv-loop μ-loop
 loop-again c =
-    let passed = c .before .before .before .before in
-    let read = passed .before .before .before in
-    let at = read .before .before .before .before in
-    let l = at .loop in
-    let inv = l .inv in
-    let test = read .before .before .if1 .taken in
-    let start = at .before .before .before .before in
-    let a = start .args in
-    let S = numbersIn (now (a .singles)) in
-    let L = numbersIn (now (a .lower)) in
-    let U = numbersIn (now (a .upper)) in
-    let low = read .before .number-at in
-    let high = read .number-at2 in
-    let pass = passed .pass-singles in
-    let lu = passed .before .before .if2 .left in
-    let un = passed .before .if3 .left in
+    let p = c .before .before .before .before in
+    let r = p .before .before .before in
+    let l = r .before .before .before .before .loop in
     let t =
-    turn-on (a .n) S L U (start .pre .1) (omega arith) (l .least) (l .p .0) (l .q .0) (inv .3)
-    (low .result) (high .result) (pass .result) (omega arith) (low .ensures) (high .ensures) (omega arith) (omega arith) (pass .ensures) (c .before .before .if4 .left) in
-    (inv .0, inv .1, inv .2, t .0, omega arith, inv .5 ∙ t .1)
+    turn-on (begin r .args .n) (S r) (L r) (U r) (begin r .pre .1) (long r) (l .least) (l .p .0) (l .q .0) (l .inv .3)
+    _ _ _ (here r) (r .before .number-at .ensures) (r .number-at2 .ensures) (p .before .before .if2 .left) (p .before .if3 .left) (p .pass-singles .ensures) (c .before .before .if4 .left) in
+    let test = r .before .before .if1 .taken in
+    (l .inv .0, l .inv .1, l .inv .2, t .0, omega arith, l .inv .5 ∙ t .1)
 
 returns-4 : tie.Need-returns-4 Inv-loop μ-loop
 returns-4 c =

@@ -31,11 +31,5 @@ add-t12 c =
     let g = c .before .before .before .before .before .before .before .pre in
     omega arith
 
-returns : tie.Need-returns
-returns c = rw (sym (c .before .before .single-next .ensures) ∙ c .before .if1 .taken)
-
-returns-2 : tie.Need-returns-2
-returns-2 c = rw (sym (c .before .before .single-next .ensures) ∙ c .before .if1 .left)
-
 pub next-place-spec : {M : Type 1} → statement M
-next-place-spec = tie.close (tie.spec (λ c κs. search needs) add-t8 add-t12 returns returns-2)
+next-place-spec = tie.close (tie.spec (λ c κs. search needs) add-t8 add-t12 (λ c. rw (sym (c .before .before .single-next .ensures) ∙ c .before .if1 .taken)) (λ c. rw (sym (c .before .before .single-next .ensures) ∙ c .before .if1 .left)))

@@ -6,8 +6,5 @@ use borrow.Author.Needs.{needs}
 use Rattle.list.proofs.reading.place_of.Statement.{statement}
 use Rattle.list.proofs.reading.place_of.Tie as tie
 
-returns : tie.Need-returns
-returns c = ap₂ placeAt (c .before .seek .ensures) (c .seek2 .ensures)
-
 pub place-of-spec : {M : Type 1} → statement M
-place-of-spec = tie.close (tie.spec (λ c κs. search needs) (λ c κs. search needs) returns)
+place-of-spec = tie.close (tie.spec (λ c κs. search needs) (λ c κs. search needs) (λ c. ap₂ placeAt (c .before .seek .ensures) (c .seek2 .ensures)))

@@ -38,9 +38,6 @@ halve-requires c κs =
     let up = at .before .before .pre .0 in
     ((up, omega arith), (l .inv .0, count-under 0 (a .x) xs up (l .hi) (omega arith) h))
 
-returns : tie.Need-returns Inv-loop μ-loop
-returns c = c .halve .ensures
-
 loop-again : tie.Need-loop-again Inv-loop μ-loop
 loop-again c =
     let at = c .before .before .before .before .before in
@@ -62,13 +59,10 @@ halve-requires-2 c κs =
     let m = count-length (a .x) (numbersIn (now (a .region))) in
     ((at .before .before .pre .0, omega arith), (l .inv .0, omega arith))
 
-returns-2 : tie.Need-returns-2 Inv-loop μ-loop
-returns-2 c = c .halve2 .ensures
-
 pub count-below-spec : {M : Type 1} → statement M
 count-below-spec =
     tie.close
     (tie.spec
-    Inv-loop μ-loop loop-holds (λ c κs. search needs) halve-requires returns (λ c. search needs) (λ c. search needs)
+    Inv-loop μ-loop loop-holds (λ c κs. search needs) halve-requires (λ c. c .halve .ensures) (λ c. search needs) (λ c. search needs)
     (λ c κs. search needs) (λ c. search needs) (λ c κs. search needs) (λ c. search needs) (λ c. search needs) loop-again
-    halve-requires-2 returns-2)
+    halve-requires-2 (λ c. c .halve2 .ensures))

@@ -18,9 +18,6 @@ Inv-loop region lo0 hi0 x lo₀ hi₀ lo hi =
 abbrev μ-loop : tie.MeasureT-loop
 μ-loop region lo0 hi0 x lo₀ hi₀ lo hi = hi - lo
 
-number-at-requires : tie.Need-number-at-requires Inv-loop μ-loop
-number-at-requires c κs = omega arith
-
 loop-again : tie.Need-loop-again Inv-loop μ-loop
 loop-again c =
     let at = c .before .before .before in
@@ -50,5 +47,5 @@ pub halve-spec : {M : Type 1} → statement M
 halve-spec =
     tie.close
     (tie.spec
-    Inv-loop μ-loop (λ c. search needs) (λ c. search needs) (λ c. search needs) number-at-requires (λ c. search needs)
+    Inv-loop μ-loop (λ c. search needs) (λ c. search needs) (λ c. search needs) (λ c κs. omega arith) (λ c. search needs)
     (λ c. search needs) loop-again (λ c. search needs) loop-again-2 (λ c. search needs))

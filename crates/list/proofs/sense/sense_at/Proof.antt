@@ -1,8 +1,9 @@
 -- A single at x, a pair that has begun, or nothing before what is next on either side.
-use Prim.Native.Nat.{ℕ, _-_}
+use Prim.Native.Nat.{ℕ, _-_, _≤_, _<_}
 use mathlib.Core.Path.{_≡_, _∙_, ap}
 use native.Mathlib.Omega.{arith}
-use lib.ListN.{getD}
+use mathlib.Core.List.{List}
+use lib.ListN.{length, getD}
 use denote.Ref.{now}
 use Rattle.list.specs.declared.Place.{Place}
 use Rattle.list.specs.Interval.{top}
@@ -10,99 +11,77 @@ use Rattle.list.specs.Cell.{numbersIn}
 use Rattle.list.specs.Seek.{countBelow}
 use Rattle.list.specs.Sense.{numberOrEnd}
 use Rattle.list.proofs.CellLaws.{numbersIn-length}
-use Rattle.list.proofs.KeptLaws.{kept-facts}
-use Rattle.list.proofs.SenseLaws.{number-is, number-inside, sense-single, sense-pair, sense-none}
+use Rattle.list.proofs.KeptLaws.{Kept, kept-facts}
+use Rattle.list.proofs.SenseLaws.{number-found, sense-single, sense-pair, sense-none}
 use borrow.Author.Needs.{needs}
 use Rattle.list.proofs.sense.sense_at.Statement.{statement}
 use Rattle.list.proofs.sense.sense_at.Tie as tie
 
+abbrev S : tie.Start → List ℕ
+S s = numbersIn (now (s .args .singles))
+
+abbrev L : tie.Start → List ℕ
+L s = numbersIn (now (s .args .lower))
+
+abbrev U : tie.Start → List ℕ
+U s = numbersIn (now (s .args .upper))
+
+facts : (s : tie.Start) → Kept top (S s) (L s) (U s)
+facts s = kept-facts top (S s) (L s) (U s) (s .pre .0)
+
+-- the place of x
+single-place : (s : tie.Start) → s .args .at .p .0 ≡ countBelow (s .args .x) (S s)
+single-place s = ap (λ (w : Place). w .p .0) (s .pre .1)
+
+pair-place : (s : tie.Start) → s .args .at .q .0 ≡ countBelow (s .args .x) (U s)
+pair-place s = ap (λ (w : Place). w .q .0) (s .pre .1)
+
 returns : tie.Need-returns
 returns c =
-    let start = c .before .before .before .before .before .before .before in
-    let a = start .args in
-    let S = numbersIn (now (a .singles)) in
-    let L = numbersIn (now (a .lower)) in
-    let U = numbersIn (now (a .upper)) in
-    let k = kept-facts top S L U (start .pre .0) in
-    let m = start .pre .2 in
-    let ep : a .at .p .0 ≡ countBelow (a .x) S = ap (λ (w : Place). w .p .0) (start .pre .1) in
-    let eq : a .at .q .0 ≡ countBelow (a .x) U = ap (λ (w : Place). w .q .0) (start .pre .1) in
-    let es = c .before .number-or-end .ensures ∙ ap (λ (i : ℕ). numberOrEnd S i) ep in
-    let t = c .if1 .taken in
-    let h = number-inside S (countBelow (a .x) S) (a .x) (omega arith) m in
-    let i = number-is S (countBelow (a .x) S) h in
-    sense-single S L U top (a .x) k (omega arith) h (omega arith)
+    let s = c .before .before .before .before .before .before .before in
+    let f = number-found (S s) (countBelow (s .args .x) (S s)) (s .args .x) _ (c .before .number-or-end .ensures ∙ ap (λ (i : ℕ). numberOrEnd (S s) i) (single-place s)) (c .if1 .taken) (s .pre .2) in
+    sense-single (S s) (L s) (U s) top (s .args .x) (facts s) (omega arith) (f .0) (f .1)
+
+abbrev begin : tie.Then2 → tie.Start
+begin c = c .before .before .before .before .before .before .before .before .before
+
+-- the pair that is next has begun
+begun : (c : tie.Then2) →
+    (countBelow (begin c .args .x) (U (begin c)) < length (L (begin c))) × (getD (L (begin c)) (countBelow (begin c .args .x) (U (begin c))) 0 ≤ begin c .args .x)
+begun c =
+    let s = begin c in
+    number-found (L s) (countBelow (s .args .x) (U s)) (s .args .x) _ (c .before .number-or-end2 .ensures ∙ ap (λ (i : ℕ). numberOrEnd (L s) i) (pair-place s)) (c .if2 .taken) (s .pre .2)
 
 number-at-requires : tie.Need-number-at-requires
 number-at-requires c κs =
-    let start = c .before .before .before .before .before .before .before .before .before in
-    let a = start .args in
-    let S = numbersIn (now (a .singles)) in
-    let L = numbersIn (now (a .lower)) in
-    let U = numbersIn (now (a .upper)) in
-    let k = kept-facts top S L U (start .pre .0) in
-    let m = start .pre .2 in
-    let ep : a .at .p .0 ≡ countBelow (a .x) S = ap (λ (w : Place). w .p .0) (start .pre .1) in
-    let eq : a .at .q .0 ≡ countBelow (a .x) U = ap (λ (w : Place). w .q .0) (start .pre .1) in
-    let el = c .before .number-or-end2 .ensures ∙ ap (λ (i : ℕ). numberOrEnd L i) eq in
-    let t = c .if2 .taken in
-    let h = number-inside L (countBelow (a .x) U) (a .x) (omega arith) m in
-    let long = k .long in
-    let nu = numbersIn-length (now (a .upper)) in
-    omega arith
+    let s = begin c in
+    let h = begun c .0 in
+    let long = facts s .long in
+    omega (arith, pair-place s, numbersIn-length (now (s .args .upper)))
+
+-- its upper bound
+upper : (c : tie.After-number-at) → c .number-at .result ≡ getD (U (begin (c .before))) (countBelow (begin (c .before) .args .x) (U (begin (c .before)))) 0
+upper c = c .number-at .ensures ∙ ap (λ (i : ℕ). getD (U (begin (c .before))) i 0) (pair-place (begin (c .before)))
 
 add-t13 : tie.Need-add-t13
 add-t13 c =
-    let start = c .before .before .before .before .before .before .before .before .before .before in
-    let a = start .args in
-    let S = numbersIn (now (a .singles)) in
-    let L = numbersIn (now (a .lower)) in
-    let U = numbersIn (now (a .upper)) in
-    let k = kept-facts top S L U (start .pre .0) in
-    let m = start .pre .2 in
-    let ep : a .at .p .0 ≡ countBelow (a .x) S = ap (λ (w : Place). w .p .0) (start .pre .1) in
-    let eq : a .at .q .0 ≡ countBelow (a .x) U = ap (λ (w : Place). w .q .0) (start .pre .1) in
-    let el = c .before .before .number-or-end2 .ensures ∙ ap (λ (i : ℕ). numberOrEnd L i) eq in
-    let t = c .before .if2 .taken in
-    let h = number-inside L (countBelow (a .x) U) (a .x) (omega arith) m in
-    let u = k .pair-at (countBelow (a .x) U) h in
-    let e = c .number-at .ensures ∙ ap (λ (i : ℕ). getD U i 0) eq in
-    omega arith
+    let s = begin (c .before) in
+    let u = facts s .pair-at (countBelow (s .args .x) (U s)) (begun (c .before) .0) in
+    omega (arith, upper c)
 
 returns-2 : tie.Need-returns-2
 returns-2 c =
-    let start = c .before .before .before .before .before .before .before .before .before .before in
-    let a = start .args in
-    let S = numbersIn (now (a .singles)) in
-    let L = numbersIn (now (a .lower)) in
-    let U = numbersIn (now (a .upper)) in
-    let k = kept-facts top S L U (start .pre .0) in
-    let m = start .pre .2 in
-    let ep : a .at .p .0 ≡ countBelow (a .x) S = ap (λ (w : Place). w .p .0) (start .pre .1) in
-    let eq : a .at .q .0 ≡ countBelow (a .x) U = ap (λ (w : Place). w .q .0) (start .pre .1) in
-    let el = c .before .before .number-or-end2 .ensures ∙ ap (λ (i : ℕ). numberOrEnd L i) eq in
-    let t = c .before .if2 .taken in
-    let h = number-inside L (countBelow (a .x) U) (a .x) (omega arith) m in
-    let i = number-is L (countBelow (a .x) U) h in
-    rw (c .number-at .ensures ∙ ap (λ (i : ℕ). getD U i 0) eq) (sense-pair S L U top (a .x) k (omega arith) h (omega arith))
+    let s = begin (c .before) in
+    let h = begun (c .before) in
+    rw (upper c) (sense-pair (S s) (L s) (U s) top (s .args .x) (facts s) (omega arith) (h .0) (h .1))
 
 returns-3 : tie.Need-returns-3
 returns-3 c =
-    let start = c .before .before .before .before .before .before .before .before .before .before in
-    let a = start .args in
-    let S = numbersIn (now (a .singles)) in
-    let L = numbersIn (now (a .lower)) in
-    let U = numbersIn (now (a .upper)) in
-    let k = kept-facts top S L U (start .pre .0) in
-    let m = start .pre .2 in
-    let ep : a .at .p .0 ≡ countBelow (a .x) S = ap (λ (w : Place). w .p .0) (start .pre .1) in
-    let eq : a .at .q .0 ≡ countBelow (a .x) U = ap (λ (w : Place). w .q .0) (start .pre .1) in
-    let es = c .before .before .before .before .number-or-end .ensures ∙ ap (λ (i : ℕ). numberOrEnd S i) ep in
-    let el = c .before .before .number-or-end2 .ensures ∙ ap (λ (i : ℕ). numberOrEnd L i) eq in
-    let s = c .before .before .before .before .number-or-end .result in
-    let l = c .before .before .number-or-end2 .result in
+    let s = c .before .before .before .before .before .before .before .before .before .before in
+    let es = c .before .before .before .before .number-or-end .ensures ∙ ap (λ (i : ℕ). numberOrEnd (S s) i) (single-place s) in
+    let el = c .before .before .number-or-end2 .ensures ∙ ap (λ (i : ℕ). numberOrEnd (L s) i) (pair-place s) in
     rw (c .smaller .ensures)
-    (sense-none S L U top (a .x) k s l es el (omega arith) (c .before .before .before .if1 .left) (c .before .if2 .left))
+    (sense-none (S s) (L s) (U s) top (s .args .x) (facts s) _ _ es el (omega arith) (c .before .before .before .if1 .left) (c .before .if2 .left))
 
 pub sense-at-spec : {M : Type 1} → statement M
 sense-at-spec =

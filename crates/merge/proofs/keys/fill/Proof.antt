@@ -23,9 +23,6 @@ loop-holds c =
     let start = c .before .before .before in
     (omega arith, start .pre .1, fill-start (now (start .args .keys)) (dueAt (now (start .args .index)) (now (start .args .entries)) (replicate 16 S.start)))
 
-cast-lower-key : tie.Need-cast-lower-key Inv-loop μ-loop
-cast-lower-key c = omega (arith, c .shared-slice-known3 .given (c .before .before .loop .j))
-
 lower-key-requires : tie.Need-lower-key-requires Inv-loop μ-loop
 lower-key-requires c κs =
     let at = c .before .before in
@@ -61,5 +58,5 @@ pub fill-spec : {M : Type 1} → statement M
 fill-spec =
     tie.close
     (tie.spec
-    Inv-loop μ-loop loop-holds (λ c. search needs) (λ c. search needs) cast-lower-key lower-key-requires
+    Inv-loop μ-loop loop-holds (λ c. search needs) (λ c. search needs) (λ c. omega (arith, c .shared-slice-known3 .given (c .before .before .loop .j))) lower-key-requires
     (λ c κs. search needs) (λ c. search needs) (λ c. search needs) loop-again same-length returns)
