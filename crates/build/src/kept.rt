@@ -9,6 +9,7 @@ ghost use Rattle.build.specs.Written.{keptBytes};
 ghost use Rattle.build.specs.Passes.{KeptOf, laid, laidTo, LaidWithin};
 use crate::cells::put_cell;
 use crate::size::Kept;
+use convert::runs::next_run;
 use refusal::Found;
 
 // Where the next single, the next lower and the next upper bound of a list belong.
@@ -43,31 +44,20 @@ fn put_interval(out: &mut [u8], at: Places, l: u32, u: u32) -> Places
 
 // Writes the list of ascending numbers from byte 0, as it is kept, in one pass; the bytes behind it stay.
 pub fn write_list(out: &mut [u8], numbers: &[u32], kept: Kept)
-    requires { ⌜ (badNumberOf (now numbers) ≡ Found.Nowhere) × KeptOf (now numbers) kept × (length (keptBytes (intervalsOf (now numbers))) ≤ length (now out)) ⌝ }
+    requires good { ⌜ badNumberOf (now numbers) ≡ Found.Nowhere ⌝ }
+    requires counted { ⌜ KeptOf (now numbers) kept ⌝ }
+    requires room { ⌜ length (keptBytes (intervalsOf (now numbers))) ≤ length (now out) ⌝ }
     ensures { λ _. ⌜ now (out .exit) ≡ keptBytes (intervalsOf (now (numbers .entry))) ++ drop (length (keptBytes (intervalsOf (now (numbers .entry))))) (now (out .entry)) ⌝ }
 {
-    if numbers.len() == 0 {
-        return;
-    }
     let mut at = Places {
         single: 0,
         lower: 4 * kept.singles,
         upper: 4 * (kept.singles + kept.pairs),
     };
-    let mut l = numbers[0];
-    let mut u = l;
-    let mut i = 1;
+    let mut i = 0;
     while i < numbers.len() {
-        let x = numbers[i];
-        if x == u + 1 {
-            u = x;
-            i += 1;
-        } else {
-            at = put_interval(out, at, l, u);
-            l = x;
-            u = x;
-            i += 1;
-        }
+        let run = next_run(numbers, i);
+        at = put_interval(out, at, run.lower, run.upper);
+        i = run.next;
     }
-    put_interval(out, at, l, u);
 }

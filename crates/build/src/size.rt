@@ -9,6 +9,7 @@ ghost use Rattle.convert.specs.Convert.{badNumberOf};
 ghost use Rattle.build.specs.Lent.{listsFrom};
 ghost use Rattle.build.specs.Written.{listsBytes};
 ghost use Rattle.build.specs.Passes.{Lists, KeptOf};
+use convert::runs::next_run;
 use refusal::Found;
 
 // How many singles and how many pairs a list has.
@@ -29,35 +30,19 @@ pub fn count_kept(numbers: &[u32]) -> Kept
     requires { ⌜ badNumberOf (now numbers) ≡ Found.Nowhere ⌝ }
     ensures { λ r. ⌜ KeptOf (now (numbers .entry)) r ⌝ }
 {
-    if numbers.len() == 0 {
-        return Kept {
-            singles: 0,
-            pairs: 0,
-        };
-    }
-    let mut l = numbers[0];
-    let mut u = l;
     let mut singles: usize = 0;
     let mut pairs: usize = 0;
-    let mut i = 1;
+    let mut i = 0;
     while i < numbers.len() {
-        let x = numbers[i];
-        if x == u + 1 {
-            u = x;
-            i += 1;
-        } else {
-            let alone = single(l, u);
-            singles += alone;
-            pairs += 1 - alone;
-            l = x;
-            u = x;
-            i += 1;
-        }
+        let run = next_run(numbers, i);
+        let alone = single(run.lower, run.upper);
+        singles += alone;
+        pairs += 1 - alone;
+        i = run.next;
     }
-    let alone = single(l, u);
     Kept {
-        singles: singles + alone,
-        pairs: pairs + (1 - alone),
+        singles: singles,
+        pairs: pairs,
     }
 }
 

@@ -4,7 +4,7 @@ use Prim.Native.Nat.{ℕ, zero, suc, _+_, _≤_, _<_}
 use native.Mathlib.Omega.{arith}
 use native.Mathlib.Numerals.{add-one}
 use mathlib.Core.Bool.{true, false}
-use mathlib.Core.List.{List, []}
+use mathlib.Core.List.{List, [], _∷_}
 use lib.Dec.{leb, ltb}
 use lib.ListN.{length, getD, drop}
 use borrow.Author.Tests.{leb-false, ltb-false, le-leb, lt-leb, lt-ltb, le-ltb}
@@ -66,6 +66,15 @@ ascends-good n xs a =
     first-none-is (badNumber n xs) (length xs)
     (λ i h. let w = ascends-head n (numberBefore xs i) i xs h (ascends-at n xs a i (omega arith)) in
     good-number n xs i (numberBefore xs i) refl (w .0) (w .1))
+
+ascends-from : (n p : ℕ) (xs : List ℕ) → Ascends n p xs → Ascends n 0 xs
+ascends-from n p [] a = tt
+ascends-from n p (x ∷ xs) a = (omega (arith, a .0), a .1, a .2)
+
+-- those from a place on are good too
+pub good-rest : (n : ℕ) (xs : List ℕ) → first (badNumber n xs) (length xs) ≡ Nowhere → (i : ℕ) → i ≤ length xs →
+    first (badNumber n (drop i xs)) (length (drop i xs)) ≡ Nowhere
+good-rest n xs e i h = ascends-good n (drop i xs) (ascends-from n (numberBefore xs i) (drop i xs) (ascends-at n xs (good-ascends n xs e) i h))
 
 -- a number is within the limit
 pub good-number-small : (n : ℕ) (xs : List ℕ) → first (badNumber n xs) (length xs) ≡ Nowhere → (i : ℕ) → i < length xs → getD xs i 0 ≤ n

@@ -11,14 +11,14 @@ use Rattle.laws.proofs.Tests.{leb-cases, leb-both}
 use Rattle.laws.proofs.Lists.{drop-next, drop-none}
 use Rattle.refusal.specs.declared.Found.the-variants.{Nowhere}
 use Rattle.refusal.specs.First.{first}
-use Rattle.list.specs.Interval.{isProper, names, intervals}
+use Rattle.list.specs.Interval.{top, isProper, names, intervals}
 use Rattle.list.specs.Stretches.{cellsOf}
 use Rattle.list.specs.Among.{among}
-use Rattle.convert.specs.Convert.{badNumber}
+use Rattle.convert.specs.Convert.{badNumber, badNumberOf, intervalsOf}
 use Rattle.list.proofs.ProperLaws.{ProperFrom, facts-proper}
 use Rattle.list.proofs.StretchLaws.{is-cells}
 use Rattle.list.proofs.RecordLaws.{Ascends}
-use Rattle.convert.proofs.NumberLaws.{good-ascends}
+use Rattle.convert.proofs.NumberLaws.{good-ascends, ascends-good, good-rest}
 
 -- the cells l, u in front of r, unless the stretch goes on
 abbrev closed : Bool → ℕ → ℕ → List ℕ → List ℕ
@@ -64,19 +64,17 @@ runsFrom-at l u xs i h = rw (drop-next xs i h)
 pub runsFrom-on : (l u : ℕ) (xs : List ℕ) (i : ℕ) → i < length xs → getD xs i 0 ≡ u + 1 → runsFrom l u (drop i xs) ≡ runsFrom l (getD xs i 0) (drop (i + 1) xs)
 runsFrom-on l u xs i h e = runsFrom-at l u xs i h ∙ simp (eq-eqb (getD xs i 0) (u + 1) e)
 
--- the stretch breaks off
-pub runsFrom-off : (l u : ℕ) (xs : List ℕ) (i : ℕ) → i < length xs → (getD xs i 0 ≡ u + 1 → ⊥) →
-    runsFrom l u (drop i xs) ≡ l ∷ u ∷ runsFrom (getD xs i 0) (getD xs i 0) (drop (i + 1) xs)
-runsFrom-off l u xs i h e = runsFrom-at l u xs i h ∙ simp (ne-eqb (getD xs i 0) (u + 1) e)
-
-pub runsFrom-end : (l u : ℕ) (xs : List ℕ) (i : ℕ) → length xs ≤ i → runsFrom l u (drop i xs) ≡ l ∷ u ∷ []
-unfolding runsFrom
-runsFrom-end l u xs i h = rw (drop-none xs i h)
-
-pub runs-start : (xs : List ℕ) → 0 < length xs → runs xs ≡ runsFrom (getD xs 0 0) (getD xs 0 0) (drop 1 xs)
+pub runs-at : (xs : List ℕ) (i : ℕ) → i < length xs → runs (drop i xs) ≡ runsFrom (getD xs i 0) (getD xs i 0) (drop (i + 1) xs)
 unfolding runs
-runs-start [] h = absurd (omega arith)
-runs-start (x ∷ xs) h = refl
+runs-at xs i h = rw (drop-next xs i h)
+
+-- the stretch breaks off
+pub runsFrom-off : (l u : ℕ) (xs : List ℕ) (i : ℕ) → i < length xs → (getD xs i 0 ≡ u + 1 → ⊥) → runsFrom l u (drop i xs) ≡ l ∷ u ∷ runs (drop i xs)
+runsFrom-off l u xs i h e = runsFrom-at l u xs i h ∙ simp (ne-eqb (getD xs i 0) (u + 1) e) (ap (λ (r : List ℕ). l ∷ u ∷ r) (sym (runs-at xs i h)))
+
+pub runsFrom-end : (l u : ℕ) (xs : List ℕ) (i : ℕ) → length xs ≤ i → runsFrom l u (drop i xs) ≡ l ∷ u ∷ runs (drop i xs)
+unfolding runsFrom runs
+runsFrom-end l u xs i h = rw (drop-none xs i h)
 
 pub runs-none : (xs : List ℕ) → length xs ≡ 0 → runs xs ≡ []
 unfolding runs
@@ -95,13 +93,10 @@ unfolding runsFrom breaks
 runsFrom-length l u [] = refl
 runsFrom-length l u (x ∷ xs) = cells-step l u x xs (eqb x (u + 1)) (λ l. runsFrom-length l x xs)
 
-pub runsFrom-two : (l u : ℕ) (xs : List ℕ) → 2 ≤ length (runsFrom l u xs)
-runsFrom-two l u xs = omega (arith, runsFrom-length l u xs)
-
 -- the intervals of the numbers: one, and one for each break
 pub runs-count : (xs : List ℕ) → 0 < length xs → intervals (runs xs) ≡ 1 + breaks (getD xs 0 0) (drop 1 xs)
 runs-count xs h =
-    let e = ap length (runs-start xs h) in
+    let e = ap length (runs-at xs 0 h) in
     omega (arith, runsFrom-length (getD xs 0 0) (getD xs 0 0) (drop 1 xs))
 
 -- ---- the cells are proper. A `where` helper does not see its own function, so the recursive call is handed in
@@ -163,3 +158,17 @@ runs-names (y ∷ ys) x = runsFrom-names y y x ys (omega arith) ∙ rw (leb-both
 -- with no bad number the pass gives the proper list of the numbers
 pub runs-cells : (n : ℕ) (xs : List ℕ) → first (badNumber n xs) (length xs) ≡ Nowhere → runs xs ≡ cellsOf (among xs) n
 runs-cells n xs e = is-cells (among xs) n (runs xs) (runs-proper n xs (good-ascends n xs e)) (λ x h g. runs-names xs x)
+
+pub rest-cells : (xs : List ℕ) → badNumberOf xs ≡ Nowhere → (i : ℕ) → i ≤ length xs → runs (drop i xs) ≡ intervalsOf (drop i xs)
+rest-cells xs e i h = runs-cells top (drop i xs) (good-rest top xs e i h)
+
+-- behind the last number stands no interval
+pub intervals-none : (xs : List ℕ) (i : ℕ) → length xs ≤ i → intervalsOf (drop i xs) ≡ []
+intervals-none xs i h =
+    ap (λ (ys : List ℕ). intervalsOf ys) (drop-none xs i h) ∙ sym (runs-cells top [] (ascends-good top [] tt)) ∙ runs-none [] refl
+
+-- a stretch that ends before place `next`, said of the intervals
+pub run-ended : (xs : List ℕ) (i l u next : ℕ) → badNumberOf xs ≡ Nowhere → i ≤ length xs → next ≤ length xs → runs (drop i xs) ≡ runsFrom l u (drop next xs) →
+    runsFrom l u (drop next xs) ≡ l ∷ u ∷ runs (drop next xs) → intervalsOf (drop i xs) ≡ l ∷ u ∷ intervalsOf (drop next xs)
+run-ended xs i l u next e h g begun ended =
+    sym (rest-cells xs e i h) ∙ begun ∙ ended ∙ ap (λ (r : List ℕ). l ∷ u ∷ r) (rest-cells xs e next g)

@@ -1,5 +1,6 @@
 // Numbers to intervals: a fault is looked for, then room is asked for, and only then is anything written.
 use crate::numbers::first_bad_number;
+use crate::runs::next_run;
 use list::TOP;
 use list::Written;
 use refusal::Found;
@@ -43,32 +44,19 @@ fn count_intervals(listed: &[u32]) -> usize
 
 // Writes the intervals of the numbers from cell 0; the cells behind them stay.
 fn write_intervals(numbers: &[u32], out: &mut [u32])
-    requires { ⌜ (badNumberOf (now numbers) ≡ Found.Nowhere) × (length (intervalsOf (now numbers)) ≤ length (now out)) ⌝ }
+    requires good { ⌜ badNumberOf (now numbers) ≡ Found.Nowhere ⌝ }
+    requires room { ⌜ length (intervalsOf (now numbers)) ≤ length (now out) ⌝ }
     ensures { λ _. ⌜ now (out .exit) ≡ intervalsOf (now (numbers .entry)) ++ drop (length (intervalsOf (now (numbers .entry)))) (now (out .entry)) ⌝ }
 {
-    if numbers.len() == 0 {
-        return;
-    }
-    let mut l = numbers[0];
-    let mut u = l;
     let mut k = 0;
-    let mut i = 1;
+    let mut i = 0;
     while i < numbers.len() {
-        let x = numbers[i];
-        if x == u + 1 {
-            u = x;
-            i += 1;
-        } else {
-            out[k] = l;
-            out[k + 1] = u;
-            k += 2;
-            l = x;
-            u = x;
-            i += 1;
-        }
+        let run = next_run(numbers, i);
+        out[k] = run.lower;
+        out[k + 1] = run.upper;
+        k += 2;
+        i = run.next;
     }
-    out[k] = l;
-    out[k + 1] = u;
 }
 
 // Reference 8.7: refusals 15 and 12, or how many intervals were written.
