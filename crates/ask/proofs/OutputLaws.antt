@@ -20,9 +20,9 @@ use Rattle.index.specs.declared.Checked.the-variants.{Good, Refused}
 use Rattle.index.specs.Sound.{Sound}
 use Rattle.index.proofs.CheckLaws.{good-sound}
 use Rattle.question.specs.Grammar.{fromLeft}
-use Rattle.question.specs.Reading.{Asked, asks, refuses, asked}
+use Rattle.question.specs.Reading.{Parsed, parses, refuses, parsed}
 use Rattle.query.specs.Ask.{satisfying, askAnswer, askCells}
-use Rattle.lines.specs.Line.{shown, lineOf, Written}
+use Rattle.lines.specs.Line.{shown, lineOf, PutFirst}
 use Rattle.lines.proofs.TextLaws.{line-short}
 use Rattle.ask.specs.Output.{fileCheck, AnswersLine, questionLine}
 use Rattle.ask.proofs.TransferLaws.{within-counts}
@@ -38,10 +38,10 @@ listed-within : (c : List ℕ) (room : ℕ) (t : Bool) → leb (intervals c) roo
 listed-within c room true e = omega (arith, leb-true (intervals c) room e)
 listed-within c room false e = omega arith
 
-pub shown-within : (checked : Checked) (index : List ℕ) (a : Asked) (room : ℕ) → shown (askAnswer checked index a room) ≤ 2 * room
+pub shown-within : (checked : Checked) (index : List ℕ) (a : Parsed) (room : ℕ) → shown (askAnswer checked index a room) ≤ 2 * room
 shown-within (Refused r) index a room = omega arith
 shown-within Good index (refuses r) room = omega arith
-shown-within Good index (asks t k) room = listed-within (satisfying index t) room (leb (intervals (satisfying index t)) room) refl
+shown-within Good index (parses t k) room = listed-within (satisfying index t) room (leb (intervals (satisfying index t)) room) refl
 
 -- what stood in the cells before does not show in the line
 listed-same : (number : ℕ) (c : List ℕ) (t : Bool) (out : List ℕ) →
@@ -52,15 +52,15 @@ listed-same number c true out =
     rw (take-append-le (2 * (length c / 2)) c (drop (length c) out) h, take-append-le (2 * (length c / 2)) c (drop (length c) []) h)
 listed-same number c false out = refl
 
-line-same : (number : ℕ) (checked : Checked) (index : List ℕ) (a : Asked) (room : ℕ) (out : List ℕ) →
+line-same : (number : ℕ) (checked : Checked) (index : List ℕ) (a : Parsed) (room : ℕ) (out : List ℕ) →
     lineOf number (askAnswer checked index a room) (askCells checked index a room out) ≡ lineOf number (askAnswer checked index a room) (askCells checked index a room [])
 line-same number (Refused r) index a room out = refl
 line-same number Good index (refuses r) room out = refl
-line-same number Good index (asks t k) room out = listed-same number (satisfying index t) (leb (intervals (satisfying index t)) room) out
+line-same number Good index (parses t k) room out = listed-same number (satisfying index t) (leb (intervals (satisfying index t)) room) out
 
 module _ (index question out out′ : List ℕ) (r : Answer) (p : AnswersLine index question out out′ r) where
   pub answer-within : shown r ≤ length out
-  answer-within = rw (p .answer) (omega (arith, shown-within (fileCheck index) index (asked fromLeft question) (length out / 2)))
+  answer-within = rw (p .answer) (omega (arith, shown-within (fileCheck index) index (parsed fromLeft question) (length out / 2)))
 
   pub line-room : (number : ℕ) → length out′ ≤ 16384 → length (lineOf number r out′) ≤ 344169
   line-room number h = line-short number r out′ h
@@ -68,10 +68,10 @@ module _ (index question out out′ : List ℕ) (r : Answer) (p : AnswersLine in
   pub question-line : (number : ℕ) → length out ≡ 16384 → lineOf number r out′ ≡ questionLine index number question
   question-line number h =
       let room : length out / 2 ≡ 8192 = omega arith in
-      rw (p .answer, p .cells, room) (line-same number (fileCheck index) index (asked fromLeft question) 8192 out)
+      rw (p .answer, p .cells, room) (line-same number (fileCheck index) index (parsed fromLeft question) 8192 out)
 
 -- the bytes of a text that was written are bytes of what it was written into
-pub written-counts : (out text out′ : List ℕ) (r : ℕ) → Written out text out′ r → Counts r out′
+pub written-counts : (out text out′ : List ℕ) (r : ℕ) → PutFirst out text out′ r → Counts r out′
 written-counts out text out′ r w =
     let h : r ≤ length out′ = omega (arith, w .size, ap length (w .bytes), length-append text (drop (length text) out)) in
     within-counts r out′ h

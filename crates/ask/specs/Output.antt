@@ -11,7 +11,7 @@ use Rattle.index.specs.declared.Checked.{Checked}
 use Rattle.index.specs.declared.Checked.the-variants.{Refused}
 use Rattle.index.specs.Check.{checkOf}
 use Rattle.question.specs.Grammar.{fromLeft}
-use Rattle.question.specs.Reading.{asked}
+use Rattle.question.specs.Reading.{parsed}
 use Rattle.query.specs.Ask.{askAnswer, askCells}
 use Rattle.lines.specs.Line.{lineOf}
 
@@ -21,10 +21,10 @@ fileCheck index = cond (ltb 65536 (length index)) (Refused (IndexLength 65537)) 
 
 -- Reference 10: what a question is answered with, where `room` intervals have room in the cells `out`
 abbrev pub answerTo : List ℕ → List ℕ → ℕ → Answer
-answerTo index question room = askAnswer (fileCheck index) index (asked fromLeft question) room
+answerTo index question room = askAnswer (fileCheck index) index (parsed fromLeft question) room
 
 abbrev pub cellsFor : List ℕ → List ℕ → ℕ → List ℕ → List ℕ
-cellsFor index question room out = askCells (fileCheck index) index (asked fromLeft question) room out
+cellsFor index question room out = askCells (fileCheck index) index (parsed fromLeft question) room out
 
 -- Reference 8.6: the promise of a line, that of a question by what was read of the file
 pub record AnswersLine (index question out out′ : List ℕ) (r : Answer) : Type 0 where

@@ -3,7 +3,7 @@ ghost use mathlib.Core.Path.{_≡_};
 ghost use Prim.Native.Nat.{_≤_};
 ghost use lib.ListN.{length};
 ghost use Rattle.io.specs.Counts.{Counts};
-ghost use Rattle.lines.specs.Line.{Written};
+ghost use Rattle.lines.specs.Line.{PutFirst};
 ghost use Rattle.ask.specs.Output.{fileCheck, AnswersLine, questionLine};
 use index::Checked;
 use index::check::check_index;
@@ -47,7 +47,7 @@ pub fn write_answer(
     out: &mut [u8],
 ) -> usize
     requires { ⌜ (checked ≡ fileCheck (now index)) × (length (now cells) ≡ 16384) × (344169 ≤ length (now out)) ⌝ }
-    ensures { λ r. ⌜ Written (now (out .entry)) (questionLine (now (index .entry)) number (now (question .entry))) (now (out .exit)) r ⌝ }
+    ensures { λ r. ⌜ PutFirst (now (out .entry)) (questionLine (now (index .entry)) number (now (question .entry))) (now (out .exit)) r ⌝ }
     ensures { λ r. ⌜ Counts r (now (out .exit)) ⌝ }
 {
     let answer = answer_line(index, checked, question, cells);

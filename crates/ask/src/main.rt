@@ -12,7 +12,7 @@ use lines::split::answered_end;
 use lines::split::is_past;
 use lines::split::line_end;
 use transfer::Reading;
-use transfer::read_whole;
+use transfer::read_file;
 use transfer::write_whole;
 ghost use mathlib.Core.Path.{_≡_};
 ghost use Prim.Native.Nat.{_≤_};
@@ -28,7 +28,7 @@ fn read_index(bytes: &mut [u8]) -> usize
     if fd < 0 {
         return 0;
     }
-    let reading = read_whole(fd, bytes);
+    let reading = read_file(fd, bytes);
     libc::close(fd);
     match reading {
         Reading::Bytes(count) => count,
@@ -94,7 +94,7 @@ fn main() {
     let mut index = [0u8; 65_537];
     let index_size = read_index(&mut index);
     let mut input = [0u8; 65_537];
-    match read_whole(STDIN_FILENO, &mut input) {
+    match read_file(STDIN_FILENO, &mut input) {
         Reading::Failed => os::fail(b"ask: cannot read the questions"),
         Reading::Bytes(size) => {
             if !answer_input(&index[..index_size], &input[..size]) {

@@ -89,7 +89,7 @@ fn read_on(fd: i32, bytes: &mut [u8], done: usize) -> Reading
 }
 
 // Reads until the file ends or the buffer is full.
-pub fn read_whole(fd: i32, bytes: &mut [u8]) -> Reading
+pub fn read_file(fd: i32, bytes: &mut [u8]) -> Reading
     ensures { λ r. ⌜ Counts (readCount r) (now (bytes .exit)) ⌝ }
 {
     let mut done = 0;

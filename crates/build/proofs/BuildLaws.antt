@@ -21,8 +21,8 @@ use Rattle.index.specs.Sound.{Sound}
 use Rattle.index.specs.Check.{checkOf}
 use Rattle.directory.specs.Has.{has}
 use Rattle.index.proofs.SoundLaws.{part-length}
-use Rattle.build.specs.Lent.{wordsOf, sumTo, listsFrom}
-use Rattle.build.specs.Written.{cellsIn}
+use Rattle.build.specs.Lent.{lentWords, sumTo, listsFrom}
+use Rattle.build.specs.Layout.{cellsIn}
 use Rattle.build.specs.Build.{lentOf, sizeAnswer, afterLent, indexFrom, buildOf, Builds}
 use Rattle.build.specs.ReadsBack.{Below, Indexable, recordsFor}
 use Rattle.build.proofs.IndexOfLaws.{built-word-count, built-highest, built-word, built-list, built-sound, built-good, built-below}
@@ -71,10 +71,10 @@ accepted n words counts numbers room size e =
 -- ---- it makes an index
 
 module _ (n : ℕ) (words counts numbers : List ℕ) (size : ℕ) (is : Accepted n words counts numbers size) where
-  pub lent-list : (i : ℕ) → i < length (wordsOf words) → getD (listsFrom counts numbers) i [] ≡ part (sumTo counts i) (getD counts i 0) numbers
+  pub lent-list : (i : ℕ) → i < length (lentWords words) → getD (listsFrom counts numbers) i [] ≡ part (sumTo counts i) (getD counts i 0) numbers
   lent-list i h = lists-at counts numbers i (omega (arith, is .lent .as-many))
 
-  pub accepted-indexable : Indexable n (wordsOf words) (listsFrom counts numbers)
+  pub accepted-indexable : Indexable n (lentWords words) (listsFrom counts numbers)
   accepted-indexable =
       let good = is .lent in
       let m = good .as-many in
@@ -97,7 +97,7 @@ module _ (n : ℕ) (words counts numbers out out′ : List ℕ) (size : ℕ) (do
   build-accepted : Accepted n words counts numbers size
   build-accepted = accepted n words counts numbers (length out) size (sym (done .answer))
 
-  indexable : Indexable n (wordsOf words) (listsFrom counts numbers)
+  indexable : Indexable n (lentWords words) (listsFrom counts numbers)
   indexable = accepted-indexable n words counts numbers size build-accepted
 
   -- the index that was asked for, and behind it what was there
@@ -111,36 +111,36 @@ module _ (n : ℕ) (words counts numbers out out′ : List ℕ) (size : ℕ) (do
   build-rest = rw build-out (drop-at (indexFrom n words counts numbers) (drop size out) size (build-accepted .is-size))
 
   pub build-sound : Sound (take size out′)
-  build-sound = rw build-bytes (built-sound n (wordsOf words) (listsFrom counts numbers) indexable)
+  build-sound = rw build-bytes (built-sound n (lentWords words) (listsFrom counts numbers) indexable)
 
   pub build-good : checkOf (take size out′) ≡ checked.Good
-  build-good = rw build-bytes (built-good n (wordsOf words) (listsFrom counts numbers) indexable)
+  build-good = rw build-bytes (built-good n (lentWords words) (listsFrom counts numbers) indexable)
 
   pub build-highest : highest (take size out′) ≡ n
-  build-highest = rw build-bytes (built-highest n (wordsOf words) (listsFrom counts numbers) indexable)
+  build-highest = rw build-bytes (built-highest n (lentWords words) (listsFrom counts numbers) indexable)
 
-  pub build-word-count : wordCount (take size out′) ≡ length (wordsOf words)
-  build-word-count = rw build-bytes (built-word-count n (wordsOf words) (listsFrom counts numbers) indexable)
+  pub build-word-count : wordCount (take size out′) ≡ length (lentWords words)
+  build-word-count = rw build-bytes (built-word-count n (lentWords words) (listsFrom counts numbers) indexable)
 
-  pub build-word : (i : ℕ) → i < length (wordsOf words) → wordOf (take size out′) i ≡ getD (wordsOf words) i []
-  build-word i h = rw build-bytes (built-word n (wordsOf words) (listsFrom counts numbers) indexable i h)
+  pub build-word : (i : ℕ) → i < length (lentWords words) → wordOf (take size out′) i ≡ getD (lentWords words) i []
+  build-word i h = rw build-bytes (built-word n (lentWords words) (listsFrom counts numbers) indexable i h)
 
-  pub build-list : (i : ℕ) → i < length (wordsOf words) → listOf (take size out′) i ≡ cellsIn n (getD (listsFrom counts numbers) i [])
-  build-list i h = rw build-bytes (built-list n (wordsOf words) (listsFrom counts numbers) indexable i h)
+  pub build-list : (i : ℕ) → i < length (lentWords words) → listOf (take size out′) i ≡ cellsIn n (getD (listsFrom counts numbers) i [])
+  build-list i h = rw build-bytes (built-list n (lentWords words) (listsFrom counts numbers) indexable i h)
 
   -- Reference 8.9: of a word the index has just the records that were given for it
-  pub build-has : (word : List ℕ) (x : ℕ) → has (take size out′) word x ≡ among (recordsFor (wordsOf words) (listsFrom counts numbers) word) x
-  build-has word x = rw build-bytes (reads-back n (wordsOf words) (listsFrom counts numbers) indexable word x)
+  pub build-has : (word : List ℕ) (x : ℕ) → has (take size out′) word x ≡ among (recordsFor (lentWords words) (listsFrom counts numbers) word) x
+  build-has word x = rw build-bytes (reads-back n (lentWords words) (listsFrom counts numbers) indexable word x)
 
   -- word i has the numbers that its count takes
-  pub build-has-word : (i x : ℕ) → i < length (wordsOf words) →
-      has (take size out′) (getD (wordsOf words) i []) x ≡ among (part (sumTo counts i) (getD counts i 0) numbers) x
+  pub build-has-word : (i x : ℕ) → i < length (lentWords words) →
+      has (take size out′) (getD (lentWords words) i []) x ≡ among (part (sumTo counts i) (getD counts i 0) numbers) x
   build-has-word i x h =
       rw build-bytes
       (
-      built-has n (wordsOf words) (listsFrom counts numbers) indexable i x h
+      built-has n (lentWords words) (listsFrom counts numbers) indexable i x h
       ∙ ap (λ (xs : List ℕ). among xs x) (lent-list n words counts numbers size build-accepted i h)
       )
 
   pub build-below : Below 256 (take size out′)
-  build-below = rw build-bytes (built-below n (wordsOf words) (listsFrom counts numbers) indexable)
+  build-below = rw build-bytes (built-below n (lentWords words) (listsFrom counts numbers) indexable)

@@ -9,7 +9,7 @@ use lib.Seq.{take-at, drop-at, getD-drop}
 use Rattle.laws.proofs.Lists.{drop-two}
 use Rattle.list.specs.Cell.{cell, cellAt, numbersIn}
 use Rattle.index.specs.Format.{part}
-use Rattle.build.specs.Written.{cellBytes, cellsBytes}
+use Rattle.build.specs.Layout.{cellBytes, cellsBytes}
 use Rattle.build.specs.ReadsBack.{Below}
 
 -- 2 to the 32: what a cell holds is below it

@@ -22,10 +22,10 @@ use Rattle.list.proofs.WalkLaws.{walked-length}
 use Rattle.list.proofs.KeptLaws.{kept-facts}
 use Rattle.index.specs.Format.{wordCount, highest, wordOf, singlesOf, lowerOf, upperOf, listOf}
 use Rattle.index.specs.Sound.{Sound}
-use Rattle.directory.specs.Has.{has, placeOf}
+use Rattle.directory.specs.Has.{has, wordPlace}
 use Rattle.index.proofs.SoundLaws.{words-step, sound-entry, sound-list, singles-length, lower-length}
 use Rattle.directory.proofs.HasLaws.{has-entry, list-proper, below-down, entry-place, found-place, nowhere-has}
-use Rattle.build.specs.Lent.{wordsOf, listsFrom}
+use Rattle.build.specs.Lent.{lentWords, listsFrom}
 use Rattle.build.specs.Build.{Builds}
 use Rattle.build.specs.ReadsBack.{Below, recordsFor}
 use Rattle.build.proofs.BuildLaws.{build-sound, build-highest, build-has, build-below}
@@ -62,7 +62,7 @@ list-some index s i h =
 module _ (a b : List ℕ) (s : Sound a) (t : Sound b) (agree : (w : List ℕ) (x : ℕ) → has a w x ≡ has b w x) where
   -- where the word of a's entry i stands in b
   abbrev placeIn : ℕ → ℕ
-  placeIn i = placeOf b (wordOf a i)
+  placeIn i = wordPlace b (wordOf a i)
 
   word-there : (i : ℕ) → i < wordCount a → (placeIn i < wordCount b) × (wordOf b (placeIn i) ≡ wordOf a i)
   word-there i h = go (first (λ j. same (wordOf b j) (wordOf a i)) (wordCount b)) refl
@@ -90,12 +90,12 @@ module _ (a b : List ℕ) (s : Sound a) (t : Sound b) (agree : (w : List ℕ) (x
   place-least (suc i) h = omega (arith, place-least i (omega arith), place-rises i h)
 
 module _ (a b : List ℕ) (s : Sound a) (t : Sound b) (agree : (w : List ℕ) (x : ℕ) → has a w x ≡ has b w x) where
-  place-same : (i : ℕ) → i < wordCount a → placeOf b (wordOf a i) ≡ i
+  place-same : (i : ℕ) → i < wordCount a → wordPlace b (wordOf a i) ≡ i
   place-same i h =
       let p = word-there a b s t agree i h in
       let l = place-least a b s t agree i h in
-      let m = place-least b a t s (λ w x. sym (agree w x)) (placeOf b (wordOf a i)) (p .0) in
-      let e : placeOf a (wordOf b (placeOf b (wordOf a i))) ≡ i = ap (placeOf a) (p .1) ∙ entry-place a s (wordOf a i) i h refl in
+      let m = place-least b a t s (λ w x. sym (agree w x)) (wordPlace b (wordOf a i)) (p .0) in
+      let e : wordPlace a (wordOf b (wordPlace b (wordOf a i))) ≡ i = ap (wordPlace a) (p .1) ∙ entry-place a s (wordOf a i) i h refl in
       omega arith
 
   word-same : (i : ℕ) → i < wordCount a → (i < wordCount b) × (wordOf b i ≡ wordOf a i)
@@ -119,7 +119,7 @@ has-determines a b s t c d e f =
 -- so a build from an index's N and its words' records gives that index again, byte for byte
 pub build-again : (index : List ℕ) → Sound index → Below 256 index → (words counts numbers out out′ : List ℕ) (size : ℕ) →
     Builds (highest index) words counts numbers out out′ (Wrote size) →
-    ((w : List ℕ) (x : ℕ) → among (recordsFor (wordsOf words) (listsFrom counts numbers) w) x ≡ has index w x) → take size out′ ≡ index
+    ((w : List ℕ) (x : ℕ) → among (recordsFor (lentWords words) (listsFrom counts numbers) w) x ≡ has index w x) → take size out′ ≡ index
 build-again index s b words counts numbers out out′ size done f =
     let n = highest index in
     has-determines (take size out′) index (build-sound n words counts numbers out out′ size done) s (build-below n words counts numbers out out′ size done) b

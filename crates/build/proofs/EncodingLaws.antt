@@ -17,13 +17,13 @@ use Rattle.list.proofs.StretchLaws.{cells-same, proper-cells}
 use Rattle.list.proofs.RecordLaws.{records-same, records-among, records-ascend, proper-count}
 use Rattle.convert.proofs.NumberLaws.{ascends-good}
 use Rattle.list.proofs.KeptCountLaws.{kept-count}
-use Rattle.index.specs.Format.{wordsStart, directoryStart, wordCount, highest, entryAt, wordStart, wordLength, listStart, singleCount, pairCount, listLength, wordsEnd, listsEnd, part, wordOf, singlesOf, lowerOf, upperOf, listOf}
+use Rattle.index.specs.Format.{wordsStart, directoryStart, wordCount, highest, entryPlace, wordStart, wordLength, listStart, singleCount, pairCount, listLength, wordsEnd, listsEnd, part, wordOf, singlesOf, lowerOf, upperOf, listOf}
 use Rattle.index.specs.Sound.{Sound}
 use Rattle.index.proofs.SoundLaws.{sound-length, sound-edition, sound-word, words-step, sound-trailer, sound-entry, sound-list, sound-ends, wordsEnd-next, listsEnd-next, word-length, singles-length, lower-length, upper-length}
 use Rattle.directory.proofs.HasLaws.{list-proper}
 use Rattle.build.specs.Lent.{lentBefore}
-use Rattle.build.specs.Written.{cellBytes, cellsBytes, singlesIn, lowersIn, uppersIn, keptBytes, cellsIn, listsBytes, wordsBytes, entryBytes, directoryBytes, trailerBytes, indexOf}
-use Rattle.build.specs.ReadsBack.{Below, Indexable, listed, wordsIn, recordsAt, listsIn}
+use Rattle.build.specs.Layout.{cellBytes, cellsBytes, cellSingles, lowersIn, uppersIn, keptBytes, cellsIn, listsBytes, wordsBytes, entryBytes, directoryBytes, trailerBytes, indexOf}
+use Rattle.build.specs.ReadsBack.{Below, Indexable, listed, indexWords, recordsAt, listsIn}
 use Rattle.build.proofs.BytesLaws.{below-take, below-drop, numbers-cells, cell-split}
 use Rattle.build.proofs.KeptBytesLaws.{kept-length, kept-apart}
 
@@ -101,7 +101,7 @@ module _ (index : List ℕ) (s : Sound index) (b : Below 256 index) where
       ∙ sym (proper-cells N (listOf index i) (list-proper index s i h))
 
   apart : (i : ℕ) → i < wordCount index →
-      (singlesIn (listOf index i) ≡ numbersIn (singlesOf index i)) × (lowersIn (listOf index i) ≡ numbersIn (lowerOf index i)) × (uppersIn (listOf index i) ≡ numbersIn (upperOf index i))
+      (cellSingles (listOf index i) ≡ numbersIn (singlesOf index i)) × (lowersIn (listOf index i) ≡ numbersIn (lowerOf index i)) × (uppersIn (listOf index i) ≡ numbersIn (upperOf index i))
   unfolding listOf
   apart i h = kept-apart N (numbersIn (singlesOf index i)) (numbersIn (lowerOf index i)) (numbersIn (upperOf index i)) (sound-list index s i h)
 
@@ -114,7 +114,7 @@ module _ (index : List ℕ) (s : Sound index) (b : Below 256 index) where
   region-count : (r : List ℕ) (k : ℕ) → length r ≡ 4 * k → length (numbersIn r) ≡ k
   region-count r k e = omega (arith, numbersIn-length r)
 
-  single-count : (i : ℕ) → i < wordCount index → length (singlesIn (listOf index i)) ≡ singleCount index i
+  single-count : (i : ℕ) → i < wordCount index → length (cellSingles (listOf index i)) ≡ singleCount index i
   single-count i h = ap length (apart i h .0) ∙ region-count (singlesOf index i) (singleCount index i) (singles-length index s i h)
 
   pair-count : (i : ℕ) → i < wordCount index → length (lowersIn (listOf index i)) ≡ pairCount index i
@@ -124,7 +124,7 @@ module _ (index : List ℕ) (s : Sound index) (b : Below 256 index) where
   unfolding listLength
   kept-size i h = kept-length (listOf index i) ∙ omega (arith, single-count i h, pair-count i h)
 
-  singles-bytes : (i : ℕ) → i < wordCount index → cellsBytes (singlesIn (listOf index i)) ≡ singlesOf index i
+  singles-bytes : (i : ℕ) → i < wordCount index → cellsBytes (cellSingles (listOf index i)) ≡ singlesOf index i
   unfolding singlesOf
   singles-bytes i h =
       ap cellsBytes (apart i h .0) ∙ region-bytes (singlesOf index i) (singleCount index i) (part-below (listStart index i) (4 * singleCount index i)) (singles-length index s i h)
@@ -179,18 +179,18 @@ module _ (index : List ℕ) (s : Sound index) (b : Below 256 index) where
       ∙ ap (λ (r : List ℕ). wordOf index i ++ r) (words-from (i + 1) k (omega arith))
       ∙ sym (append-assoc (wordOf index i) (wordsBytes (listed (wordOf index) (i + 1) k)) (drop (wordsEnd index (wordCount index)) index))
 
-  entry-next : (i : ℕ) → entryAt index (i + 1) ≡ entryAt index i + 20
-  unfolding entryAt
+  entry-next : (i : ℕ) → entryPlace index (i + 1) ≡ entryPlace index i + 20
+  unfolding entryPlace
   entry-next i = omega arith
 
   -- entry i, and what stands behind it
   entry-step : (i : ℕ) → i < wordCount index →
-      drop (entryAt index i) index ≡ entryBytes (wordsEnd index i) (wordOf index i) (listsEnd index i) (cellsIn N (recordsAt index i)) ++ drop (entryAt index (i + 1)) index
+      drop (entryPlace index i) index ≡ entryBytes (wordsEnd index i) (wordOf index i) (listsEnd index i) (cellsIn N (recordsAt index i)) ++ drop (entryPlace index (i + 1)) index
   unfolding wordStart wordLength listStart singleCount pairCount
   entry-step i h =
       let e = sound-entry index s i h in
       rw (list-cells i h, single-count i h, pair-count i h, word-length index s i h, ← e .word-start, ← e .list-start, entry-next i)
-      (five-cells index (entryAt index i) b (omega (arith, e .entry-within)))
+      (five-cells index (entryPlace index i) b (omega (arith, e .entry-within)))
 
   words-next : (i : ℕ) → i < wordCount index → wordsEnd index (i + 1) ≡ wordsEnd index i + length (wordOf index i)
   words-next i h = wordsEnd-next index i ∙ ap (λ (k : ℕ). wordsEnd index i + k) (sym (word-length index s i h))
@@ -199,8 +199,8 @@ module _ (index : List ℕ) (s : Sound index) (b : Below 256 index) where
   lists-next i h = listsEnd-next index i ∙ rw (list-cells i h) (ap (λ (k : ℕ). listsEnd index i + k) (sym (kept-size i h)))
 
   directory-from : (i k : ℕ) → i + k ≡ wordCount index →
-      drop (entryAt index i) index
-      ≡ directoryBytes N (wordsEnd index i) (listsEnd index i) (listed (wordOf index) i k) (listed (recordsAt index) i k) ++ drop (entryAt index (wordCount index)) index
+      drop (entryPlace index i) index
+      ≡ directoryBytes N (wordsEnd index i) (listsEnd index i) (listed (wordOf index) i k) (listed (recordsAt index) i k) ++ drop (entryPlace index (wordCount index)) index
   unfolding listed directoryBytes
   directory-from i zero e = let f : i ≡ wordCount index = omega arith in rw f
   directory-from i (suc k) e =
@@ -211,15 +211,15 @@ module _ (index : List ℕ) (s : Sound index) (b : Below 256 index) where
       (
       entry-step i h
       ∙ ap (λ (r : List ℕ). a ++ r) (directory-from (i + 1) k (omega arith))
-      ∙ sym (append-assoc a d (drop (entryAt index (wordCount index)) index))
+      ∙ sym (append-assoc a d (drop (entryPlace index (wordCount index)) index))
       )
 
-  entry-first : entryAt index 0 ≡ directoryStart index
-  unfolding entryAt
+  entry-first : entryPlace index 0 ≡ directoryStart index
+  unfolding entryPlace
   entry-first = omega arith
 
-  entry-last : entryAt index (wordCount index) + 20 ≡ length index
-  unfolding entryAt
+  entry-last : entryPlace index (wordCount index) + 20 ≡ length index
+  unfolding entryPlace
   entry-last = sound-trailer index s .total
 
   trailer-at : (at : ℕ) → at + 20 ≡ length index → drop at index ≡ trailerBytes (wordsStart index) (directoryStart index) (wordCount index) N
@@ -238,8 +238,8 @@ module _ (index : List ℕ) (s : Sound index) (b : Below 256 index) where
       (ap (λ (k : ℕ). cellsBytes (f at ∷ f (at + 4) ∷ f (at + 8) ∷ f (at + 12) ∷ k ∷ [])) q)
       )
 
-  trailer-bytes : drop (entryAt index (wordCount index)) index ≡ trailerBytes (wordsStart index) (directoryStart index) (wordCount index) N
-  trailer-bytes = trailer-at (entryAt index (wordCount index)) entry-last
+  trailer-bytes : drop (entryPlace index (wordCount index)) index ≡ trailerBytes (wordsStart index) (directoryStart index) (wordCount index) N
+  trailer-bytes = trailer-at (entryPlace index (wordCount index)) entry-last
 
   -- ---- where the regions begin
 
@@ -247,13 +247,13 @@ module _ (index : List ℕ) (s : Sound index) (b : Below 256 index) where
   unfolding listsIn listsEnd
   lists-whole = let e = sound-ends index s in rw (e .0) at (lists-from 0 (wordCount index) (omega arith))
 
-  words-whole : drop (wordsStart index) index ≡ wordsBytes (wordsIn index) ++ drop (directoryStart index) index
-  unfolding wordsIn wordsEnd
+  words-whole : drop (wordsStart index) index ≡ wordsBytes (indexWords index) ++ drop (directoryStart index) index
+  unfolding indexWords wordsEnd
   words-whole = let e = sound-ends index s in rw (e .1) at (words-from 0 (wordCount index) (omega arith))
 
   directory-whole : drop (directoryStart index) index
-      ≡ directoryBytes N (wordsStart index) 0 (wordsIn index) (listsIn index) ++ trailerBytes (wordsStart index) (directoryStart index) (wordCount index) N
-  unfolding wordsIn listsIn wordsEnd listsEnd
+      ≡ directoryBytes N (wordsStart index) 0 (indexWords index) (listsIn index) ++ trailerBytes (wordsStart index) (directoryStart index) (wordCount index) N
+  unfolding indexWords listsIn wordsEnd listsEnd
   directory-whole = rw (entry-first, trailer-bytes) at (directory-from 0 (wordCount index) (omega arith))
 
   lists-size : length (listsBytes N (listsIn index)) ≡ wordsStart index
@@ -261,42 +261,42 @@ module _ (index : List ℕ) (s : Sound index) (b : Below 256 index) where
       let t = sound-trailer index s in
       omega (arith, ap length lists-whole, length-append (listsBytes N (listsIn index)) (drop (wordsStart index) index), length-drop (wordsStart index) index)
 
-  words-size : wordsStart index + length (wordsBytes (wordsIn index)) ≡ directoryStart index
+  words-size : wordsStart index + length (wordsBytes (indexWords index)) ≡ directoryStart index
   words-size =
       let t = sound-trailer index s in
       omega (
         arith,
         ap length words-whole,
-        length-append (wordsBytes (wordsIn index)) (drop (directoryStart index) index),
+        length-append (wordsBytes (indexWords index)) (drop (directoryStart index) index),
         length-drop (wordsStart index) index,
         length-drop (directoryStart index) index,
       )
 
-  words-count : length (wordsIn index) ≡ wordCount index
-  unfolding wordsIn
+  words-count : length (indexWords index) ≡ wordCount index
+  unfolding indexWords
   words-count = listed-length (wordOf index) 0 (wordCount index)
 
   -- a sound index is the index of its N, its words and its lists' records
-  pub sound-encoded : index ≡ indexOf (highest index) (wordsIn index) (listsIn index)
+  pub sound-encoded : index ≡ indexOf (highest index) (indexWords index) (listsIn index)
   unfolding indexOf
   sound-encoded =
       rw (lists-size, words-size, words-count)
       (
       lists-whole
-      ∙ ap (λ (r : List ℕ). listsBytes N (listsIn index) ++ r) (words-whole ∙ ap (λ (r : List ℕ). wordsBytes (wordsIn index) ++ r) directory-whole)
+      ∙ ap (λ (r : List ℕ). listsBytes N (listsIn index) ++ r) (words-whole ∙ ap (λ (r : List ℕ). wordsBytes (indexWords index) ++ r) directory-whole)
       )
 
   -- ---- and no rule of building refuses them
 
-  word-at : (i : ℕ) → i < wordCount index → getD (wordsIn index) i [] ≡ wordOf index i
-  unfolding wordsIn
+  word-at : (i : ℕ) → i < wordCount index → getD (indexWords index) i [] ≡ wordOf index i
+  unfolding indexWords
   word-at i h = listed-at (wordOf index) 0 (wordCount index) i h ∙ ap (wordOf index) (omega arith)
 
   list-at : (i : ℕ) → i < wordCount index → getD (listsIn index) i [] ≡ recordsAt index i
   unfolding listsIn
   list-at i h = listed-at (recordsAt index) 0 (wordCount index) i h ∙ ap (recordsAt index) (omega arith)
 
-  words-order : (i : ℕ) → i < wordCount index → before (lentBefore (wordsIn index) i) (getD (wordsIn index) i []) ≡ true
+  words-order : (i : ℕ) → i < wordCount index → before (lentBefore (indexWords index) i) (getD (indexWords index) i []) ≡ true
   words-order zero h = rw (word-at 0 h) (word-first (wordOf index 0) (sound-word index s 0 h))
   words-order (suc i) h = rw (word-at i (omega arith), word-at (suc i) h) (words-step index s i h)
 
@@ -320,7 +320,7 @@ module _ (index : List ℕ) (s : Sound index) (b : Below 256 index) where
   lists-count = listed-length (recordsAt index) 0 (wordCount index)
 
   -- so what is read of a sound index can be built again
-  pub sound-indexable : Indexable (highest index) (wordsIn index) (listsIn index)
+  pub sound-indexable : Indexable (highest index) (indexWords index) (listsIn index)
   sound-indexable =
       let t = sound-trailer index s in
       let c = words-count in
@@ -340,8 +340,8 @@ module _ (index : List ℕ) (s : Sound index) (b : Below 256 index) where
 -- ---- so two sound indexes with the same N, words and lists are the same bytes
 
 module _ (a b : List ℕ) (same-count : wordCount a ≡ wordCount b) where
-  words-same : ((i : ℕ) → i < wordCount a → wordOf a i ≡ wordOf b i) → wordsIn a ≡ wordsIn b
-  unfolding wordsIn
+  words-same : ((i : ℕ) → i < wordCount a → wordOf a i ≡ wordOf b i) → indexWords a ≡ indexWords b
+  unfolding indexWords
   words-same f = listed-same (wordOf a) (wordOf b) 0 (wordCount a) (λ j l u. f j (omega arith)) ∙ ap (λ (k : ℕ). listed (wordOf b) 0 k) same-count
 
   lists-same : highest a ≡ highest b → ((i x : ℕ) → i < wordCount a → names (listOf a i) x ≡ names (listOf b i) x) → listsIn a ≡ listsIn b
@@ -360,5 +360,5 @@ one-encoding a b s t c d en ec fw fl =
     let q = sound-encoded b t d in
     let w = words-same a b ec fw in
     let l = lists-same a b ec en fl in
-    let e : indexOf (highest a) (wordsIn a) (listsIn a) ≡ indexOf (highest b) (wordsIn b) (listsIn b) = cc in
+    let e : indexOf (highest a) (indexWords a) (listsIn a) ≡ indexOf (highest b) (indexWords b) (listsIn b) = cc in
     p ∙ e ∙ sym q

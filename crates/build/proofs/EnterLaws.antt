@@ -10,8 +10,8 @@ use Rattle.laws.proofs.Lists.{sets-append, sets-front}
 use Rattle.list.specs.Interval.{top}
 use Rattle.convert.specs.Convert.{intervalsOf}
 use Rattle.build.specs.declared.entry.Spots.{Spots}
-use Rattle.build.specs.Lent.{wordsFrom, wordsOf, sumTo, listsFrom}
-use Rattle.build.specs.Written.{keptBytes, listsBytes, wordsBytes, entryBytes, directoryBytes, trailerBytes, indexOf}
+use Rattle.build.specs.Lent.{wordsFrom, lentWords, sumTo, listsFrom}
+use Rattle.build.specs.Layout.{keptBytes, listsBytes, wordsBytes, entryBytes, directoryBytes, trailerBytes, indexOf}
 use Rattle.build.specs.Passes.{wordEnd, entered, enteredTo, EnteredWithin, allEntered, AllWithin}
 use Rattle.build.proofs.BytesLaws.{cells-length}
 use Rattle.build.proofs.LayoutLaws.{directoryCells, directory-bytes, directory-length}
@@ -69,9 +69,9 @@ pub record Entering (words counts numbers : List ℕ) (room : ℕ) (at : Spots) 
   pub left : i + length (wordsFrom [] (drop start words)) ≡ length counts
   pub within : AllWithin at (wordsFrom [] (drop start words)) (listsFrom (drop i counts) (drop first numbers)) room
 
-pub enter-start : (words counts numbers : List ℕ) (room : ℕ) (at : Spots) → length (wordsOf words) ≡ length counts →
-    AllWithin at (wordsOf words) (listsFrom counts numbers) room → Entering words counts numbers room at 0 0 0
-unfolding wordsOf
+pub enter-start : (words counts numbers : List ℕ) (room : ℕ) (at : Spots) → length (lentWords words) ≡ length counts →
+    AllWithin at (lentWords words) (listsFrom counts numbers) room → Entering words counts numbers room at 0 0 0
+unfolding lentWords
 enter-start words counts numbers room at e w =
     record { word = omega arith; count = omega arith; number = sum-first-none counts; left = omega arith; within = w }
 

@@ -26,8 +26,8 @@ use Rattle.index.specs.Format.{part}
 use Rattle.index.proofs.CheckLaws.{not-good, cond-good, place-none}
 use Rattle.build.specs.declared.words.Words.the-variants.{Counted, Bad}
 use Rattle.build.specs.declared.entry.Spots.{Spots}
-use Rattle.build.specs.Lent.{wordsOf, wordTotal, badLent, badCount, badRest, badListed, sumTo, listsFrom}
-use Rattle.build.specs.Written.{cellsBytes, listsBytes, wordsBytes}
+use Rattle.build.specs.Lent.{lentWords, wordTotal, badLent, badCount, badRest, badListed, sumTo, listsFrom}
+use Rattle.build.specs.Layout.{cellsBytes, listsBytes, wordsBytes}
 use Rattle.build.specs.Build.{badWords, badCounts, badNumbers, faultThen, lentOf, sizeAnswer, indexFrom, buildOf}
 use Rattle.build.specs.Passes.{wordsAnswer, Fair, Lists, allEntered, AllWithin}
 use Rattle.build.proofs.LentLaws.{LentWord, lent-word, LentCount, lent-count, lent-rest, lists-length, lists-at, lent-number, list-ascends}
@@ -96,16 +96,16 @@ then-good refusal Nowhere c e = (refl, e)
 
 pub record LentGood (n : ℕ) (words counts numbers : List ℕ) : Type 0 where
   pub limit : n ≤ top
-  pub word : (i : ℕ) → i < wordTotal words → LentWord (wordsOf words) i
+  pub word : (i : ℕ) → i < wordTotal words → LentWord (lentWords words) i
   pub count : (i : ℕ) → i < length counts → LentCount counts (length numbers) i
-  pub as-many : length counts ≡ length (wordsOf words)
+  pub as-many : length counts ≡ length (lentWords words)
   pub ascends : (i : ℕ) → i < length counts → Ascends n 0 (getD (listsFrom counts numbers) i [])
   pub lists : Lists counts numbers
 
 pub lent-good : (n : ℕ) (words counts numbers : List ℕ) → lentOf n words counts numbers ≡ Good → LentGood n words counts numbers
 unfolding lentOf
 lent-good n words counts numbers e =
-    let k = length (wordsOf words) in
+    let k = length (lentWords words) in
     let total = length numbers in
     let a = cond-good (ltb top n) (BuildLimit 0) _ e in
     let b = then-good BuildWord (badWords words) _ (a .1) in
@@ -119,7 +119,7 @@ lent-good n words counts numbers e =
     let rises : (i : ℕ) → i < length counts → Ascends n 0 (list i) = λ i h. list-ascends n counts k numbers i (count i h .room) (λ j g. lent-number n counts k numbers j (first-none (badListed n counts k numbers) total (d .0) j g)) in
     record {
       limit = limit;
-      word = λ i h. lent-word (wordsOf words) i (first-none (badLent (wordsOf words)) (wordTotal words) (b .0) i h);
+      word = λ i h. lent-word (lentWords words) i (first-none (badLent (lentWords words)) (wordTotal words) (b .0) i h);
       count = count;
       as-many = q;
       ascends = λ i h. rw (lists-at counts numbers i h) (rises i h);
@@ -133,14 +133,14 @@ module _ (n : ℕ) (words counts numbers : List ℕ) (is : LentGood n words coun
   pub good-ascends : (i : ℕ) → i < length xss → Ascends n 0 (getD xss i [])
   good-ascends i h = is .ascends i (omega (arith, lists-length counts numbers))
 
-  pub good-many : length xss ≡ length (wordsOf words)
+  pub good-many : length xss ≡ length (lentWords words)
   good-many = lists-length counts numbers ∙ is .as-many
 
   -- the words' bytes, without the byte 10 of each
-  pub good-bytes : length (wordsBytes (wordsOf words)) + length counts ≡ length words
+  pub good-bytes : length (wordsBytes (lentWords words)) + length counts ≡ length words
   good-bytes = omega (arith, words-bytes-length words (is .word), is .as-many)
 
-  pub good-word : (i : ℕ) → i < length (wordsOf words) → LentWord (wordsOf words) i
+  pub good-word : (i : ℕ) → i < length (lentWords words) → LentWord (lentWords words) i
   unfolding wordTotal
   good-word i h = is .word i (omega arith)
 
@@ -150,7 +150,7 @@ module _ (n : ℕ) (words counts numbers : List ℕ) (is : LentGood n words coun
       (λ h. absurd (let w = good-word 65535 (omega (arith, is .as-many)) .few in omega arith))
 
   pub good-size : length (indexFrom n words counts numbers) ≡ length (listsBytes n xss) + (length words - length counts) + 20 * length counts + 20
-  good-size = omega (arith, index-length n (wordsOf words) xss good-many, good-bytes, is .as-many)
+  good-size = omega (arith, index-length n (lentWords words) xss good-many, good-bytes, is .as-many)
 
   pub good-lists : listsBytes n xss ≡ listsBytes top xss
   good-lists = lists-limit n (is .limit) xss good-ascends
@@ -166,7 +166,7 @@ module _ (n : ℕ) (words counts numbers : List ℕ) (is : LentGood n words coun
     firstSpots = record { list = 0; word = lists; entry = lists + (length words - length counts) }
 
     pub good-within : (room : ℕ) → length (indexFrom n words counts numbers) ≤ 16777216 → length (indexFrom n words counts numbers) ≤ room →
-        AllWithin firstSpots (wordsOf words) xss room
+        AllWithin firstSpots (lentWords words) xss room
     good-within room h g =
         let s = good-size in
         let b = good-bytes in
@@ -179,11 +179,11 @@ module _ (n : ℕ) (words counts numbers : List ℕ) (is : LentGood n words coun
           as-many = good-many;
         }
 
-    pub good-written : (out o p : List ℕ) → length (indexFrom n words counts numbers) ≤ length out → o ≡ allEntered out firstSpots (wordsOf words) xss →
+    pub good-written : (out o p : List ℕ) → length (indexFrom n words counts numbers) ≤ length out → o ≡ allEntered out firstSpots (lentWords words) xss →
         p ≡ sets o (lists + (length words - length counts) + 20 * length counts) (cellsBytes (lists ∷ (lists + (length words - length counts)) ∷ length counts ∷ n ∷ 1 ∷ [])) →
         p ≡ indexFrom n words counts numbers ++ drop (length (indexFrom n words counts numbers)) out
     good-written out o p h eo ep =
-        let d : lists + (length words - length counts) ≡ length (listsBytes n xss) + length (wordsBytes (wordsOf words)) = omega (arith, good-bytes) in
+        let d : lists + (length words - length counts) ≡ length (listsBytes n xss) + length (wordsBytes (lentWords words)) = omega (arith, good-bytes) in
         ep
-        ∙ rw (eo, d, is .as-many, l, ← good-lists, ← directory-limit n (is .limit) (length (listsBytes n xss)) 0 (wordsOf words) xss good-ascends)
-        (index-written n (wordsOf words) xss good-many out h)
+        ∙ rw (eo, d, is .as-many, l, ← good-lists, ← directory-limit n (is .limit) (length (listsBytes n xss)) 0 (lentWords words) xss good-ascends)
+        (index-written n (lentWords words) xss good-many out h)

@@ -20,7 +20,7 @@ use Rattle.index.specs.Format.{
   wordCount,
   highest,
   edition,
-  entryAt,
+  entryPlace,
   wordStart,
   wordLength,
   listStart,
@@ -41,7 +41,7 @@ use Rattle.index.specs.declared.Checked.the-variants.{Good}
 use Rattle.index.specs.Check.{checkOf}
 use Rattle.index.proofs.CheckLaws.{length-good, edition-good, sound-good}
 use Rattle.build.specs.Lent.{lentBefore}
-use Rattle.build.specs.Written.{cellsBytes, singlesIn, lowersIn, uppersIn, keptBytes, cellsIn, listsBytes, wordsBytes, directoryBytes, trailerBytes, indexOf}
+use Rattle.build.specs.Layout.{cellsBytes, cellSingles, lowersIn, uppersIn, keptBytes, cellsIn, listsBytes, wordsBytes, directoryBytes, trailerBytes, indexOf}
 use Rattle.build.specs.ReadsBack.{Below, Indexable}
 use Rattle.build.proofs.BytesLaws.{cellLimit, below-append, cells-below, cells-length, cells-append, cells-numbers, cellAt-behind, part-between}
 use Rattle.build.proofs.KeptBytesLaws.{kept-length, uppers-length, cells-count, singles-below, lowers-below, uppers-below, walked-cells, cells-kept}
@@ -171,11 +171,11 @@ module _ (n : ℕ) (ws xss : List (List ℕ)) (is : Indexable n ws xss) where
 
   -- ---- the entries
 
-  entry-place : (i : ℕ) → entryAt index i ≡ D + 20 * i
-  unfolding entryAt
+  entry-place : (i : ℕ) → entryPlace index i ≡ D + 20 * i
+  unfolding entryPlace
   entry-place i = rw built-directory-start
 
-  entry-cell : (i j at : ℕ) → i < length ws → j < 5 → at ≡ entryAt index i + 4 * j →
+  entry-cell : (i j at : ℕ) → i < length ws → j < 5 → at ≡ entryPlace index i + 4 * j →
       cellAt index at ≡ getD (entryCells (W + wordsTo ws i) (getD ws i []) (0 + listsTo n xss i) (cellsIn n (getD xss i []))) j 0
   entry-cell i j at h g e =
       let l = directory-length n W 0 ws xss (is .as-many) in
@@ -185,23 +185,23 @@ module _ (n : ℕ) (ws xss : List (List ℕ)) (is : Indexable n ws xss) where
 
   pub built-word-start : (i : ℕ) → i < length ws → wordStart index i ≡ W + wordsTo ws i
   unfolding wordStart
-  built-word-start i h = entry-cell i 0 (entryAt index i) h (omega arith) (omega arith)
+  built-word-start i h = entry-cell i 0 (entryPlace index i) h (omega arith) (omega arith)
 
   pub built-word-length : (i : ℕ) → i < length ws → wordLength index i ≡ length (getD ws i [])
   unfolding wordLength
-  built-word-length i h = entry-cell i 1 (entryAt index i + 4) h (omega arith) (omega arith)
+  built-word-length i h = entry-cell i 1 (entryPlace index i + 4) h (omega arith) (omega arith)
 
   pub built-list-start : (i : ℕ) → i < length ws → listStart index i ≡ listsTo n xss i
   unfolding listStart
-  built-list-start i h = entry-cell i 2 (entryAt index i + 8) h (omega arith) (omega arith) ∙ omega arith
+  built-list-start i h = entry-cell i 2 (entryPlace index i + 8) h (omega arith) (omega arith) ∙ omega arith
 
-  pub built-single-count : (i : ℕ) → i < length ws → singleCount index i ≡ length (singlesIn (cellsIn n (getD xss i [])))
+  pub built-single-count : (i : ℕ) → i < length ws → singleCount index i ≡ length (cellSingles (cellsIn n (getD xss i [])))
   unfolding singleCount
-  built-single-count i h = entry-cell i 3 (entryAt index i + 12) h (omega arith) (omega arith)
+  built-single-count i h = entry-cell i 3 (entryPlace index i + 12) h (omega arith) (omega arith)
 
   pub built-pair-count : (i : ℕ) → i < length ws → pairCount index i ≡ length (lowersIn (cellsIn n (getD xss i [])))
   unfolding pairCount
-  built-pair-count i h = entry-cell i 4 (entryAt index i + 16) h (omega arith) (omega arith)
+  built-pair-count i h = entry-cell i 4 (entryPlace index i + 16) h (omega arith) (omega arith)
 
   built-list-length : (i : ℕ) → i < length ws → listLength index i ≡ length (keptBytes (cellsIn n (getD xss i [])))
   unfolding listLength
@@ -247,12 +247,12 @@ module _ (n : ℕ) (ws xss : List (List ℕ)) (is : Indexable n ws xss) where
   abbrev behind : List ℕ
   behind = wordsBytes ws ++ (directoryBytes n W 0 ws xss ++ trailerBytes W D (length ws) n)
 
-  pub built-singles : (i : ℕ) → i < length ws → singlesOf index i ≡ cellsBytes (singlesIn (listAt i))
+  pub built-singles : (i : ℕ) → i < length ws → singlesOf index i ≡ cellsBytes (cellSingles (listAt i))
   unfolding singlesOf indexOf keptBytes
   built-singles i h =
       let c = listAt i in
-      rw (built-list-start i h, built-single-count i h, ← cells-length (singlesIn c))
-      (first-region (listsBytes n xss) (listsBytes n (take i xss)) (cellsBytes (singlesIn c)) (cellsBytes (lowersIn c)) (cellsBytes (uppersIn c)) (listsBytes n (drop (suc i) xss)) behind
+      rw (built-list-start i h, built-single-count i h, ← cells-length (cellSingles c))
+      (first-region (listsBytes n xss) (listsBytes n (take i xss)) (cellsBytes (cellSingles c)) (cellsBytes (lowersIn c)) (cellsBytes (uppersIn c)) (listsBytes n (drop (suc i) xss)) behind
       (lists-split n xss i (omega (arith, is .as-many))))
     where
       first-region : (a f s l u t r : List ℕ) → a ≡ f ++ ((s ++ l ++ u) ++ t) → part (length f) (length s) (a ++ r) ≡ s
@@ -264,8 +264,8 @@ module _ (n : ℕ) (ws xss : List (List ℕ)) (is : Indexable n ws xss) where
   unfolding lowerOf indexOf keptBytes
   built-lowers i h =
       let c = listAt i in
-      rw (built-list-start i h, built-single-count i h, built-pair-count i h, ← cells-length (singlesIn c), ← cells-length (lowersIn c))
-      (second-region (listsBytes n xss) (listsBytes n (take i xss)) (cellsBytes (singlesIn c)) (cellsBytes (lowersIn c)) (cellsBytes (uppersIn c)) (listsBytes n (drop (suc i) xss)) behind
+      rw (built-list-start i h, built-single-count i h, built-pair-count i h, ← cells-length (cellSingles c), ← cells-length (lowersIn c))
+      (second-region (listsBytes n xss) (listsBytes n (take i xss)) (cellsBytes (cellSingles c)) (cellsBytes (lowersIn c)) (cellsBytes (uppersIn c)) (listsBytes n (drop (suc i) xss)) behind
       (lists-split n xss i (omega (arith, is .as-many))))
     where
       second-region : (a f s l u t r : List ℕ) → a ≡ f ++ ((s ++ l ++ u) ++ t) → part (length f + length s) (length l) (a ++ r) ≡ l
@@ -278,8 +278,8 @@ module _ (n : ℕ) (ws xss : List (List ℕ)) (is : Indexable n ws xss) where
   built-uppers i h =
       let c = listAt i in
       let e : length (cellsBytes (lowersIn c)) ≡ length (cellsBytes (uppersIn c)) = omega (arith, cells-length (lowersIn c), cells-length (uppersIn c), uppers-length c) in
-      rw (built-list-start i h, built-single-count i h, built-pair-count i h, ← cells-length (singlesIn c), ← cells-length (lowersIn c))
-      (third-region (listsBytes n xss) (listsBytes n (take i xss)) (cellsBytes (singlesIn c)) (cellsBytes (lowersIn c)) (cellsBytes (uppersIn c)) (listsBytes n (drop (suc i) xss)) behind
+      rw (built-list-start i h, built-single-count i h, built-pair-count i h, ← cells-length (cellSingles c), ← cells-length (lowersIn c))
+      (third-region (listsBytes n xss) (listsBytes n (take i xss)) (cellsBytes (cellSingles c)) (cellsBytes (lowersIn c)) (cellsBytes (uppersIn c)) (listsBytes n (drop (suc i) xss)) behind
       (lists-split n xss i (omega (arith, is .as-many))) (sym e))
     where
       third-region : (a f s l u t r : List ℕ) → a ≡ f ++ ((s ++ l ++ u) ++ t) → length u ≡ length l → part (length f + length s + length l) (length l) (a ++ r) ≡ u
@@ -293,9 +293,9 @@ module _ (n : ℕ) (ws xss : List (List ℕ)) (is : Indexable n ws xss) where
   small : n < cellLimit
   small = omega (arith, is .limit)
 
-  pub built-single-numbers : (i : ℕ) → i < length ws → numbersIn (singlesOf index i) ≡ singlesIn (listAt i)
+  pub built-single-numbers : (i : ℕ) → i < length ws → numbersIn (singlesOf index i) ≡ cellSingles (listAt i)
   built-single-numbers i h =
-      numbers-of (singlesIn (listAt i)) (singles-below n cellLimit small 1 (listAt i) (cells-proper-from (among (getD xss i [])) n n (omega arith))) (singlesOf index i) (built-singles i h)
+      numbers-of (cellSingles (listAt i)) (singles-below n cellLimit small 1 (listAt i) (cells-proper-from (among (getD xss i [])) n n (omega arith))) (singlesOf index i) (built-singles i h)
 
   pub built-lower-numbers : (i : ℕ) → i < length ws → numbersIn (lowerOf index i) ≡ lowersIn (listAt i)
   built-lower-numbers i h =
@@ -311,7 +311,7 @@ module _ (n : ℕ) (ws xss : List (List ℕ)) (is : Indexable n ws xss) where
 
   -- ---- it is sound
 
-  list-some : (i : ℕ) → i < length ws → 1 ≤ length (singlesIn (listAt i)) + length (lowersIn (listAt i))
+  list-some : (i : ℕ) → i < length ws → 1 ≤ length (cellSingles (listAt i)) + length (lowersIn (listAt i))
   list-some i h =
       omega (arith, cells-count n 1 (listAt i) (cells-proper-from (among (getD xss i [])) n n (omega arith)), cells-some n (getD xss i []) (indexable-ascends n ws xss is i h) (is .some i h))
 

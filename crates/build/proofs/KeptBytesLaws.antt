@@ -14,7 +14,7 @@ use Rattle.list.specs.Kept.{singleNext, moved, walkFrom, walked, areLonger, isK
 use Rattle.list.proofs.ProperLaws.{ProperFrom, proper-facts}
 use Rattle.list.proofs.KeptLaws.{longer-long}
 use Rattle.list.proofs.WalkLaws.{single-next-is, pair-next-is, placeAt, Weave, none, single, pair, walked-weaves}
-use Rattle.build.specs.Written.{cellsBytes, singlesIn, lowersIn, uppersIn, keptBytes}
+use Rattle.build.specs.Layout.{cellsBytes, cellSingles, lowersIn, uppersIn, keptBytes}
 use Rattle.build.specs.ReadsBack.{Below}
 use Rattle.build.proofs.BytesLaws.{cells-length, cells-below, below-append}
 
@@ -35,13 +35,13 @@ count-step : (l : ℕ) (t : Bool) (ss ls r : List ℕ) → length r ≡ 2 * (len
 count-step l true ss ls r e = omega arith
 count-step l false ss ls r e = omega arith
 
-pub cells-count : (n k : ℕ) (c : List ℕ) → ProperFrom n k c → length c ≡ 2 * (length (singlesIn c) + length (lowersIn c))
-unfolding singlesIn lowersIn
+pub cells-count : (n k : ℕ) (c : List ℕ) → ProperFrom n k c → length c ≡ 2 * (length (cellSingles c) + length (lowersIn c))
+unfolding cellSingles lowersIn
 cells-count n k [] p = refl
-cells-count n k (l ∷ u ∷ r) p = count-step l (eqb l u) (singlesIn r) (lowersIn r) r (cells-count n (u + 2) r (p .3))
+cells-count n k (l ∷ u ∷ r) p = count-step l (eqb l u) (cellSingles r) (lowersIn r) r (cells-count n (u + 2) r (p .3))
 
 -- Reference 3.4: the bytes of a kept list
-pub kept-length : (c : List ℕ) → length (keptBytes c) ≡ 4 * (length (singlesIn c) + 2 * length (lowersIn c))
+pub kept-length : (c : List ℕ) → length (keptBytes c) ≡ 4 * (length (cellSingles c) + 2 * length (lowersIn c))
 unfolding keptBytes
 kept-length c =
     simp (length-append, cells-length) (omega (arith, uppers-length c))
@@ -49,8 +49,8 @@ kept-length c =
 pub kept-below : (c : List ℕ) → Below 256 (keptBytes c)
 unfolding keptBytes
 kept-below c =
-    below-append 256 (cellsBytes (singlesIn c) ++ cellsBytes (lowersIn c)) (cellsBytes (uppersIn c))
-    (below-append 256 (cellsBytes (singlesIn c)) (cellsBytes (lowersIn c)) (cells-below (singlesIn c)) (cells-below (lowersIn c)))
+    below-append 256 (cellsBytes (cellSingles c) ++ cellsBytes (lowersIn c)) (cellsBytes (uppersIn c))
+    (below-append 256 (cellsBytes (cellSingles c)) (cellsBytes (lowersIn c)) (cells-below (cellSingles c)) (cells-below (lowersIn c)))
     (cells-below (uppersIn c))
 
 -- ---- how large they are
@@ -60,10 +60,10 @@ below-cond m x true xs h b = ((h, b), b)
 below-cond m x false xs h b = (b, (h, b))
 
 module _ (n m : ℕ) (h : n < m) where
-  pub singles-below : (k : ℕ) (c : List ℕ) → ProperFrom n k c → Below m (singlesIn c)
-  unfolding singlesIn
+  pub singles-below : (k : ℕ) (c : List ℕ) → ProperFrom n k c → Below m (cellSingles c)
+  unfolding cellSingles
   singles-below k [] p = tt
-  singles-below k (l ∷ u ∷ r) p = below-cond m l (eqb l u) (singlesIn r) (omega arith) (singles-below (u + 2) r (p .3)) .0
+  singles-below k (l ∷ u ∷ r) p = below-cond m l (eqb l u) (cellSingles r) (omega arith) (singles-below (u + 2) r (p .3)) .0
 
   pub lowers-below : (k : ℕ) (c : List ℕ) → ProperFrom n k c → Below m (lowersIn c)
   unfolding lowersIn
@@ -89,10 +89,10 @@ head-cond : (k m x : ℕ) (t : Bool) (xs : List ℕ) → k ≤ x → k ≤ m →
 head-cond k m x true xs h g p = (h, head-weaker k m xs g p)
 head-cond k m x false xs h g p = (head-weaker k m xs g p, h)
 
-singles-head : (n k : ℕ) (c : List ℕ) → ProperFrom n k c → HeadFrom k (singlesIn c)
-unfolding singlesIn
+singles-head : (n k : ℕ) (c : List ℕ) → ProperFrom n k c → HeadFrom k (cellSingles c)
+unfolding cellSingles
 singles-head n k [] p = tt
-singles-head n k (l ∷ u ∷ r) p = head-cond k (u + 2) l (eqb l u) (singlesIn r) (p .0) (omega arith) (singles-head n (u + 2) r (p .3)) .0
+singles-head n k (l ∷ u ∷ r) p = head-cond k (u + 2) l (eqb l u) (cellSingles r) (p .0) (omega arith) (singles-head n (u + 2) r (p .3)) .0
 
 lowers-head : (n k : ℕ) (c : List ℕ) → ProperFrom n k c → HeadFrom k (lowersIn c)
 unfolding lowersIn
@@ -117,15 +117,15 @@ next-of xs p x r e =
 
 module _ (n : ℕ) (S L U : List ℕ) where
   walk-step : (k l u : ℕ) (r : List ℕ) (m p q : ℕ) (t : Bool) → eqb l u ≡ t → ProperFrom n k (l ∷ u ∷ r) →
-      drop p S ≡ cond t (l ∷ singlesIn r) (singlesIn r) → drop q L ≡ cond t (lowersIn r) (l ∷ lowersIn r) → drop q U ≡ cond t (uppersIn r) (u ∷ uppersIn r) →
-      ((p q : ℕ) → drop p S ≡ singlesIn r → drop q L ≡ lowersIn r → drop q U ≡ uppersIn r → walkFrom S L U (placeAt p q) m ≡ r) →
+      drop p S ≡ cond t (l ∷ cellSingles r) (cellSingles r) → drop q L ≡ cond t (lowersIn r) (l ∷ lowersIn r) → drop q U ≡ cond t (uppersIn r) (u ∷ uppersIn r) →
+      ((p q : ℕ) → drop p S ≡ cellSingles r → drop q L ≡ lowersIn r → drop q U ≡ uppersIn r → walkFrom S L U (placeAt p q) m ≡ r) →
       _≡_ {A = List ℕ}
       (cond (singleNext S L p q) (getD S p 0) (getD L q 0)
       ∷ cond (singleNext S L p q) (getD S p 0) (getD U q 0)
       ∷ walkFrom S L U (moved (singleNext S L p q) (placeAt p q)) m)
       (l ∷ u ∷ r)
   walk-step k l u r m p q true d w es el eu ih =
-      let s = next-of S p l (singlesIn r) es in
+      let s = next-of S p l (cellSingles r) es in
       let e : l ≡ u = eqb-true l u d in
       let f : singleNext S L p q ≡ true = single-next-is S L p q (s .below) (λ g. let b = head-at (u + 2) q L g (rw el (lowers-head n (u + 2) r (w .3))) in omega (arith, s .is)) in
       rw (f, s .is, e, ih (p + 1) q (s .rest) el eu)
@@ -135,20 +135,20 @@ module _ (n : ℕ) (S L U : List ℕ) where
       let f : singleNext S L p q ≡ false = pair-next-is S L p q (a .below) (λ g. let h = head-at (u + 2) p S g (rw es (singles-head n (u + 2) r (w .3))) in omega (arith, a .is)) in
       rw (f, a .is, b .is, ih p (q + 1) es (a .rest) (b .rest))
 
-  walk-cells : (k : ℕ) (c : List ℕ) (m p q : ℕ) → 2 * m ≡ length c → ProperFrom n k c → drop p S ≡ singlesIn c → drop q L ≡ lowersIn c → drop q U ≡ uppersIn c →
+  walk-cells : (k : ℕ) (c : List ℕ) (m p q : ℕ) → 2 * m ≡ length c → ProperFrom n k c → drop p S ≡ cellSingles c → drop q L ≡ lowersIn c → drop q U ≡ uppersIn c →
       walkFrom S L U (placeAt p q) m ≡ c
-  unfolding walkFrom singlesIn lowersIn uppersIn
+  unfolding walkFrom cellSingles lowersIn uppersIn
   walk-cells k [] zero p q e w es el eu = refl
   walk-cells k [] (suc m) p q e w es el eu = absurd (omega arith)
   walk-cells k (l ∷ u ∷ r) zero p q e w es el eu = absurd (omega arith)
   walk-cells k (l ∷ u ∷ r) (suc m) p q e w es el eu =
       walk-step k l u r m p q (eqb l u) refl w es el eu (λ p q fs fl fu. walk-cells (u + 2) r m p q (omega arith) (w .3) fs fl fu)
 
-pub walked-cells : (n : ℕ) (c : List ℕ) → isProper n c ≡ true → walked (singlesIn c) (lowersIn c) (uppersIn c) ≡ c
+pub walked-cells : (n : ℕ) (c : List ℕ) → isProper n c ≡ true → walked (cellSingles c) (lowersIn c) (uppersIn c) ≡ c
 unfolding walked isProper
 walked-cells n c e =
     let p = proper-facts n 1 c e in
-    walk-cells n (singlesIn c) (lowersIn c) (uppersIn c) 1 c (length (singlesIn c) + length (lowersIn c)) 0 0
+    walk-cells n (cellSingles c) (lowersIn c) (uppersIn c) 1 c (length (cellSingles c) + length (lowersIn c)) 0 0
     (sym (cells-count n 1 c p)) p refl refl refl
 
 -- ---- what is longer than one
@@ -167,20 +167,20 @@ proper-longer : (n : ℕ) (c : List ℕ) → isProper n c ≡ true → areLonger
 unfolding isProper
 proper-longer n c e = cells-longer n 1 c (proper-facts n 1 c e)
 
-pub cells-kept : (n : ℕ) (c : List ℕ) → isProper n c ≡ true → isKept n (singlesIn c) (lowersIn c) (uppersIn c) ≡ true
+pub cells-kept : (n : ℕ) (c : List ℕ) → isProper n c ≡ true → isKept n (cellSingles c) (lowersIn c) (uppersIn c) ≡ true
 unfolding isKept
 cells-kept n c e =
-    both-and (areLonger (lowersIn c) (uppersIn c)) (isProper n (walked (singlesIn c) (lowersIn c) (uppersIn c)))
+    both-and (areLonger (lowersIn c) (uppersIn c)) (isProper n (walked (cellSingles c) (lowersIn c) (uppersIn c)))
     (proper-longer n c e)
     (ap (isProper n) (walked-cells n c e) ∙ e)
 
 -- ---- back: what the walk of a kept list is taken apart into
 
 abbrev Apart : List ℕ → List ℕ → List ℕ → List ℕ → Type 0
-Apart S L U c = (singlesIn c ≡ S) × (lowersIn c ≡ L) × (uppersIn c ≡ U)
+Apart S L U c = (cellSingles c ≡ S) × (lowersIn c ≡ L) × (uppersIn c ≡ U)
 
 weave-apart : {S L U c : List ℕ} → Weave S L U c → areLonger L U ≡ true → Apart S L U c
-unfolding singlesIn lowersIn uppersIn areLonger
+unfolding cellSingles lowersIn uppersIn areLonger
 weave-apart none e = (refl, refl, refl)
 weave-apart (single s S L U c w) e =
     let i = weave-apart w e in
@@ -191,7 +191,7 @@ weave-apart (pair l u S L U c w) e =
     let h : l < u = ltb-true l u (b .0) in
     rw (ne-eqb l u (λ (q : l ≡ u). omega arith)) (i .0, ap (λ (r : List ℕ). l ∷ r) (i .1), ap (λ (r : List ℕ). u ∷ r) (i .2))
 
-pub kept-apart : (n : ℕ) (S L U : List ℕ) → isKept n S L U ≡ true → (singlesIn (walked S L U) ≡ S) × (lowersIn (walked S L U) ≡ L) × (uppersIn (walked S L U) ≡ U)
+pub kept-apart : (n : ℕ) (S L U : List ℕ) → isKept n S L U ≡ true → (cellSingles (walked S L U) ≡ S) × (lowersIn (walked S L U) ≡ L) × (uppersIn (walked S L U) ≡ U)
 unfolding isKept
 kept-apart n S L U e =
     let b = and-both (areLonger L U) (isProper n (walked S L U)) e in

@@ -11,7 +11,7 @@ use lib.Seq.{take-length, getD-append-add}
 use borrow.Author.Tests.{leb-true}
 use Rattle.laws.proofs.Tests.{and-both, or-either}
 use Rattle.word.specs.Word.{between, isWordByte, allWordBytes, isOperator, isWord}
-use Rattle.build.specs.Written.{cellsBytes, singlesIn, lowersIn, keptBytes, cellsIn, listsBytes, wordsBytes, entryBytes, directoryBytes}
+use Rattle.build.specs.Layout.{cellsBytes, cellSingles, lowersIn, keptBytes, cellsIn, listsBytes, wordsBytes, entryBytes, directoryBytes}
 use Rattle.build.specs.ReadsBack.{Below}
 use Rattle.build.proofs.BytesLaws.{cellLimit, below-append, cells-append}
 use Rattle.build.proofs.KeptBytesLaws.{kept-length, kept-below}
@@ -79,7 +79,7 @@ module _ (n : ℕ) where
 -- ---- the directory
 
 abbrev pub entryCells : ℕ → List ℕ → ℕ → List ℕ → List ℕ
-entryCells wordAt w listAt c = wordAt ∷ length w ∷ listAt ∷ length (singlesIn c) ∷ length (lowersIn c) ∷ []
+entryCells wordAt w listAt c = wordAt ∷ length w ∷ listAt ∷ length (cellSingles c) ∷ length (lowersIn c) ∷ []
 
 -- the directory as cells
 unfoldable pub directoryCells : ℕ → ℕ → ℕ → List (List ℕ) → List (List ℕ) → List ℕ

@@ -15,8 +15,8 @@ use Rattle.refusal.specs.declared.Found.the-variants.{At, Nowhere}
 use Rattle.refusal.specs.First.{first}
 use Rattle.refusal.proofs.FirstLaws.{first-is, first-none-is}
 use Rattle.word.specs.Word.{before, isWord}
-use Rattle.build.specs.Lent.{wordsFrom, wordsOf, restFrom, restOf, one-if-any, wordTotal, lentBefore, badLent}
-use Rattle.build.specs.Written.{wordsBytes}
+use Rattle.build.specs.Lent.{wordsFrom, lentWords, restFrom, restOf, one-if-any, wordTotal, lentBefore, badLent}
+use Rattle.build.specs.Layout.{wordsBytes}
 use Rattle.build.specs.Passes.{wordEnd}
 use Rattle.build.proofs.LentLaws.{LentWord}
 
@@ -115,15 +115,15 @@ any-one [] h = absurd (omega arith)
 any-one (b ∷ bs) h = refl
 
 -- where no word is bad, all are ended
-module _ (bytes : List ℕ) (good : (i : ℕ) → i < wordTotal bytes → LentWord (wordsOf bytes) i) where
+module _ (bytes : List ℕ) (good : (i : ℕ) → i < wordTotal bytes → LentWord (lentWords bytes) i) where
   all-ended : length (restOf bytes) ≡ 0
   unfolding wordTotal
   all-ended =
       leb-cases (length (restOf bytes)) 0 (λ h. omega arith)
-      (λ h. absurd (let n = length (wordsOf bytes) in omega (arith, good n (omega (arith, any-one (restOf bytes) h)) .within)))
+      (λ h. absurd (let n = length (lentWords bytes) in omega (arith, good n (omega (arith, any-one (restOf bytes) h)) .within)))
 
-  pub words-bytes-length : length (wordsBytes (wordsOf bytes)) + length (wordsOf bytes) ≡ length bytes
-  unfolding wordsOf restOf
+  pub words-bytes-length : length (wordsBytes (lentWords bytes)) + length (lentWords bytes) ≡ length bytes
+  unfolding lentWords restOf
   words-bytes-length = omega (arith, bytes-from [] bytes, all-ended)
 
 -- ---- the pass
@@ -135,14 +135,14 @@ pub record Passing (bytes : List ℕ) (prior priorEnd start count : ℕ) : Type 
   pub behind : priorEnd ≤ start
   pub few : count ≤ start
   pub limit : count ≤ 65535
-  pub seen : count ≤ length (wordsOf bytes)
-  pub words : wordsFrom [] (drop start bytes) ≡ drop count (wordsOf bytes)
+  pub seen : count ≤ length (lentWords bytes)
+  pub words : wordsFrom [] (drop start bytes) ≡ drop count (lentWords bytes)
   pub rest : restFrom [] (drop start bytes) ≡ restOf bytes
-  pub last : take (priorEnd - prior) (drop prior bytes) ≡ lentBefore (wordsOf bytes) count
-  pub good : (j : ℕ) → j < count → badLent (wordsOf bytes) j ≡ false
+  pub last : take (priorEnd - prior) (drop prior bytes) ≡ lentBefore (lentWords bytes) count
+  pub good : (j : ℕ) → j < count → badLent (lentWords bytes) j ≡ false
 
 pub pass-start : (bytes : List ℕ) → Passing bytes 0 0 0 0
-unfolding wordsOf restOf
+unfolding lentWords restOf
 pass-start bytes =
     record {
       within = omega arith;
@@ -176,7 +176,7 @@ none-left ws i e =
 
 module _ (bytes : List ℕ) (prior priorEnd start count : ℕ) (at : Passing bytes prior priorEnd start count) where
   abbrev ws : List (List ℕ)
-  ws = wordsOf bytes
+  ws = lentWords bytes
 
   words-within : (i : ℕ) → i < length ws → i < wordTotal bytes
   unfolding wordTotal

@@ -16,7 +16,7 @@ use Rattle.laws.proofs.Parts.{tail-written}
 use Rattle.list.specs.Ginix.{one}
 use Rattle.build.specs.declared.kept.Places.{Places}
 use Rattle.build.specs.declared.entry.Spots.{Spots}
-use Rattle.build.specs.Written.{cellBytes, cellsBytes, singlesIn, lowersIn, uppersIn, keptBytes, cellsIn, listsBytes, wordsBytes, entryBytes, directoryBytes}
+use Rattle.build.specs.Layout.{cellBytes, cellsBytes, cellSingles, lowersIn, uppersIn, keptBytes, cellsIn, listsBytes, wordsBytes, entryBytes, directoryBytes}
 use Rattle.build.specs.Passes.{laid, laidTo, LaidWithin, entered, enteredTo}
 use Rattle.build.proofs.BytesLaws.{cells-length}
 use Rattle.build.proofs.KeptBytesLaws.{kept-length}
@@ -98,10 +98,10 @@ plan-turn out a x xs b y ys d z zs h g =
 -- ---- a list: singles, lower and upper bounds
 
 abbrev pub keptPlan : List ℕ → Places → List ℕ → List ℕ
-keptPlan out at c = plan out (at .single) (cellsBytes (singlesIn c)) (at .lower) (cellsBytes (lowersIn c)) (at .upper) (cellsBytes (uppersIn c))
+keptPlan out at c = plan out (at .single) (cellsBytes (cellSingles c)) (at .lower) (cellsBytes (lowersIn c)) (at .upper) (cellsBytes (uppersIn c))
 
 pub record Placed (at : Places) (c : List ℕ) (room : ℕ) : Type 0 where
-  pub single : at .single + 4 * length (singlesIn c) ≤ at .lower
+  pub single : at .single + 4 * length (cellSingles c) ≤ at .lower
   pub lower : at .lower + 4 * length (lowersIn c) ≤ at .upper
   pub upper : at .upper + 4 * length (lowersIn c) ≤ room
 
@@ -134,15 +134,15 @@ placed-step false at l S L room h g k = ((omega arith, omega arith), omega arith
 
 module _ (out : List ℕ) (at : Places) (l u : ℕ) (r : List ℕ) (room : ℕ) (is : Placed at (l ∷ u ∷ r) room) where
   pub kept-laid : keptPlan out at (l ∷ u ∷ r) ≡ keptPlan (laid (eqb l u) out at l u) (laidTo (eqb l u) at) r
-  unfolding singlesIn lowersIn uppersIn
-  kept-laid = laid-step (eqb l u) out at l u (singlesIn r) (lowersIn r) (uppersIn r) (is .single) (is .lower)
+  unfolding cellSingles lowersIn uppersIn
+  kept-laid = laid-step (eqb l u) out at l u (cellSingles r) (lowersIn r) (uppersIn r) (is .single) (is .lower)
 
   placed : LaidWithin (eqb l u) at room
-      × (laidTo (eqb l u) at .single + 4 * length (singlesIn r) ≤ laidTo (eqb l u) at .lower)
+      × (laidTo (eqb l u) at .single + 4 * length (cellSingles r) ≤ laidTo (eqb l u) at .lower)
       × (laidTo (eqb l u) at .lower + 4 * length (lowersIn r) ≤ laidTo (eqb l u) at .upper)
       × (laidTo (eqb l u) at .upper + 4 * length (lowersIn r) ≤ room)
-  unfolding singlesIn lowersIn
-  placed = placed-step (eqb l u) at l (singlesIn r) (lowersIn r) room (is .single) (is .lower) (is .upper)
+  unfolding cellSingles lowersIn
+  placed = placed-step (eqb l u) at l (cellSingles r) (lowersIn r) room (is .single) (is .lower) (is .upper)
 
   pub laid-within : LaidWithin (eqb l u) at room
   laid-within = placed .0
@@ -159,25 +159,25 @@ laid-length out at l u = laid-length-step (eqb l u) out at l u
 
 -- nothing is left
 pub kept-done : (out : List ℕ) (at : Places) → keptPlan out at [] ≡ out
-unfolding singlesIn lowersIn uppersIn cellsBytes
+unfolding cellSingles lowersIn uppersIn cellsBytes
 kept-done out at = refl
 
 -- where the three regions begin
 abbrev pub keptPlaces : ℕ → ℕ → Places
 keptPlaces singles pairs = record { single = 0; lower = 4 * singles; upper = 4 * (singles + pairs) }
 
-module _ (c : List ℕ) (singles pairs : ℕ) (s : singles ≡ length (singlesIn c)) (m : pairs ≡ length (lowersIn c)) where
+module _ (c : List ℕ) (singles pairs : ℕ) (s : singles ≡ length (cellSingles c)) (m : pairs ≡ length (lowersIn c)) where
   pub placed-start : (room : ℕ) → length (keptBytes c) ≤ room → Placed (keptPlaces singles pairs) c room
   placed-start room h = let k = kept-length c in record { single = omega arith; lower = omega arith; upper = omega arith }
 
   pub kept-start : (out : List ℕ) → length (keptBytes c) ≤ length out → keptPlan out (keptPlaces singles pairs) c ≡ keptBytes c ++ drop (length (keptBytes c)) out
   unfolding keptBytes
   kept-start out h =
-      let S = cellsBytes (singlesIn c) in
+      let S = cellsBytes (cellSingles c) in
       let L = cellsBytes (lowersIn c) in
       let U = cellsBytes (uppersIn c) in
-      let p : 0 + length S ≡ 4 * singles = omega (arith, cells-length (singlesIn c)) in
-      let q : 0 + length (S ++ L) ≡ 4 * (singles + pairs) = omega (arith, length-append S L, cells-length (singlesIn c), cells-length (lowersIn c)) in
+      let p : 0 + length S ≡ 4 * singles = omega (arith, cells-length (cellSingles c)) in
+      let q : 0 + length (S ++ L) ≡ 4 * (singles + pairs) = omega (arith, length-append S L, cells-length (cellSingles c), cells-length (lowersIn c)) in
       sym
       (
       sym (sets-front (keptBytes c) out h)
@@ -196,9 +196,9 @@ pair-step : (l : ℕ) (t : Bool) (L : List ℕ) → length (cond t L (l ∷ L)) 
 pair-step l true L = omega arith
 pair-step l false L = omega arith
 
-pub singles-next : (l u : ℕ) (r : List ℕ) → length (singlesIn (l ∷ u ∷ r)) ≡ one (eqb l u) + length (singlesIn r)
-unfolding singlesIn
-singles-next l u r = single-step l (eqb l u) (singlesIn r)
+pub singles-next : (l u : ℕ) (r : List ℕ) → length (cellSingles (l ∷ u ∷ r)) ≡ one (eqb l u) + length (cellSingles r)
+unfolding cellSingles
+singles-next l u r = single-step l (eqb l u) (cellSingles r)
 
 pub pairs-next : (l u : ℕ) (r : List ℕ) → length (lowersIn (l ∷ u ∷ r)) ≡ 1 - one (eqb l u) + length (lowersIn r)
 unfolding lowersIn
@@ -211,8 +211,8 @@ kept-width l u h =
     (λ g. rw (eq-eqb l u (omega arith)) (omega arith))
     (λ g. rw (ne-eqb l u (λ (e : l ≡ u). omega arith)) (omega arith))
 
-pub none-kept : (length (singlesIn []) ≡ 0) × (length (lowersIn []) ≡ 0) × (keptBytes [] ≡ [])
-unfolding singlesIn lowersIn uppersIn keptBytes cellsBytes
+pub none-kept : (length (cellSingles []) ≡ 0) × (length (lowersIn []) ≡ 0) × (keptBytes [] ≡ [])
+unfolding cellSingles lowersIn uppersIn keptBytes cellsBytes
 none-kept = (refl, refl, refl)
 
 -- ---- an index: lists, words and entries
@@ -221,7 +221,7 @@ abbrev pub indexPlan : ℕ → List ℕ → Spots → List (List ℕ) → List (
 indexPlan n out at ws xss = plan out (at .list) (listsBytes n xss) (at .word) (wordsBytes ws) (at .entry) (directoryBytes n (at .word) (at .list) ws xss)
 
 -- a word's list, its bytes and its entry, written one after the other
-pub word-entered : (out : List ℕ) (at : Spots) (w c : List ℕ) (s m : ℕ) (o p q : List ℕ) → s ≡ length (singlesIn c) → m ≡ length (lowersIn c) →
+pub word-entered : (out : List ℕ) (at : Spots) (w c : List ℕ) (s m : ℕ) (o p q : List ℕ) → s ≡ length (cellSingles c) → m ≡ length (lowersIn c) →
     o ≡ sets out (at .list) (keptBytes c) → p ≡ sets o (at .word) w → q ≡ sets p (at .entry) (cellsBytes (at .word ∷ length w ∷ at .list ∷ s ∷ m ∷ [])) →
     q ≡ entered out at w c
 word-entered out at w c s m o p q es em eo ep eq = eq ∙ rw (ep, eo, es, em)
@@ -236,4 +236,4 @@ index-entered n out at w ws xs xss h g =
     (directoryBytes n (at .word + length w) (at .list + length (keptBytes c)) ws xss)
     (omega (arith, length-append (keptBytes c) (listsBytes n xss))) (omega (arith, length-append w (wordsBytes ws)))
     ∙ ap (λ (k : ℕ). plan (entered out at w c) (at .list + length (keptBytes c)) (listsBytes n xss) (at .word + length w) (wordsBytes ws) k
-    (directoryBytes n (at .word + length w) (at .list + length (keptBytes c)) ws xss)) (ap (λ (k : ℕ). at .entry + k) (cells-length (at .word ∷ length w ∷ at .list ∷ length (singlesIn c) ∷ length (lowersIn c) ∷ [])))
+    (directoryBytes n (at .word + length w) (at .list + length (keptBytes c)) ws xss)) (ap (λ (k : ℕ). at .entry + k) (cells-length (at .word ∷ length w ∷ at .list ∷ length (cellSingles c) ∷ length (lowersIn c) ∷ [])))

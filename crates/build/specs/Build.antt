@@ -16,21 +16,21 @@ use Rattle.list.specs.Interval.{top}
 use Rattle.index.specs.declared.Checked.{Checked}
 use Rattle.index.specs.declared.Checked.the-variants.{Good, Refused}
 use Rattle.index.specs.Check.{badPlace}
-use Rattle.build.specs.Lent.{wordsOf, wordTotal, badLent, badCount, badRest, badListed, listsFrom}
-use Rattle.build.specs.Written.{indexOf}
+use Rattle.build.specs.Lent.{lentWords, wordTotal, badLent, badCount, badRest, badListed, listsFrom}
+use Rattle.build.specs.Layout.{indexOf}
 
 -- Reference 9.1, row 17: the first bad word
 abbrev pub badWords : List ℕ → Found
-badWords words = first (badLent (wordsOf words)) (wordTotal words)
+badWords words = first (badLent (lentWords words)) (wordTotal words)
 
 -- Reference 9.1, row 18: the first bad count, or the word count
 abbrev pub badCounts : List ℕ → List ℕ → List ℕ → Found
 badCounts words counts numbers =
-    badPlace (first (badCount counts (length numbers)) (length (wordsOf words))) (badRest counts (length numbers) (length (wordsOf words))) (length (wordsOf words))
+    badPlace (first (badCount counts (length numbers)) (length (lentWords words))) (badRest counts (length numbers) (length (lentWords words))) (length (lentWords words))
 
 -- Reference 9.1, row 15: the first bad number among all
 abbrev pub badNumbers : ℕ → List ℕ → List ℕ → List ℕ → Found
-badNumbers n words counts numbers = first (badListed n counts (length (wordsOf words)) numbers) (length numbers)
+badNumbers n words counts numbers = first (badListed n counts (length (lentWords words)) numbers) (length numbers)
 
 -- Reference 9.2: a fault is refused, or what comes next is asked
 abbrev pub faultThen : (ℕ → Refusal) → Found → Checked → Checked
@@ -57,7 +57,7 @@ afterLent Good next = next
 
 -- Reference 8.9: the index that the arguments ask for
 abbrev pub indexFrom : ℕ → List ℕ → List ℕ → List ℕ → List ℕ
-indexFrom n words counts numbers = indexOf n (wordsOf words) (listsFrom counts numbers)
+indexFrom n words counts numbers = indexOf n (lentWords words) (listsFrom counts numbers)
 
 -- Reference 8.9: the whole answer
 unfoldable pub buildOf : ℕ → List ℕ → List ℕ → List ℕ → ℕ → Written

@@ -11,8 +11,8 @@ unfoldable pub wordsFrom : List ℕ → List ℕ → List (List ℕ)
 wordsFrom acc [] = []
 wordsFrom acc (b ∷ bs) = cond (eqb b 10) (acc ∷ wordsFrom [] bs) (wordsFrom (acc ++ b ∷ []) bs)
 
-unfoldable pub wordsOf : List ℕ → List (List ℕ)
-wordsOf bytes = wordsFrom [] bytes
+unfoldable pub lentWords : List ℕ → List (List ℕ)
+lentWords bytes = wordsFrom [] bytes
 
 -- Reference 9.1, row 17: the bytes behind the last byte 10
 unfoldable pub restFrom : List ℕ → List ℕ → List ℕ
@@ -28,7 +28,7 @@ one-if-any [] = 0
 one-if-any (b ∷ bs) = 1
 
 unfoldable pub wordTotal : List ℕ → ℕ
-wordTotal bytes = length (wordsOf bytes) + one-if-any (restOf bytes)
+wordTotal bytes = length (lentWords bytes) + one-if-any (restOf bytes)
 
 -- Reference 9.1, row 17: the word before word i; before the first the empty string, which stands before every word
 abbrev pub lentBefore : List (List ℕ) → ℕ → List ℕ

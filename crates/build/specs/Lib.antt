@@ -1,5 +1,5 @@
 pub mod Lent
-pub mod Written
+pub mod Layout
 pub mod Build
 pub mod ReadsBack
 pub mod Passes

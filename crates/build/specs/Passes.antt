@@ -18,7 +18,7 @@ use Rattle.build.specs.declared.size.Kept.{Kept}
 use Rattle.build.specs.declared.kept.Places.{Places}
 use Rattle.build.specs.declared.entry.Spots.{Spots}
 use Rattle.build.specs.Lent.{sumTo, badCount, badRest}
-use Rattle.build.specs.Written.{cellBytes, singlesIn, lowersIn, keptBytes, listsBytes, wordsBytes, entryBytes, directoryBytes}
+use Rattle.build.specs.Layout.{cellBytes, cellSingles, lowersIn, keptBytes, listsBytes, wordsBytes, entryBytes, directoryBytes}
 
 -- how many bytes stand before the first byte 10
 unfoldable pub wordEnd : List ℕ → ℕ
@@ -42,7 +42,7 @@ pub record Lists (counts numbers : List ℕ) : Type 0 where
 
 -- Reference 3.4: how many singles and pairs the numbers make, in no more cells than there are numbers
 pub record KeptOf (numbers : List ℕ) (k : Kept) : Type 0 where
-  pub singles : k .singles ≡ length (singlesIn (intervalsOf numbers))
+  pub singles : k .singles ≡ length (cellSingles (intervalsOf numbers))
   pub pairs : k .pairs ≡ length (lowersIn (intervalsOf numbers))
   pub most : k .singles + 2 * k .pairs ≤ length numbers
 

@@ -12,7 +12,7 @@ use Rattle.list.specs.Stretches.{recordsOf}
 use Rattle.convert.specs.Convert.{badNumber}
 use Rattle.index.specs.Format.{wordCount, highest, wordOf, listOf}
 use Rattle.build.specs.Lent.{lentBefore}
-use Rattle.build.specs.Written.{indexOf}
+use Rattle.build.specs.Layout.{indexOf}
 
 -- Reference 4: all numbers are below m; with 256, they are bytes
 abbrev pub Below : ℕ → List ℕ → Type 0
@@ -42,8 +42,8 @@ listed f i zero = []
 listed f i (suc k) = f i ∷ listed f (i + 1) k
 
 -- Reference 5.5: an index's words, the records of entry i, and those of all entries
-unfoldable pub wordsIn : List ℕ → List (List ℕ)
-wordsIn index = listed (wordOf index) 0 (wordCount index)
+unfoldable pub indexWords : List ℕ → List (List ℕ)
+indexWords index = listed (wordOf index) 0 (wordCount index)
 
 abbrev pub recordsAt : List ℕ → ℕ → List ℕ
 recordsAt index i = recordsOf (names (listOf index i)) (highest index)

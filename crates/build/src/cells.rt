@@ -4,7 +4,7 @@ ghost use mathlib.Core.List.{[], _∷_};
 ghost use Prim.Native.Nat.{_+_, _%_, _≤_};
 ghost use lib.ListN.{length};
 ghost use lib.Seq.{sets};
-ghost use Rattle.build.specs.Written.{cellBytes, cellsBytes};
+ghost use Rattle.build.specs.Layout.{cellBytes, cellsBytes};
 
 // The lowest byte of x.
 fn low(x: u32) -> u8

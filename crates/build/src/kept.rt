@@ -5,7 +5,7 @@ ghost use Prim.Native.Nat.{_≤_};
 ghost use lib.Dec.{eqb};
 ghost use lib.ListN.{length, drop};
 ghost use Rattle.convert.specs.Convert.{badNumberOf, intervalsOf};
-ghost use Rattle.build.specs.Written.{keptBytes};
+ghost use Rattle.build.specs.Layout.{keptBytes};
 ghost use Rattle.build.specs.Passes.{KeptOf, laid, laidTo, LaidWithin};
 use crate::cells::put_cell;
 use crate::size::Kept;

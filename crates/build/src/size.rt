@@ -7,7 +7,7 @@ ghost use Rattle.list.specs.Interval.{top};
 ghost use Rattle.list.specs.Ginix.{one};
 ghost use Rattle.convert.specs.Convert.{badNumberOf};
 ghost use Rattle.build.specs.Lent.{listsFrom};
-ghost use Rattle.build.specs.Written.{listsBytes};
+ghost use Rattle.build.specs.Layout.{listsBytes};
 ghost use Rattle.build.specs.Passes.{Lists, KeptOf};
 use convert::runs::next_run;
 use refusal::Found;

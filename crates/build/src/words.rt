@@ -3,7 +3,7 @@ ghost use mathlib.Core.Path.{_≡_};
 ghost use Prim.Native.Nat.{_+_, _≤_};
 ghost use lib.ListN.{length, drop};
 ghost use Rattle.refusal.specs.First.{first};
-ghost use Rattle.build.specs.Lent.{wordsOf, wordTotal, badLent};
+ghost use Rattle.build.specs.Lent.{lentWords, wordTotal, badLent};
 ghost use Rattle.build.specs.Passes.{wordEnd, wordsAnswer};
 
 // How many words there are, or the first bad one.
@@ -29,7 +29,7 @@ pub fn word_end(words: &[u8], start: usize) -> usize
 
 // One pass over the words, with where the one before stands.
 pub fn check_words(words: &[u8]) -> Words
-    ensures { λ r. ⌜ r ≡ wordsAnswer (first (badLent (wordsOf (now (words .entry)))) (wordTotal (now (words .entry)))) (length (wordsOf (now (words .entry)))) ⌝ }
+    ensures { λ r. ⌜ r ≡ wordsAnswer (first (badLent (lentWords (now (words .entry)))) (wordTotal (now (words .entry)))) (length (lentWords (now (words .entry)))) ⌝ }
 {
     let mut prior = 0;
     let mut prior_end = 0;

@@ -3,8 +3,8 @@ ghost use mathlib.Core.Path.{_≡_};
 ghost use mathlib.Core.List.{_++_};
 ghost use Prim.Native.Nat.{_≤_};
 ghost use lib.ListN.{length, drop};
-ghost use Rattle.build.specs.Lent.{wordsOf, listsFrom};
-ghost use Rattle.build.specs.Written.{listsBytes};
+ghost use Rattle.build.specs.Lent.{lentWords, listsFrom};
+ghost use Rattle.build.specs.Layout.{listsBytes};
 ghost use Rattle.build.specs.Build.{lentOf, indexFrom};
 ghost use Rattle.build.specs.Passes.{Lists, allEntered, AllWithin};
 use crate::cells::put_five;
@@ -15,8 +15,8 @@ use index::Checked;
 
 // Writes all words with their lists.
 fn write_words(out: &mut [u8], from: Spots, words: &[u8], counts: &[u32], numbers: &[u32])
-    requires { ⌜ Lists (now counts) (now numbers) × (length (wordsOf (now words)) ≡ length (now counts)) × AllWithin from (wordsOf (now words)) (listsFrom (now counts) (now numbers)) (length (now out)) ⌝ }
-    ensures { λ _. ⌜ now (out .exit) ≡ allEntered (now (out .entry)) from (wordsOf (now (words .entry))) (listsFrom (now (counts .entry)) (now (numbers .entry))) ⌝ }
+    requires { ⌜ Lists (now counts) (now numbers) × (length (lentWords (now words)) ≡ length (now counts)) × AllWithin from (lentWords (now words)) (listsFrom (now counts) (now numbers)) (length (now out)) ⌝ }
+    ensures { λ _. ⌜ now (out .exit) ≡ allEntered (now (out .entry)) from (lentWords (now (words .entry))) (listsFrom (now (counts .entry)) (now (numbers .entry))) ⌝ }
 {
     let mut at = from;
     let mut start = 0;

@@ -11,7 +11,7 @@ use Rattle.laws.proofs.Tests.{true-false, and-both, both-and, leb-cases}
 use Rattle.question.specs.declared.token.Op.{Op}
 use Rattle.question.specs.declared.token.Op.the-variants.{And, Or, Not}
 use Rattle.question.specs.Token.{Tok, wordT, opT, openT, closeT, otherT}
-use Rattle.question.specs.Limits.{wordsIn}
+use Rattle.question.specs.Limits.{tokenWords}
 use Rattle.codes.specs.Code.{opCode, opOf, codesOf, wordCodes}
 
 -- within a list it does not matter what would be read behind it
@@ -71,8 +71,8 @@ operator-none c e o h =
 
 -- ---- words
 
-pub codes-words : (toks : List Tok) → wordCodes (codesOf toks) ≡ length (wordsIn toks)
-unfolding codesOf wordCodes wordsIn
+pub codes-words : (toks : List Tok) → wordCodes (codesOf toks) ≡ length (tokenWords toks)
+unfolding codesOf wordCodes tokenWords
 codes-words [] = refl
 codes-words (wordT w p ∷ r) = omega (arith, codes-words r)
 codes-words (opT And p ∷ r) = omega (arith, codes-words r)

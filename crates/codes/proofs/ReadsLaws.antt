@@ -11,7 +11,7 @@ use Rattle.laws.proofs.Tests.{by-test, leb-cases}
 use Rattle.question.specs.declared.token.Op.{Op}
 use Rattle.question.specs.declared.token.Op.the-variants.{And, Or, Not}
 use Rattle.question.specs.Token.{Tok, wordT, opT, openT, closeT, otherT}
-use Rattle.question.specs.Grammar.{Tree, word, pair, part, Link, link, good, bind, closed, fromLeft, question, operand, links, wordsOf}
+use Rattle.question.specs.Grammar.{Tree, word, pair, part, Link, link, good, bind, closed, fromLeft, question, operand, links, treeWords}
 use Rattle.question.proofs.LevelLaws.{bad-good, bind-first, question-level}
 use Rattle.question.proofs.TreeWords.{Words, operand-words}
 use Rattle.question.proofs.RuleLaws.{from-left-keeps, from-left-link, from-left-none}
@@ -224,7 +224,7 @@ pub record Going (toks : List Tok) (d k₀ i k : ℕ) (Q : Tree → Type 0) (t :
   pub left : List Link
   pub reads-left : links fromLeft fuel d k (drop i toks) ≡ good left rest j
   pub groups : t ≡ fromLeft sofar left
-  pub count : k ≡ k₀ + length (wordsOf sofar)
+  pub count : k ≡ k₀ + length (treeWords sofar)
   pub holds : Q sofar
 
 -- that this is so whenever the grammar reads a level from i₀ on
@@ -234,8 +234,8 @@ Level codes d k₀ i₀ i k Q =
     (i₀ ≤ i) × (i ≤ length codes) × Going toks d k₀ i k Q t rest j
 
 -- how many words an operand has
-operand-count : (f d k : ℕ) (ts : List Tok) (t : Tree) (z : List Tok) (j : ℕ) → operand fromLeft f d k ts ≡ good t z j → j ≡ k + length (wordsOf t)
-operand-count f d k ts t z j e = subst (Words wordsOf k ts) e (operand-words fromLeft from-left-keeps f d k ts) .1
+operand-count : (f d k : ℕ) (ts : List Tok) (t : Tree) (z : List Tok) (j : ℕ) → operand fromLeft f d k ts ≡ good t z j → j ≡ k + length (treeWords t)
+operand-count f d k ts t z j e = subst (Words treeWords k ts) e (operand-words fromLeft from-left-keeps f d k ts) .1
 
 pub level-start : (codes : List ℕ) (d k₀ i₀ i k : ℕ) (Q : Tree → Type 0) → ((f : ℕ) → Reads (operand fromLeft f d k₀) codes i₀ i k Q) → Level codes d k₀ i₀ i k Q
 level-start codes d k₀ i₀ i k Q h f toks t rest j e r =
@@ -285,14 +285,14 @@ links-operator (suc f) d k o p r ls z j e =
       is = w .0;
     }
 
-pair-count : (k₀ k k′ : ℕ) (o : Op) (a b : Tree) → k ≡ k₀ + length (wordsOf a) → k′ ≡ k + length (wordsOf b) → k′ ≡ k₀ + length (wordsOf (pair o a b))
-unfolding wordsOf
-pair-count k₀ k k′ o a b x y = omega (arith, length-append (wordsOf a) (wordsOf b))
+pair-count : (k₀ k k′ : ℕ) (o : Op) (a b : Tree) → k ≡ k₀ + length (treeWords a) → k′ ≡ k + length (treeWords b) → k′ ≡ k₀ + length (treeWords (pair o a b))
+unfolding treeWords
+pair-count k₀ k k′ o a b x y = omega (arith, length-append (treeWords a) (treeWords b))
 
 -- the operator o stands at i, and its operand reads up to i′
 pub level-step : (codes : List ℕ) (d k₀ i₀ i k i′ k′ : ℕ) (Q R S : Tree → Type 0) (o : Op) → getD codes i 6 ≡ opCode o →
     Level codes d k₀ i₀ i k Q → ((f : ℕ) → Reads (operand fromLeft f d k) codes (i + 1) i′ k′ R) →
-    ((a b : Tree) → k ≡ k₀ + length (wordsOf a) → Q a → R b → S (pair o a b)) → Level codes d k₀ i₀ i′ k′ S
+    ((a b : Tree) → k ≡ k₀ + length (treeWords a) → Q a → R b → S (pair o a b)) → Level codes d k₀ i₀ i′ k′ S
 level-step codes d k₀ i₀ i k i′ k′ Q R S o c l g q f toks t rest j e r =
     let h = code-within codes i (let b = op-range o in omega arith) in
     let w = l f toks t rest j e r in

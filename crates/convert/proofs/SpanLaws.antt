@@ -11,7 +11,7 @@ use lib.Seq.{sets}
 use borrow.Author.Tests.{le-leb}
 use Rattle.laws.proofs.Lists.{drop-two, drop-none, sets-append}
 use Rattle.list.specs.Interval.{isProper, names, records}
-use Rattle.list.specs.Stretches.{kept, recordsFrom, recordsOf}
+use Rattle.list.specs.Stretches.{consIf, recordsFrom, recordsOf}
 use Rattle.list.proofs.ProperLaws.{ProperFrom, proper-facts}
 use Rattle.list.proofs.NamesLaws.{names-in, names-past, names-below}
 use Rattle.list.proofs.RecordLaws.{proper-count, records-length}
@@ -83,18 +83,18 @@ sets-range out out′ k x m ws e = sets-append out k (countUp x m) ws ∙ rw (�
 
 -- a number before the first interval
 before-step : (p : ℕ → Bool) (n x m l u : ℕ) (r : List ℕ) → ProperFrom n l (l ∷ u ∷ r) → x < l → p x ≡ names (l ∷ u ∷ r) x →
-    recordsFrom p (x + 1) m ≡ spans (l ∷ u ∷ r) → kept (p x) x (recordsFrom p (x + 1) m) ≡ spans (l ∷ u ∷ r)
+    recordsFrom p (x + 1) m ≡ spans (l ∷ u ∷ r) → consIf (p x) x (recordsFrom p (x + 1) m) ≡ spans (l ∷ u ∷ r)
 before-step p n x m l u r a h e ih = rw (e ∙ names-below n l x (l ∷ u ∷ r) a h) ih
 
 -- the first number of an interval with more
 first-step : (p : ℕ → Bool) (m l u : ℕ) (r : List ℕ) → l < u → p l ≡ names (l ∷ u ∷ r) l →
-    recordsFrom p (l + 1) m ≡ spans ((l + 1) ∷ u ∷ r) → kept (p l) l (recordsFrom p (l + 1) m) ≡ spans (l ∷ u ∷ r)
+    recordsFrom p (l + 1) m ≡ spans ((l + 1) ∷ u ∷ r) → consIf (p l) l (recordsFrom p (l + 1) m) ≡ spans (l ∷ u ∷ r)
 unfolding spans
 first-step p m l u r h e ih = rw (e ∙ names-in l u l r (omega arith) (omega arith), ih, range-at l (u + 1) (omega arith))
 
 -- the last number of an interval
 last-step : (p : ℕ → Bool) (m l u : ℕ) (r : List ℕ) → l ≡ u → p l ≡ names (l ∷ u ∷ r) l →
-    recordsFrom p (l + 1) m ≡ spans r → kept (p l) l (recordsFrom p (l + 1) m) ≡ spans (l ∷ u ∷ r)
+    recordsFrom p (l + 1) m ≡ spans r → consIf (p l) l (recordsFrom p (l + 1) m) ≡ spans (l ∷ u ∷ r)
 unfolding spans
 last-step p m l u r h e ih =
     rw (e ∙ names-in l u l r (omega arith) (omega arith), ih, range-at l (u + 1) (omega arith), range-end (l + 1) (u + 1) (omega arith))
@@ -107,7 +107,7 @@ names-shorter l u y r h = rw (le-leb l y (omega arith), le-leb (l + 1) y h)
 -- the recursive calls are handed in
 spans-step : (p : ℕ → Bool) (n x m k l u : ℕ) (r : List ℕ) → ProperFrom n k (l ∷ u ∷ r) → x ≤ k → ((y : ℕ) → x ≤ y → p y ≡ names (l ∷ u ∷ r) y) →
     ((k : ℕ) (c : List ℕ) → ProperFrom n k c → x + 1 ≤ k → ((y : ℕ) → x + 1 ≤ y → p y ≡ names c y) → recordsFrom p (x + 1) m ≡ spans c) →
-    Dec (l ≤ x) → Dec (u ≤ x) → kept (p x) x (recordsFrom p (x + 1) m) ≡ spans (l ∷ u ∷ r)
+    Dec (l ≤ x) → Dec (u ≤ x) → consIf (p x) x (recordsFrom p (x + 1) m) ≡ spans (l ∷ u ∷ r)
 spans-step p n x m k l u r a h f ih (no d) w =
     let g = lt-of-not-le d in
     let b : ProperFrom n l (l ∷ u ∷ r) = (omega arith, a .1, a .2, a .3) in
@@ -123,7 +123,7 @@ spans-step p n x m k l u r a h f ih (yes d) (yes w) =
     let i = ih (u + 2) r (a .3) (omega arith) (λ y j. f y (omega arith) ∙ names-past l u y r (omega arith)) in
     rw e (last-step p m l u r (omega arith) (f l (omega arith)) (rw e at i))
 
-spans-none : (p : ℕ → Bool) (x m : ℕ) → p x ≡ false → recordsFrom p (x + 1) m ≡ [] → kept (p x) x (recordsFrom p (x + 1) m) ≡ []
+spans-none : (p : ℕ → Bool) (x m : ℕ) → p x ≡ false → recordsFrom p (x + 1) m ≡ [] → consIf (p x) x (recordsFrom p (x + 1) m) ≡ []
 spans-none p x m e ih = rw e ih
 
 spans-from : (p : ℕ → Bool) (n x m k : ℕ) (c : List ℕ) → ProperFrom n k c → x ≤ k → x + m ≡ n + 1 → ((y : ℕ) → x ≤ y → p y ≡ names c y) →

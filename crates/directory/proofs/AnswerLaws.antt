@@ -26,7 +26,7 @@ use Rattle.index.proofs.CheckLaws.{not-good, good-sound}
 use Rattle.index.proofs.SoundLaws.{sound-trailer, sound-list}
 use Rattle.directory.specs.declared.Lookup.the-variants.{Entry, NoEntry}
 use Rattle.directory.specs.declared.Probed.the-variants.{Counted, NoCount}
-use Rattle.directory.specs.Entry.{lookupOf, entryAfter, entryOf, entryStart, entryLength, badRange, rangeAnswer, probeOf}
+use Rattle.directory.specs.Entry.{lookupOf, entryAfter, entryCheck, entryStart, entryLength, badRange, rangeAnswer, probeOf}
 
 -- ---- a lookup
 
@@ -46,16 +46,16 @@ module _ (index word : List ℕ) where
 -- ---- an entry number
 
 module _ (index : List ℕ) (i : ℕ) where
-  pub entry-refused : (r : Refusal) → checkOf index ≡ Refused r → entryOf index i ≡ Refused r
-  unfolding entryOf
+  pub entry-refused : (r : Refusal) → checkOf index ≡ Refused r → entryCheck index i ≡ Refused r
+  unfolding entryCheck
   entry-refused r e = rw e
 
-  pub entry-within : checkOf index ≡ Good → i < wordCount index → entryOf index i ≡ Good
-  unfolding entryOf
+  pub entry-within : checkOf index ≡ Good → i < wordCount index → entryCheck index i ≡ Good
+  unfolding entryCheck
   entry-within e h = rw (e, lt-ltb i (wordCount index) h)
 
-  pub entry-past : checkOf index ≡ Good → wordCount index ≤ i → entryOf index i ≡ Refused (EntryNumber 0)
-  unfolding entryOf
+  pub entry-past : checkOf index ≡ Good → wordCount index ≤ i → entryCheck index i ≡ Refused (EntryNumber 0)
+  unfolding entryCheck
   entry-past e h = rw (e, le-ltb i (wordCount index) h)
 
 after-good : (k : Checked) (below : Bool) → entryAfter k below ≡ Good → (k ≡ Good) × (below ≡ true)
@@ -64,37 +64,37 @@ after-good Good true e = (refl, refl)
 after-good Good false e = not-good (EntryNumber 0) e
 
 -- an entry that is not refused is one of a sound index
-pub entry-good : (index : List ℕ) (i : ℕ) → entryOf index i ≡ Good → Sound index × (i < wordCount index)
-unfolding entryOf
+pub entry-good : (index : List ℕ) (i : ℕ) → entryCheck index i ≡ Good → Sound index × (i < wordCount index)
+unfolding entryCheck
 entry-good index i e =
     let w = after-good (checkOf index) (ltb i (wordCount index)) e in
     (good-sound index (w .0), ltb-true i (wordCount index) (w .1))
 
 module _ (index : List ℕ) (i : ℕ) where
-  pub start-answered : entryOf index i ≡ Good → entryStart index i ≡ wordStart index i
+  pub start-answered : entryCheck index i ≡ Good → entryStart index i ≡ wordStart index i
   unfolding entryStart
   start-answered e = rw e
 
-  pub start-refused : (r : Refusal) → entryOf index i ≡ Refused r → entryStart index i ≡ 0
+  pub start-refused : (r : Refusal) → entryCheck index i ≡ Refused r → entryStart index i ≡ 0
   unfolding entryStart
   start-refused r e = rw e
 
-  pub length-answered : entryOf index i ≡ Good → entryLength index i ≡ wordLength index i
+  pub length-answered : entryCheck index i ≡ Good → entryLength index i ≡ wordLength index i
   unfolding entryLength
   length-answered e = rw e
 
-  pub length-refused : (r : Refusal) → entryOf index i ≡ Refused r → entryLength index i ≡ 0
+  pub length-refused : (r : Refusal) → entryCheck index i ≡ Refused r → entryLength index i ≡ 0
   unfolding entryLength
   length-refused r e = rw e
 
 -- ---- a probe
 
 module _ (index : List ℕ) (i a b : ℕ) where
-  pub probe-refused : (r : Refusal) → entryOf index i ≡ Refused r → probeOf index i a b ≡ NoCount r
+  pub probe-refused : (r : Refusal) → entryCheck index i ≡ Refused r → probeOf index i a b ≡ NoCount r
   unfolding probeOf
   probe-refused r e = rw e
 
-  pub probe-answered : entryOf index i ≡ Good → probeOf index i a b ≡ rangeAnswer (badRange a b) (belowCount a (listOf index i)) (overlapCount a b (listOf index i))
+  pub probe-answered : entryCheck index i ≡ Good → probeOf index i a b ≡ rangeAnswer (badRange a b) (belowCount a (listOf index i)) (overlapCount a b (listOf index i))
   unfolding probeOf
   probe-answered e = rw e
 

@@ -20,7 +20,7 @@ use Rattle.list.proofs.NamesLaws.{proper-names-zero, proper-names-above}
 use Rattle.index.specs.Format.{wordCount, highest, wordOf, singlesOf, lowerOf, upperOf, listOf}
 use Rattle.index.specs.Sound.{Sound}
 use Rattle.index.proofs.SoundLaws.{words-ascend, word-injective, sound-list}
-use Rattle.directory.specs.Has.{hasWithin, has, belowWithin, placeOf}
+use Rattle.directory.specs.Has.{hasWithin, has, belowWithin, wordPlace}
 
 -- ---- no two entries have the word
 
@@ -119,8 +119,8 @@ pub record Splits (index word : List ℕ) (p : ℕ) : Type 0 where
   pub below : (j : ℕ) → j < p → before (wordOf index j) word ≡ true
   pub rest : (j : ℕ) → p ≤ j → j < wordCount index → before (wordOf index j) word ≡ false
 
-pub place-is : (index word : List ℕ) (p : ℕ) → Splits index word p → placeOf index word ≡ p
-unfolding placeOf
+pub place-is : (index word : List ℕ) (p : ℕ) → Splits index word p → wordPlace index word ≡ p
+unfolding wordPlace
 place-is index word p w = below-count index word p (wordCount index) (w .within) (w .below) (w .rest)
 
 -- a word below it has below it all the words before it, and one not below it has none of those behind it
@@ -161,31 +161,31 @@ splits-to index s word zero h = (omega arith, (λ j l. absurd (omega arith)), λ
 splits-to index s word (suc k) h =
     split-step index s word k (omega arith) (before (wordOf index k) word) refl (splits-to index s word k (omega arith))
 
-pub place-splits : (index : List ℕ) → Sound index → (word : List ℕ) → Splits index word (placeOf index word)
-unfolding placeOf
+pub place-splits : (index : List ℕ) → Sound index → (word : List ℕ) → Splits index word (wordPlace index word)
+unfolding wordPlace
 place-splits index s word =
     let w = splits-to index s word (wordCount index) (omega arith) in
     record { within = w .0; below = w .1; rest = w .2 }
 
 -- one comparison tells on which side of a word the place lies
-pub place-behind : (index : List ℕ) → Sound index → (word : List ℕ) (i : ℕ) → i < wordCount index → before (wordOf index i) word ≡ true → i + 1 ≤ placeOf index word
-place-behind index s word i h e = go (decLe (placeOf index word) i)
+pub place-behind : (index : List ℕ) → Sound index → (word : List ℕ) (i : ℕ) → i < wordCount index → before (wordOf index i) word ≡ true → i + 1 ≤ wordPlace index word
+place-behind index s word i h e = go (decLe (wordPlace index word) i)
   where
-    go : Dec (placeOf index word ≤ i) → i + 1 ≤ placeOf index word
+    go : Dec (wordPlace index word ≤ i) → i + 1 ≤ wordPlace index word
     go (yes d) = true-false (sym e ∙ place-splits index s word .rest i d h)
     go (no d) = let l = lt-of-not-le d in omega arith
 
-pub place-not-behind : (index : List ℕ) → Sound index → (word : List ℕ) (i : ℕ) → before (wordOf index i) word ≡ false → placeOf index word ≤ i
-place-not-behind index s word i e = go (decLe (placeOf index word) i)
+pub place-not-behind : (index : List ℕ) → Sound index → (word : List ℕ) (i : ℕ) → before (wordOf index i) word ≡ false → wordPlace index word ≤ i
+place-not-behind index s word i e = go (decLe (wordPlace index word) i)
   where
-    go : Dec (placeOf index word ≤ i) → placeOf index word ≤ i
+    go : Dec (wordPlace index word ≤ i) → wordPlace index word ≤ i
     go (yes d) = d
     go (no d) = true-false (sym (place-splits index s word .below i (lt-of-not-le d)) ∙ e)
 
 -- ---- the entry of a word, and its place
 
 -- an entry whose word it is stands at the word's place
-pub entry-place : (index : List ℕ) → Sound index → (word : List ℕ) (i : ℕ) → i < wordCount index → wordOf index i ≡ word → placeOf index word ≡ i
+pub entry-place : (index : List ℕ) → Sound index → (word : List ℕ) (i : ℕ) → i < wordCount index → wordOf index i ≡ word → wordPlace index word ≡ i
 entry-place index s word i h e =
     place-is index word i
     (record {
@@ -206,7 +206,7 @@ entry-found index s word i h e =
     })
 
 -- what does not stand at its place stands nowhere
-pub place-nowhere : (index : List ℕ) → Sound index → (word : List ℕ) (p : ℕ) → p ≡ placeOf index word → (p < wordCount index → wordOf index p ≡ word → ⊥) →
+pub place-nowhere : (index : List ℕ) → Sound index → (word : List ℕ) (p : ℕ) → p ≡ wordPlace index word → (p < wordCount index → wordOf index p ≡ word → ⊥) →
     first (λ j. same (wordOf index j) word) (wordCount index) ≡ Nowhere
 place-nowhere index s word p q n =
     first-none-is (λ j. same (wordOf index j) word) (wordCount index)
@@ -217,7 +217,7 @@ place-nowhere index s word p q n =
 
 -- a search finds an entry exactly where the word stands at its place
 pub found-place : (index : List ℕ) → Sound index → (word : List ℕ) (i : ℕ) →
-    first (λ j. same (wordOf index j) word) (wordCount index) ≡ At i → (i < wordCount index) × (wordOf index i ≡ word) × (placeOf index word ≡ i)
+    first (λ j. same (wordOf index j) word) (wordCount index) ≡ At i → (i < wordCount index) × (wordOf index i ≡ word) × (wordPlace index word ≡ i)
 found-place index s word i e =
     let f = first-at (λ j. same (wordOf index j) word) i (wordCount index) e in
     let w = same-equal (wordOf index i) word (f .holds) in

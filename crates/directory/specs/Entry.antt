@@ -39,8 +39,8 @@ entryAfter (Refused r) below = Refused r
 entryAfter Good below = cond below Good (Refused (EntryNumber 0))
 
 -- Reference 8.3: the refusal or none
-unfoldable pub entryOf : List ℕ → ℕ → Checked
-entryOf index i = entryAfter (checkOf index) (ltb i (wordCount index))
+unfoldable pub entryCheck : List ℕ → ℕ → Checked
+entryCheck index i = entryAfter (checkOf index) (ltb i (wordCount index))
 
 -- Reference 8.3: where the part starts and how long it is; both 0 where the call is refused
 abbrev pub numberAfter : Checked → ℕ → ℕ
@@ -48,10 +48,10 @@ numberAfter Good n = n
 numberAfter (Refused r) n = 0
 
 unfoldable pub entryStart : List ℕ → ℕ → ℕ
-entryStart index i = numberAfter (entryOf index i) (wordStart index i)
+entryStart index i = numberAfter (entryCheck index i) (wordStart index i)
 
 unfoldable pub entryLength : List ℕ → ℕ → ℕ
-entryLength index i = numberAfter (entryOf index i) (wordLength index i)
+entryLength index i = numberAfter (entryCheck index i) (wordLength index i)
 
 -- Reference 8.3: the part itself, of the index's own memory
 abbrev pub entryWord : Slice → ℕ → Slice
@@ -70,4 +70,4 @@ probeAfter Good counted = counted
 
 -- Reference 8.4: 14, then 20, then the two counts
 unfoldable pub probeOf : List ℕ → ℕ → ℕ → ℕ → Probed
-probeOf index i a b = probeAfter (entryOf index i) (rangeAnswer (badRange a b) (belowCount a (listOf index i)) (overlapCount a b (listOf index i)))
+probeOf index i a b = probeAfter (entryCheck index i) (rangeAnswer (badRange a b) (belowCount a (listOf index i)) (overlapCount a b (listOf index i)))

@@ -22,5 +22,5 @@ belowWithin index zero word = 0
 belowWithin index (suc k) word = one (before (wordOf index k) word) + belowWithin index k word
 
 -- Reference 8.2: the entry number at which the word stands or would stand
-unfoldable pub placeOf : List ℕ → List ℕ → ℕ
-placeOf index word = belowWithin index (wordCount index) word
+unfoldable pub wordPlace : List ℕ → List ℕ → ℕ
+wordPlace index word = belowWithin index (wordCount index) word

@@ -1,13 +1,13 @@
 // An entry by its number: whether the index has it, and its word, by two calls on the same arguments.
 ghost use mathlib.Core.Path.{_≡_};
 ghost use Rattle.index.specs.Part.{sliceOf};
-ghost use Rattle.directory.specs.Entry.{entryOf, entryWord};
+ghost use Rattle.directory.specs.Entry.{entryCheck, entryWord};
 use index::Checked;
 use refusal::Refusal;
 
 // Whether the index has the entry, or the first refusal that holds.
 pub fn entry_refusal(index: &[u8], entry: u32) -> Checked
-    ensures { λ r. ⌜ r ≡ entryOf (now (index .entry)) entry ⌝ }
+    ensures { λ r. ⌜ r ≡ entryCheck (now (index .entry)) entry ⌝ }
 {
     match index::check::check_index(index) {
         Checked::Refused(refusal) => Checked::Refused(refusal),

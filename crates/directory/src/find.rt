@@ -5,7 +5,7 @@ ghost use Rattle.refusal.specs.First.{first};
 ghost use Rattle.word.specs.Word.{same, before, orderOf};
 ghost use Rattle.index.specs.Format.{wordCount, wordOf};
 ghost use Rattle.index.specs.Sound.{Sound};
-ghost use Rattle.directory.specs.Has.{placeOf};
+ghost use Rattle.directory.specs.Has.{wordPlace};
 ghost use Rattle.directory.specs.Entry.{lookupOf};
 use crate::Lookup;
 use index::Checked;
@@ -36,7 +36,7 @@ fn stands_before(index: &[u8], i: usize, word: &[u8]) -> bool
 // The entry number at which the word stands or would stand: the directory is halved.
 pub fn find_place(index: &[u8], word: &[u8]) -> usize
     requires { ⌜ Sound (now index) ⌝ }
-    ensures { λ r. ⌜ r ≡ placeOf (now (index .entry)) (now (word .entry)) ⌝ }
+    ensures { λ r. ⌜ r ≡ wordPlace (now (index .entry)) (now (word .entry)) ⌝ }
 {
     let mut low = 0;
     let mut high = word_count(index);

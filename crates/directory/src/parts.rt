@@ -5,19 +5,19 @@ ghost use lib.ListN.{length};
 ghost use Rattle.list.specs.Interval.{intervals};
 ghost use Rattle.index.specs.Format.{wordCount, wordStart, wordLength, singlesOf, lowerOf, upperOf, listOf};
 ghost use Rattle.index.specs.Part.{sliceOf, partOf};
-ghost use Rattle.index.specs.Read.{EntryOf};
+ghost use Rattle.index.specs.Read.{EntryCells};
 ghost use Rattle.index.specs.Sound.{Sound};
 use index::entry::Entry;
 
 // Entry i of a sound index: its word and its list lie within the index.
 pub fn sound_entry(index: &[u8], i: usize) -> Entry
     requires { ⌜ Sound (now index) × (i < wordCount (now index)) ⌝ }
-    ensures is { λ r. ⌜ EntryOf (now (index .entry)) i r ⌝ }
+    ensures is { λ r. ⌜ EntryCells (now (index .entry)) i r ⌝ }
     ensures word { λ r. ⌜ r .«word_start» + r .«word_length» ≤ length (now (index .entry)) ⌝ }
     ensures list { λ r. ⌜ r .«list_start» + 4 * r .singles + 8 * r .pairs ≤ length (now (index .entry)) ⌝ }
 {
     let trailer = index::trailer::read_trailer(index);
-    index::entry::entry_at(index, trailer, i)
+    index::entry::read_entry(index, trailer, i)
 }
 
 // The word itself, and no copy of it.

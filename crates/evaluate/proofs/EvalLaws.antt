@@ -8,7 +8,7 @@ use lib.ListN.{length, take, replicate}
 use Rattle.window.specs.Window.{Holds, Combined}
 use Rattle.window.proofs.HoldLaws.{holds-agree, holds-combined}
 use Rattle.question.specs.declared.token.Op.{Op}
-use Rattle.question.specs.Grammar.{Tree, word, pair, part, wordsOf}
+use Rattle.question.specs.Grammar.{Tree, word, pair, part, treeWords}
 use Rattle.question.specs.Meaning.{combine}
 use Rattle.fill.specs.Added.{Added}
 use Rattle.slots.specs.Slots.{slotFits}
@@ -38,7 +38,7 @@ module _ (v : ℕ → ℕ → Bool) (k base : ℕ) where
   holds-part t ws h = holds-agree (slotFits v t k) (slotFits v (part t) k) base ws (λ n l. sym (slot-part v k (base + n) t)) h
 
   -- j is the slot of the right side's first word
-  pub holds-pair : (o : Op) (a b : Tree) (j : ℕ) (xs ys zs : List ℕ) → j ≡ k + length (wordsOf a) → length ys ≡ length xs → Combined (combine o) xs ys zs →
+  pub holds-pair : (o : Op) (a b : Tree) (j : ℕ) (xs ys zs : List ℕ) → j ≡ k + length (treeWords a) → length ys ≡ length xs → Combined (combine o) xs ys zs →
       Holds (slotFits v a k) base xs → Holds (slotFits v b j) base ys → Holds (slotFits v (pair o a b) k) base zs
   holds-pair o a b j xs ys zs e l c h g =
       holds-agree (λ x. combine o (slotFits v a k x) (slotFits v b j x)) (slotFits v (pair o a b) k) base zs (λ n w. sym (slot-pair v k (base + n) o a b j e))

@@ -1,3 +1,3 @@
 pub mod EvalLaws
-pub mod SenseLaws
-pub mod SensedLaws
+pub mod PairedSenses
+pub mod KeptSenses

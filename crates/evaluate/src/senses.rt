@@ -13,7 +13,7 @@ use index::trailer::word_count;
 use list::END;
 use list::hints::hint_of;
 use list::hints::keep_hint;
-use list::reading::place_of;
+use list::reading::reading_place;
 use list::sense::Sense;
 use list::sense::sense_at;
 
@@ -33,7 +33,7 @@ fn look_slot(index: &[u8], entries: &[usize], k: usize, x: u32, hints: &mut [usi
     let singles = singles_of(index, entry);
     let lower = lower_of(index, entry);
     let upper = upper_of(index, entry);
-    let at = place_of(singles, upper, hint_of(hints, k), x);
+    let at = reading_place(singles, upper, hint_of(hints, k), x);
     keep_hint(hints, k, at);
     sense_at(singles, lower, upper, at, x)
 }

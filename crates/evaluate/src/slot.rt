@@ -26,7 +26,7 @@ pub fn fill_slot(
         let singles = directory::parts::singles_of(index, entry);
         let lower = directory::parts::lower_of(index, entry);
         let upper = directory::parts::upper_of(index, entry);
-        let at = list::reading::place_of(singles, upper, hint_of(hints, k), base);
+        let at = list::reading::reading_place(singles, upper, hint_of(hints, k), base);
         let next = fill_list(singles, lower, upper, at, base, ws);
         keep_hint(hints, k, next);
     }

@@ -7,7 +7,7 @@ ghost use Rattle.list.specs.Cell.{numbersIn};
 ghost use Rattle.list.specs.Among.{among};
 ghost use Rattle.list.specs.Interval.{top, names};
 ghost use Rattle.list.specs.Kept.{walked};
-ghost use Rattle.list.specs.Reading.{KeptIn, listIn, placeOf};
+ghost use Rattle.list.specs.Reading.{KeptIn, listIn, readingPlace};
 ghost use Rattle.list.specs.Seek.{Ascends, countBelow};
 ghost use Rattle.fill.specs.Added.{Added, Apart};
 use list::PairAt;
@@ -79,7 +79,7 @@ pub fn fill_list(
     base: u32,
     ws: &mut [u64],
 ) -> Place
-    requires { ⌜ KeptIn top (now singles) (now lower) (now upper) × (at ≡ placeOf base (numbersIn (now singles)) (numbersIn (now upper))) × (length (now ws) ≤ 128) × (base ≤ 16777216) ⌝ }
+    requires { ⌜ KeptIn top (now singles) (now lower) (now upper) × (at ≡ readingPlace base (numbersIn (now singles)) (numbersIn (now upper))) × (length (now ws) ≤ 128) × (base ≤ 16777216) ⌝ }
     ensures { λ r. ⌜ Added (names (listIn (now (singles .entry)) (now (lower .entry)) (now (upper .entry)))) base (now (ws .entry)) (now (ws .exit)) ⌝ }
 {
     let p = fill_singles(singles, at.p, base, ws);

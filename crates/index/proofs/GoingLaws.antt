@@ -14,7 +14,7 @@ use Rattle.refusal.proofs.FirstLaws.{first-start, first-hit, first-miss, first-
 use Rattle.word.specs.Word.{isWord, before}
 use Rattle.index.specs.declared.entry.Entry.{Entry}
 use Rattle.index.specs.Format.{wordsStart, directoryStart, wordCount, wordStart, wordLength, listLength, wordsEnd, listsEnd, wordOf}
-use Rattle.index.specs.Read.{EntryOf}
+use Rattle.index.specs.Read.{EntryCells}
 use Rattle.index.specs.Sound.{badDirectory, badWord, badEntry, badEnd, wordBefore}
 use Rattle.index.specs.Check.{badEntryOf}
 use Rattle.index.proofs.SoundLaws.{wordsEnd-next, listsEnd-next, directory-facts}
@@ -74,7 +74,7 @@ module _ (index : List ℕ) (e : Entry) (prior words lists i : ℕ) (g : Going i
   going-hit b = g .left ∙ first-hit (badEntry index) i (wordCount index) h b
 
   -- what the code asks of the two parts is the word rule
-  pub going-word : EntryOf index i e → badDirectory index i ≡ false →
+  pub going-word : EntryCells index i e → badDirectory index i ≡ false →
       isWord (take (words + e .«word_length» - words) (drop words index))
       && before (take (words - prior) (drop prior index)) (take (words + e .«word_length» - words) (drop words index))
       ≡ not (badWord index i)
@@ -83,7 +83,7 @@ module _ (index : List ℕ) (e : Entry) (prior words lists i : ℕ) (g : Going i
       let p = word-part index i words (words + e .«word_length») (g .words-sum ∙ sym (f .0)) (ap (λ n. words + n) (of .word-length)) in
       rw (p, g .prior-word, word-rule index i) (sym (Bool·not-not (isWord (wordOf index i) && before (wordBefore index i) (wordOf index i))))
 
-  pub going-step : EntryOf index i e → badDirectory index i ≡ false → badWord index i ≡ false →
+  pub going-step : EntryCells index i e → badDirectory index i ≡ false → badWord index i ≡ false →
       Going index words (words + e .«word_length») (lists + 4 * (e .singles + 2 * e .pairs)) (i + 1)
   unfolding listLength
   going-step of d b =

@@ -14,7 +14,7 @@ use Rattle.list.specs.Kept.{isKept}
 use Rattle.index.specs.declared.trailer.Trailer.{Trailer}
 use Rattle.index.specs.declared.entry.Entry.{Entry}
 use Rattle.index.specs.Format.{wordStart, listStart, singleCount, pairCount, wordLength, listLength, wordsEnd, listsEnd, wordsStart, directoryStart, highest, wordOf, singlesOf, lowerOf, upperOf}
-use Rattle.index.specs.Read.{TrailerOf, Framed, EntryOf}
+use Rattle.index.specs.Read.{TrailerOf, Framed, EntryCells}
 use Rattle.index.specs.Sound.{badDirectory, badWord, badEntry, badList, wordBefore}
 use Rattle.index.proofs.SoundLaws.{wordsEnd-next, listsEnd-next, directory-facts}
 
@@ -36,7 +36,7 @@ none-of true true false false e = refl
 none-of true false c d e = refl
 none-of false b c d e = refl
 
-pub directory-rule : (index : List ℕ) (i : ℕ) (t : Trailer) (e : Entry) (words lists : ℕ) → TrailerOf index t → EntryOf index i e →
+pub directory-rule : (index : List ℕ) (i : ℕ) (t : Trailer) (e : Entry) (words lists : ℕ) → TrailerOf index t → EntryCells index i e →
     words ≡ wordsEnd index i → lists ≡ listsEnd index i →
     eqb (e .«word_start») words
     && eqb (e .«list_start») lists
@@ -64,7 +64,7 @@ word-rule index i = go (isWord (wordOf index i)) (before (wordBefore index i) (w
     go false b = refl
 
 -- the three parts that are handed on are the regions of entry i's list
-pub list-rule : (index : List ℕ) (i : ℕ) (e : Entry) (limit : ℕ) → EntryOf index i e → limit ≡ highest index →
+pub list-rule : (index : List ℕ) (i : ℕ) (e : Entry) (limit : ℕ) → EntryCells index i e → limit ≡ highest index →
     isKept limit
     (numbersIn (take (e .«list_start» + 4 * e .singles - e .«list_start») (drop (e .«list_start») index)))
     (numbersIn (take (e .«list_start» + 4 * e .singles + 4 * e .pairs - (e .«list_start» + 4 * e .singles)) (drop (e .«list_start» + 4 * e .singles) index)))
@@ -81,7 +81,7 @@ list-rule index i e limit of l =
     rw (a, b, c, of .list-start, of .singles, of .pairs, l)
     (sym (Bool·not-not (isKept (highest index) (numbersIn (singlesOf index i)) (numbersIn (lowerOf index i)) (numbersIn (upperOf index i)))))
 
-pub list-room : (index : List ℕ) (t : Trailer) (i : ℕ) (e : Entry) → Framed index t → EntryOf index i e → badEntry index i ≡ false →
+pub list-room : (index : List ℕ) (t : Trailer) (i : ℕ) (e : Entry) → Framed index t → EntryCells index i e → badEntry index i ≡ false →
     e .«list_start» + 4 * e .singles + 8 * e .pairs ≤ length index
 unfolding badEntry listLength
 list-room index t i e f of h =

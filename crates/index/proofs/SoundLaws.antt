@@ -16,7 +16,7 @@ use Rattle.word.proofs.WordLaws.{before-irreflexive, before-transitive}
 use Rattle.list.specs.Interval.{top}
 use Rattle.list.specs.Cell.{numbersIn}
 use Rattle.list.specs.Kept.{isKept}
-use Rattle.index.specs.Format.{wordsStart, directoryStart, wordCount, highest, edition, entryAt, wordStart, wordLength, listStart, singleCount, pairCount, listLength, wordsEnd, listsEnd, part, wordOf, singlesOf, lowerOf, upperOf}
+use Rattle.index.specs.Format.{wordsStart, directoryStart, wordCount, highest, edition, entryPlace, wordStart, wordLength, listStart, singleCount, pairCount, listLength, wordsEnd, listsEnd, part, wordOf, singlesOf, lowerOf, upperOf}
 use Rattle.index.specs.Part.{Slice, partOf}
 use Rattle.index.specs.Sound.{badLength, badEdition, badTrailer, badDirectory, badWord, badEntry, badEnd, badList, wordBefore, Sound}
 
@@ -76,7 +76,7 @@ listsEnd-next index i = rw (add-one i)
 
 -- entry i: where it, its word and its list stand
 pub record EntryFacts (index : List ℕ) (i : ℕ) : Type 0 where
-  pub entry-within : entryAt index i + 20 ≤ length index - 20
+  pub entry-within : entryPlace index i + 20 ≤ length index - 20
   pub word-start : wordStart index i ≡ wordsEnd index i
   pub word-least : wordsStart index ≤ wordStart index i
   pub word-within : wordStart index i + wordLength index i ≤ directoryStart index
@@ -117,9 +117,9 @@ sound-directory : (index : List ℕ) → Sound index → (i : ℕ) → i < wordC
 unfolding badEntry
 sound-directory index s i h = or-neither (badDirectory index i) (badWord index i) (s .entries i h) .0
 
-entry-at : (index : List ℕ) (i : ℕ) → entryAt index i ≡ directoryStart index + 20 * i
-unfolding entryAt
-entry-at index i = refl
+read-entry : (index : List ℕ) (i : ℕ) → entryPlace index i ≡ directoryStart index + 20 * i
+unfolding entryPlace
+read-entry index i = refl
 
 pub sound-entry : (index : List ℕ) → Sound index → (i : ℕ) → i < wordCount index → EntryFacts index i
 sound-entry index s i h =
@@ -129,7 +129,7 @@ sound-entry index s i h =
     let l = listsEnd-next index i in
     let m = wordsEnd-least index i in
     record {
-      entry-within = entry-room (directoryStart index) i (wordCount index) (length index) (entryAt index i) (entry-at index i) h (t .total);
+      entry-within = entry-room (directoryStart index) i (wordCount index) (length index) (entryPlace index i) (read-entry index i) h (t .total);
       word-start = f .0;
       word-least = rw (f .0) m;
       word-within = rw (f .0, ← w) (f .3);

@@ -26,23 +26,23 @@ abbrev pub entrySize : ℕ → ℕ
 entrySize e = 20
 
 -- Reference 4.3: where entry i stands, and its five cells
-unfoldable pub entryAt : List ℕ → ℕ → ℕ
-entryAt index i = directoryStart index + entrySize (edition index) * i
+unfoldable pub entryPlace : List ℕ → ℕ → ℕ
+entryPlace index i = directoryStart index + entrySize (edition index) * i
 
 unfoldable pub wordStart : List ℕ → ℕ → ℕ
-wordStart index i = cellAt index (entryAt index i)
+wordStart index i = cellAt index (entryPlace index i)
 
 unfoldable pub wordLength : List ℕ → ℕ → ℕ
-wordLength index i = cellAt index (entryAt index i + 4)
+wordLength index i = cellAt index (entryPlace index i + 4)
 
 unfoldable pub listStart : List ℕ → ℕ → ℕ
-listStart index i = cellAt index (entryAt index i + 8)
+listStart index i = cellAt index (entryPlace index i + 8)
 
 unfoldable pub singleCount : List ℕ → ℕ → ℕ
-singleCount index i = cellAt index (entryAt index i + 12)
+singleCount index i = cellAt index (entryPlace index i + 12)
 
 unfoldable pub pairCount : List ℕ → ℕ → ℕ
-pairCount index i = cellAt index (entryAt index i + 16)
+pairCount index i = cellAt index (entryPlace index i + 16)
 
 -- Reference 3.4: the bytes of a kept list
 unfoldable pub listLength : List ℕ → ℕ → ℕ

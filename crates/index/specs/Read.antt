@@ -41,7 +41,7 @@ pub record Small (e : Entry) : Type 0 where
   pub singles : e .singles < 4294967296
   pub pairs : e .pairs < 4294967296
 
-pub record EntryOf (index : List ℕ) (i : ℕ) (e : Entry) : Type 0 where
+pub record EntryCells (index : List ℕ) (i : ℕ) (e : Entry) : Type 0 where
   pub word-start : e .«word_start» ≡ wordStart index i
   pub word-length : e .«word_length» ≡ wordLength index i
   pub list-start : e .«list_start» ≡ listStart index i

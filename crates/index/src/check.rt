@@ -6,13 +6,13 @@ ghost use Prim.Native.Nat.{ℕ, _+_, _*_, _≤_, _<_};
 ghost use lib.ListN.{length};
 ghost use Rattle.word.specs.Word.{isWord, before};
 ghost use Rattle.index.specs.Format.{wordCount, highest, wordsEnd, listsEnd};
-ghost use Rattle.index.specs.Read.{TrailerOf, Framed, EntryOf, Small};
+ghost use Rattle.index.specs.Read.{TrailerOf, Framed, EntryCells, Small};
 ghost use Rattle.index.specs.Sound.{badTrailer, badDirectory, badEntry, badList};
 ghost use Rattle.index.specs.Check.{badEntryOf, badListOf, contentsOf, checkOf};
 use crate::Checked;
 use crate::entry::Entry;
-use crate::entry::entry_at;
-use crate::entry::place_of;
+use crate::entry::entry_place;
+use crate::entry::read_entry;
 use crate::trailer::Trailer;
 use crate::trailer::read_trailer;
 use refusal::Found;
@@ -32,7 +32,7 @@ fn trailer_good(index: &[u8], trailer: Trailer) -> bool
     if trailer.directory < trailer.words {
         return false;
     }
-    place_of(trailer, trailer.count) + 20 == index.len()
+    entry_place(trailer, trailer.count) + 20 == index.len()
 }
 
 // How many bytes an entry's list takes.
@@ -46,7 +46,7 @@ fn list_length(entry: Entry) -> usize
 // Reference 5.2: whether an entry keeps the directory rule, where the words before it end at `words` and the lists at `lists`.
 fn directory_good(trailer: Trailer, entry: Entry, words: usize, lists: usize) -> bool
     requires { ⌜ (words < 4294967296) × (lists < 4294967296) × Small entry ⌝ }
-    ensures { λ r. ⌜ ((index : List ℕ) (i : ℕ) → TrailerOf index trailer → EntryOf index i entry → words ≡ wordsEnd index i → lists ≡ listsEnd index i → r ≡ not (badDirectory index i)) ⌝ }
+    ensures { λ r. ⌜ ((index : List ℕ) (i : ℕ) → TrailerOf index trailer → EntryCells index i entry → words ≡ wordsEnd index i → lists ≡ listsEnd index i → r ≡ not (badDirectory index i)) ⌝ }
 {
     (entry.word_start == words)
         & (entry.list_start == lists)
@@ -79,7 +79,7 @@ fn first_bad_entry(index: &[u8], trailer: Trailer) -> Found
     let mut lists: usize = 0;
     let mut i = 0;
     while i < trailer.count {
-        let entry = entry_at(index, trailer, i);
+        let entry = read_entry(index, trailer, i);
         if !directory_good(trailer, entry, words, lists) {
             return Found::At(i);
         }
@@ -104,7 +104,7 @@ fn first_bad_entry(index: &[u8], trailer: Trailer) -> Found
 // Reference 3.4: whether an entry's list keeps the list rule; its regions are slices of the index.
 fn list_good(index: &[u8], entry: Entry, limit: u32) -> bool
     requires { ⌜ (entry .«list_start» + 4 * entry .singles + 8 * entry .pairs ≤ length (now index)) × (length (now index) ≤ 16777216) × (limit ≤ 16777215) ⌝ }
-    ensures { λ r. ⌜ ((i : ℕ) → EntryOf (now (index .entry)) i entry → limit ≡ highest (now (index .entry)) → r ≡ not (badList (now (index .entry)) i)) ⌝ }
+    ensures { λ r. ⌜ ((i : ℕ) → EntryCells (now (index .entry)) i entry → limit ≡ highest (now (index .entry)) → r ≡ not (badList (now (index .entry)) i)) ⌝ }
 {
     let start = entry.list_start;
     let lower = start + 4 * entry.singles;
@@ -125,7 +125,7 @@ fn first_bad_list(index: &[u8], trailer: Trailer) -> Found
 {
     let mut k = 0;
     while k < trailer.count {
-        let entry = entry_at(index, trailer, k);
+        let entry = read_entry(index, trailer, k);
         if !list_good(index, entry, trailer.highest) {
             return Found::At(k);
         }

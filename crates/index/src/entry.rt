@@ -2,7 +2,7 @@
 ghost use mathlib.Core.Path.{_≡_};
 ghost use Prim.Native.Nat.{_+_, _*_, _<_};
 ghost use Rattle.index.specs.Format.{entrySize};
-ghost use Rattle.index.specs.Read.{Framed, EntryOf};
+ghost use Rattle.index.specs.Read.{Framed, EntryCells};
 
 pub struct Entry {
     pub word_start: usize,
@@ -20,18 +20,18 @@ pub fn entry_size(edition: u32) -> usize
 }
 
 // Where entry i starts.
-pub fn place_of(trailer: crate::trailer::Trailer, i: usize) -> usize
+pub fn entry_place(trailer: crate::trailer::Trailer, i: usize) -> usize
     requires { ⌜ (trailer .directory < 4294967296) × (i < 4294967296) ⌝ }
     ensures { λ r. ⌜ r ≡ trailer .directory + entrySize (trailer .edition) * i ⌝ }
 {
     trailer.directory + entry_size(trailer.edition) * i
 }
 
-pub fn entry_at(index: &[u8], trailer: crate::trailer::Trailer, i: usize) -> Entry
+pub fn read_entry(index: &[u8], trailer: crate::trailer::Trailer, i: usize) -> Entry
     requires { ⌜ Framed (now index) trailer × (i < trailer .count) ⌝ }
-    ensures { λ r. ⌜ EntryOf (now (index .entry)) i r ⌝ }
+    ensures { λ r. ⌜ EntryCells (now (index .entry)) i r ⌝ }
 {
-    let at = place_of(trailer, i);
+    let at = entry_place(trailer, i);
     Entry {
         word_start: list::cell::cell_at(index, at) as usize,
         word_length: list::cell::cell_at(index, at + 4) as usize,

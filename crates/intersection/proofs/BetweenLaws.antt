@@ -9,7 +9,7 @@ use lib.ListN.{length, length-append}
 use lib.Seq.{sets, length-sets}
 use Rattle.laws.proofs.Lists.{sets-append}
 use Rattle.list.specs.Interval.{intervals, records}
-use Rattle.list.specs.Stretches.{turned, stretches, cellsOf, kept, recordsFrom}
+use Rattle.list.specs.Stretches.{turned, stretches, cellsOf, consIf, recordsFrom}
 use Rattle.list.proofs.StretchLaws.{turned-append}
 use Rattle.list.proofs.RecordLaws.{stretches-records}
 use Rattle.list.proofs.SweepLaws.{Swept, swept-cells-few, swept-records-few, swept-skip, members-on}
@@ -17,18 +17,18 @@ use Rattle.intersection.specs.Probing.{between}
 
 -- ---- it has whole intervals
 
-even-step : (p : ℕ → Bool) (x k l : ℕ) (b v : Bool) → ((h : ℕ) → 2 * (length (kept v h (stretches p v (x + 1) k)) / 2) ≡ length (kept v h (stretches p v (x + 1) k))) →
-    2 * (length (kept b l (turned b v x (stretches p v (x + 1) k))) / 2) ≡ length (kept b l (turned b v x (stretches p v (x + 1) k)))
+even-step : (p : ℕ → Bool) (x k l : ℕ) (b v : Bool) → ((h : ℕ) → 2 * (length (consIf v h (stretches p v (x + 1) k)) / 2) ≡ length (consIf v h (stretches p v (x + 1) k))) →
+    2 * (length (consIf b l (turned b v x (stretches p v (x + 1) k))) / 2) ≡ length (consIf b l (turned b v x (stretches p v (x + 1) k)))
 even-step p x k l false false ih = ih l
 even-step p x k l false true ih = ih x
 even-step p x k l true false ih = let e = ih l in omega arith
 even-step p x k l true true ih = ih l
 
-even-last : (b : Bool) (l x : ℕ) → 2 * (length (kept b l (turned b false x [])) / 2) ≡ length (kept b l (turned b false x []))
+even-last : (b : Bool) (l x : ℕ) → 2 * (length (consIf b l (turned b false x [])) / 2) ≡ length (consIf b l (turned b false x []))
 even-last true l x = refl
 even-last false l x = refl
 
-stretches-even : (p : ℕ → Bool) (b : Bool) (l x k : ℕ) → 2 * (length (kept b l (stretches p b x k)) / 2) ≡ length (kept b l (stretches p b x k))
+stretches-even : (p : ℕ → Bool) (b : Bool) (l x k : ℕ) → 2 * (length (consIf b l (stretches p b x k)) / 2) ≡ length (consIf b l (stretches p b x k))
 unfolding stretches
 stretches-even p b l x zero = even-last b l x
 stretches-even p b l x (suc k) = even-step p x k l b (p x) (λ h. stretches-even p (p x) h (x + 1) k)

@@ -15,8 +15,8 @@ use Rattle.list.proofs.LeftLaws.{ReadTo, read-start, read-goes, read-end, read-
 use Rattle.list.proofs.ReadingLaws.{next-fits}
 use Rattle.index.specs.Format.{highest, listOf}
 use Rattle.index.proofs.SoundLaws.{sound-trailer}
-use Rattle.merge.specs.Asked.{Asked, listsOf}
-use Rattle.merge.specs.Places.{singlesIn, lowerIn, upperIn}
+use Rattle.merge.specs.Request.{SoundRequest, listsOf}
+use Rattle.merge.specs.Places.{entrySingles, entryLowers, entryUppers}
 use Rattle.merge.specs.Sweep.{Sweeps}
 use Rattle.merge.proofs.ListsLaws.{entry-kept}
 use Rattle.merge.proofs.TallyLaws.{Tallied, tallied-start, tallied-skip, tallied-end}
@@ -30,10 +30,10 @@ pub record Going (index entries : List ℕ) (e : ℕ) (writing : Bool) (out₀ o
   pub k : ℕ
   pub near : (x ≤ k) × (k ≤ x + 1)
   pub passed : i ≡ at .p .0 + at .q .0
-  pub read : ReadTo (highest index) (singlesIn index e) (lowerIn index e) (upperIn index e) at k
+  pub read : ReadTo (highest index) (entrySingles index e) (entryLowers index e) (entryUppers index e) at k
   pub swept : Tallied (inAll index entries) writing out₀ out t x
 
-module _ {index entries : List ℕ} (asked : Asked index entries) {j : ℕ} (h : j < length entries) where
+module _ {index entries : List ℕ} (asked : SoundRequest index entries) {j : ℕ} (h : j < length entries) where
   list-top : highest index ≤ top
   list-top = sound-trailer index (asked .sound) .highest-bound
 
@@ -49,19 +49,19 @@ module _ {index entries : List ℕ} (asked : Asked index entries) {j : ℕ} (h :
         k = 1;
         near = (omega arith, omega arith);
         passed = refl;
-        read = read-start (highest index) (singlesIn index (getD entries j 0)) (lowerIn index (getD entries j 0)) (upperIn index (getD entries j 0)) (entry-kept index (asked .sound) (getD entries j 0) (asked .below j h));
+        read = read-start (highest index) (entrySingles index (getD entries j 0)) (entryLowers index (getD entries j 0)) (entryUppers index (getD entries j 0)) (entry-kept index (asked .sound) (getD entries j 0) (asked .below j h));
         swept = tallied-start (inAll index entries) writing out t e f;
       }
 
   module _ {writing : Bool} {out₀ out : List ℕ} {t : Tally} {at : Place} {i : ℕ} (g : Going index entries (getD entries j 0) writing out₀ out t at i) where
     abbrev S : List ℕ
-    S = singlesIn index (getD entries j 0)
+    S = entrySingles index (getD entries j 0)
 
     abbrev L : List ℕ
-    L = lowerIn index (getD entries j 0)
+    L = entryLowers index (getD entries j 0)
 
     abbrev U : List ℕ
-    U = upperIn index (getD entries j 0)
+    U = entryUppers index (getD entries j 0)
 
     pub going-goes : i < length S + length L → Goes S L at
     going-goes m = read-goes (highest index) S L U at (g .k) (g .read) (let p = g .passed in omega arith)

@@ -11,12 +11,12 @@ use Rattle.laws.proofs.Tests.{true-false, and-both, by-test, leb-cases}
 use Rattle.laws.proofs.Lists.{sets-two}
 use Rattle.list.specs.declared.answer.Tally.{Tally}
 use Rattle.list.specs.Interval.{top, names, intervals, records}
-use Rattle.list.specs.Stretches.{turned, stretches, kept}
+use Rattle.list.specs.Stretches.{turned, stretches, consIf}
 use Rattle.list.specs.Ginix.{inEvery}
 use Rattle.list.specs.Sense.{Steady}
 use Rattle.list.proofs.StretchLaws.{stretches-on, stretches-end}
 use Rattle.index.specs.Format.{listOf}
-use Rattle.merge.specs.Asked.{listsOf}
+use Rattle.merge.specs.Request.{listsOf}
 use Rattle.merge.specs.Put.{Fitting, Put, PutWhere, upTo}
 use Rattle.merge.proofs.ListsLaws.{lists-next, lists-end}
 use Rattle.intersection.specs.Probing.{between, CellsFit, CellsPut, inAll, Within, closes, lowerOn}
@@ -174,13 +174,13 @@ pub closes-so : (o v : Bool) → o ≡ true → v ≡ false → closes o v ≡ t
 closes-so o v e f = rw (e, f)
 
 abbrev pending : (ℕ → Bool) → ℕ → Bool → ℕ → ℕ → List ℕ
-pending p b o l x = kept o l (stretches p o x (b + 1 - x))
+pending p b o l x = consIf o l (stretches p o x (b + 1 - x))
 
 -- the piece that closes before x comes first
 abbrev closed : Bool → ℕ → ℕ → List ℕ → List ℕ
 closed test l x c = cond test (l ∷ (x - 1) ∷ c) c
 
-pending-turn : (o v : Bool) (l x : ℕ) (r : List ℕ) → kept o l (turned o v x r) ≡ closed (closes o v) l x (kept v (lowerOn o l x) r)
+pending-turn : (o v : Bool) (l x : ℕ) (r : List ℕ) → consIf o l (turned o v x r) ≡ closed (closes o v) l x (consIf v (lowerOn o l x) r)
 pending-turn false false l x r = refl
 pending-turn false true l x r = refl
 pending-turn true false l x r = refl

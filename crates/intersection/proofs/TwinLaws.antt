@@ -21,8 +21,8 @@ use Rattle.list.proofs.SweepLaws.{swept-start}
 use Rattle.index.specs.Format.{highest, listOf}
 use Rattle.index.proofs.SoundLaws.{sound-trailer}
 use Rattle.heap.specs.Heap.{Pushed, Replaced}
-use Rattle.merge.specs.Asked.{Asked, listsOf}
-use Rattle.merge.specs.Places.{singlesIn, lowerIn, upperIn, usedUp}
+use Rattle.merge.specs.Request.{SoundRequest, listsOf}
+use Rattle.merge.specs.Places.{entrySingles, entryLowers, entryUppers, usedUp}
 use Rattle.merge.specs.Put.{Fitting, PutWhere}
 use Rattle.merge.specs.Sweep.{Sweeps}
 use Rattle.merge.proofs.ListsLaws.{entry-kept, entry-some}
@@ -46,24 +46,24 @@ every-in index (i ∷ es) x f = rw (f 0 (omega arith)) (every-in index es x (λ 
 pub record Ahead (index entries : List ℕ) (i : ℕ) (at : Place) (x : ℕ) : Type 0 where
   pub from : ℕ
   pub near : from ≤ x + 1
-  pub read : ReadTo (highest index) (singlesIn index (getD entries i 0)) (lowerIn index (getD entries i 0)) (upperIn index (getD entries i 0)) at from
-  pub goes : Goes (singlesIn index (getD entries i 0)) (lowerIn index (getD entries i 0)) at
+  pub read : ReadTo (highest index) (entrySingles index (getD entries i 0)) (entryLowers index (getD entries i 0)) (entryUppers index (getD entries i 0)) at from
+  pub goes : Goes (entrySingles index (getD entries i 0)) (entryLowers index (getD entries i 0)) at
   pub later : x ≤ nextUpper index entries i at + 1
 
-module _ (index entries : List ℕ) (asked : Asked index entries) (i : ℕ) (h : i < length entries) where
-  first-read : ReadTo (highest index) (singlesIn index (getD entries i 0)) (lowerIn index (getD entries i 0)) (upperIn index (getD entries i 0)) start 1
+module _ (index entries : List ℕ) (asked : SoundRequest index entries) (i : ℕ) (h : i < length entries) where
+  first-read : ReadTo (highest index) (entrySingles index (getD entries i 0)) (entryLowers index (getD entries i 0)) (entryUppers index (getD entries i 0)) start 1
   first-read =
-      read-start (highest index) (singlesIn index (getD entries i 0)) (lowerIn index (getD entries i 0)) (upperIn index (getD entries i 0))
+      read-start (highest index) (entrySingles index (getD entries i 0)) (entryLowers index (getD entries i 0)) (entryUppers index (getD entries i 0))
       (entry-kept index (asked .sound) (getD entries i 0) (asked .below i h))
 
-  pub first-goes : Goes (singlesIn index (getD entries i 0)) (lowerIn index (getD entries i 0)) start
+  pub first-goes : Goes (entrySingles index (getD entries i 0)) (entryLowers index (getD entries i 0)) start
   first-goes =
-      read-goes (highest index) (singlesIn index (getD entries i 0)) (lowerIn index (getD entries i 0)) (upperIn index (getD entries i 0)) start 1 first-read
+      read-goes (highest index) (entrySingles index (getD entries i 0)) (entryLowers index (getD entries i 0)) (entryUppers index (getD entries i 0)) start 1 first-read
       (entry-some index (asked .sound) (getD entries i 0) (asked .below i h))
 
   first-bounds : (1 ≤ nextLower index entries i start) × (nextLower index entries i start ≤ nextUpper index entries i start) × (nextUpper index entries i start ≤ highest index)
   first-bounds =
-      read-bounds (highest index) (singlesIn index (getD entries i 0)) (lowerIn index (getD entries i 0)) (upperIn index (getD entries i 0)) start 1 first-read first-goes
+      read-bounds (highest index) (entrySingles index (getD entries i 0)) (entryLowers index (getD entries i 0)) (entryUppers index (getD entries i 0)) start 1 first-read first-goes
 
   pub first-small : nextUpper index entries i start ≤ top
   first-small = let b = first-bounds in let t = sound-trailer index (asked .sound) .highest-bound in omega arith
@@ -79,14 +79,14 @@ module _ (index entries : List ℕ) (asked : Asked index entries) (i : ℕ) (h :
 
   -- the list at a later place
   module _ (at : Place) (x : ℕ) (a : Ahead index entries i at x) where
-    next-read : ReadTo (highest index) (singlesIn index (getD entries i 0)) (lowerIn index (getD entries i 0)) (upperIn index (getD entries i 0))
+    next-read : ReadTo (highest index) (entrySingles index (getD entries i 0)) (entryLowers index (getD entries i 0)) (entryUppers index (getD entries i 0))
         (nextOf index entries i at) (nextUpper index entries i at + 2)
     next-read =
-        read-next (highest index) (singlesIn index (getD entries i 0)) (lowerIn index (getD entries i 0)) (upperIn index (getD entries i 0)) at (a .from) (a .read) (a .goes)
+        read-next (highest index) (entrySingles index (getD entries i 0)) (entryLowers index (getD entries i 0)) (entryUppers index (getD entries i 0)) at (a .from) (a .read) (a .goes)
 
     pub ahead-bounds : (nextLower index entries i at ≤ nextUpper index entries i at) × (nextUpper index entries i at ≤ highest index)
     ahead-bounds =
-        let b = read-bounds (highest index) (singlesIn index (getD entries i 0)) (lowerIn index (getD entries i 0)) (upperIn index (getD entries i 0)) at (a .from) (a .read) (a .goes) in
+        let b = read-bounds (highest index) (entrySingles index (getD entries i 0)) (entryLowers index (getD entries i 0)) (entryUppers index (getD entries i 0)) at (a .from) (a .read) (a .goes) in
         (b .1, b .2)
 
     pub ahead-before : (z : ℕ) → x ≤ z → z < nextLower index entries i at → inAll index entries z ≡ false
@@ -94,18 +94,18 @@ module _ (index entries : List ℕ) (asked : Asked index entries) (i : ℕ) (h :
     ahead-before z f g =
         let n = a .near in
         every-out index entries i z h
-        (read-before (highest index) (singlesIn index (getD entries i 0)) (lowerIn index (getD entries i 0)) (upperIn index (getD entries i 0)) at (a .from) (a .read) (a .goes) z (omega arith) g)
+        (read-before (highest index) (entrySingles index (getD entries i 0)) (entryLowers index (getD entries i 0)) (entryUppers index (getD entries i 0)) at (a .from) (a .read) (a .goes) z (omega arith) g)
 
     pub ahead-inside : (z : ℕ) → nextLower index entries i at ≤ z → z ≤ nextUpper index entries i at → names (listOf index (getD entries i 0)) z ≡ true
     unfolding listOf
     ahead-inside z f g =
-        read-inside (highest index) (singlesIn index (getD entries i 0)) (lowerIn index (getD entries i 0)) (upperIn index (getD entries i 0)) at (a .from) (a .read) (a .goes) z f g
+        read-inside (highest index) (entrySingles index (getD entries i 0)) (entryLowers index (getD entries i 0)) (entryUppers index (getD entries i 0)) at (a .from) (a .read) (a .goes) z f g
 
     pub ahead-behind : inAll index entries (nextUpper index entries i at + 1) ≡ false
     unfolding listOf
     ahead-behind =
         every-out index entries i (nextUpper index entries i at + 1) h
-        (read-behind (highest index) (singlesIn index (getD entries i 0)) (lowerIn index (getD entries i 0)) (upperIn index (getD entries i 0)) at (a .from) (a .read) (a .goes))
+        (read-behind (highest index) (entrySingles index (getD entries i 0)) (entryLowers index (getD entries i 0)) (entryUppers index (getD entries i 0)) at (a .from) (a .read) (a .goes))
 
     -- its interval is passed, and it is used up
     pub ahead-end : usedUp index (getD entries i 0) (nextOf index entries i at) ≡ true →
@@ -114,27 +114,27 @@ module _ (index entries : List ℕ) (asked : Asked index entries) (i : ℕ) (h :
     ahead-end e z g =
         let at′ = nextOf index entries i at in
         every-out index entries i z h
-        (read-end (highest index) (singlesIn index (getD entries i 0)) (lowerIn index (getD entries i 0)) (upperIn index (getD entries i 0)) at′ (nextUpper index entries i at + 2) next-read
-        (leb-true (length (singlesIn index (getD entries i 0)) + length (lowerIn index (getD entries i 0))) (at′ .p .0 + at′ .q .0) e) z (omega arith))
+        (read-end (highest index) (entrySingles index (getD entries i 0)) (entryLowers index (getD entries i 0)) (entryUppers index (getD entries i 0)) at′ (nextUpper index entries i at + 2) next-read
+        (leb-true (length (entrySingles index (getD entries i 0)) + length (entryLowers index (getD entries i 0))) (at′ .p .0 + at′ .q .0) e) z (omega arith))
 
-    pub next-fits : (nextOf index entries i at .p .0 ≤ length (singlesIn index (getD entries i 0)))
-        × (nextOf index entries i at .q .0 ≤ length (lowerIn index (getD entries i 0)))
+    pub next-fits : (nextOf index entries i at .p .0 ≤ length (entrySingles index (getD entries i 0)))
+        × (nextOf index entries i at .q .0 ≤ length (entryLowers index (getD entries i 0)))
     next-fits = (next-read .single, next-read .pair)
 
     -- or another is next
     module _ (e : usedUp index (getD entries i 0) (nextOf index entries i at) ≡ false) where
-      pub next-goes : Goes (singlesIn index (getD entries i 0)) (lowerIn index (getD entries i 0)) (nextOf index entries i at)
+      pub next-goes : Goes (entrySingles index (getD entries i 0)) (entryLowers index (getD entries i 0)) (nextOf index entries i at)
       next-goes =
           let at′ = nextOf index entries i at in
-          read-goes (highest index) (singlesIn index (getD entries i 0)) (lowerIn index (getD entries i 0)) (upperIn index (getD entries i 0)) at′ (nextUpper index entries i at + 2) next-read
-          (leb-false (length (singlesIn index (getD entries i 0)) + length (lowerIn index (getD entries i 0))) (at′ .p .0 + at′ .q .0) e)
+          read-goes (highest index) (entrySingles index (getD entries i 0)) (entryLowers index (getD entries i 0)) (entryUppers index (getD entries i 0)) at′ (nextUpper index entries i at + 2) next-read
+          (leb-false (length (entrySingles index (getD entries i 0)) + length (entryLowers index (getD entries i 0))) (at′ .p .0 + at′ .q .0) e)
 
       pub next-bounds :
           (nextUpper index entries i at + 2 ≤ nextLower index entries i (nextOf index entries i at))
           × (nextLower index entries i (nextOf index entries i at) ≤ nextUpper index entries i (nextOf index entries i at))
           × (nextUpper index entries i (nextOf index entries i at) ≤ highest index)
       next-bounds =
-          read-bounds (highest index) (singlesIn index (getD entries i 0)) (lowerIn index (getD entries i 0)) (upperIn index (getD entries i 0))
+          read-bounds (highest index) (entrySingles index (getD entries i 0)) (entryLowers index (getD entries i 0)) (entryUppers index (getD entries i 0))
           (nextOf index entries i at) (nextUpper index entries i at + 2) next-read next-goes
 
       pub next-ahead : Ahead index entries i (nextOf index entries i at) (nextUpper index entries i at + 1)
@@ -154,7 +154,7 @@ pub record Turning (index entries : List ℕ) (writing : Bool) (out₀ out : Lis
   pub places-long : length places ≡ 16
   pub uppers-long : length uppers ≡ 16
 
-module _ (index entries : List ℕ) (asked : Asked index entries) where
+module _ (index entries : List ℕ) (asked : SoundRequest index entries) where
   pub standing-start : Standing index entries (λ i. getD (replicate 16 start) i start)
   standing-start =
       let few = asked .few in
@@ -163,7 +163,7 @@ module _ (index entries : List ℕ) (asked : Asked index entries) where
         small = λ i h. rw (getD-replicate 16 i start start (omega arith)) (first-low index entries asked i h);
       }
 
-module _ (index entries : List ℕ) (asked : Asked index entries) (writing : Bool) (out : List ℕ) where
+module _ (index entries : List ℕ) (asked : SoundRequest index entries) (writing : Bool) (out : List ℕ) where
   pub turning-start : (uppers : List ℕ) → length uppers ≡ 16 →
       Frontier index entries (λ i. start) (length entries) uppers →
       Turning index entries writing out out (replicate 16 start) uppers (record { intervals = 0; records = 0 })
@@ -184,7 +184,7 @@ module _ (index entries : List ℕ) (asked : Asked index entries) (writing : Boo
 -- ---- one turn
 
 module _ {index entries : List ℕ} {writing : Bool} {out₀ out : List ℕ} {places : List Place} {uppers : List ℕ} {t : Tally}
-    (asked : Asked index entries) (w : Turning index entries writing out₀ out places uppers t) {j : ℕ} (ej : j ≡ getD uppers 0 0 % 16) where
+    (asked : SoundRequest index entries) (w : Turning index entries writing out₀ out places uppers t) {j : ℕ} (ej : j ≡ getD uppers 0 0 % 16) where
   fits : length entries ≤ length uppers
   fits = let few = asked .few in let l = w .uppers-long in omega arith
 
@@ -199,7 +199,7 @@ module _ {index entries : List ℕ} {writing : Bool} {out₀ out : List ℕ} {pl
   turn-below : (i : ℕ) → i < length entries → getD uppers 0 0 / 16 ≤ nextUpper index entries i (getD places i start)
   turn-below = front-below index entries (λ i. getD places i start) (length entries) uppers (w .frontier) (asked .some) (asked .few) fits
 
-  pub turn-goes : Goes (singlesIn index (getD entries j 0)) (lowerIn index (getD entries j 0)) (getD places j start)
+  pub turn-goes : Goes (entrySingles index (getD entries j 0)) (entryLowers index (getD entries j 0)) (getD places j start)
   turn-goes = w .ahead j turn-list .goes
 
   pub turn-high : getD uppers 0 0 / 16 ≤ top
@@ -272,7 +272,7 @@ module _ {index entries : List ℕ} {writing : Bool} {out₀ out : List ℕ} {pl
     at-others : (i : ℕ) → (i ≡ j → ⊥) → getD places′ i start ≡ getD places i start
     at-others i ne = ap (λ (ps : List Place). getD ps i start) ep ∙ getD-set-other places j i (nextOf index entries j (getD places j start)) start ne
 
-    pub turn-fits : (getD places′ j start .p .0 ≤ length (singlesIn index (getD entries j 0))) × (getD places′ j start .q .0 ≤ length (lowerIn index (getD entries j 0)))
+    pub turn-fits : (getD places′ j start .p .0 ≤ length (entrySingles index (getD entries j 0))) × (getD places′ j start .q .0 ≤ length (entryLowers index (getD entries j 0)))
     turn-fits = rw at-j (next-fits index entries asked j turn-list (getD places j start) (w .x) (w .ahead j turn-list))
 
     -- and is not used up
@@ -280,7 +280,7 @@ module _ {index entries : List ℕ} {writing : Bool} {out₀ out : List ℕ} {pl
       not-used : usedUp index (getD entries j 0) (nextOf index entries j (getD places j start)) ≡ false
       not-used = ap (usedUp index (getD entries j 0)) (sym at-j) ∙ e
 
-      pub turn-next-goes : Goes (singlesIn index (getD entries j 0)) (lowerIn index (getD entries j 0)) (getD places′ j start)
+      pub turn-next-goes : Goes (entrySingles index (getD entries j 0)) (entryLowers index (getD entries j 0)) (getD places′ j start)
       turn-next-goes = rw at-j (next-goes index entries asked j turn-list (getD places j start) (w .x) (w .ahead j turn-list) not-used)
 
       bounds : (getD uppers 0 0 / 16 + 2 ≤ nextLower index entries j (getD places′ j start))
@@ -379,7 +379,7 @@ module _ {index entries : List ℕ} {writing : Bool} {out₀ out : List ℕ} {pl
 
 -- ---- the end
 
-module _ {index entries : List ℕ} {writing : Bool} {out₀ out : List ℕ} (asked : Asked index entries) (t : Tally)
+module _ {index entries : List ℕ} {writing : Bool} {out₀ out : List ℕ} (asked : SoundRequest index entries) (t : Tally)
     (s : Tallied (inAll index entries) writing out₀ out t (top + 1)) where
   pub turned-out : (writing ≡ true → length (intersectionOf (listsOf index entries)) ≤ length out₀) → Sweeps (intersectionOf (listsOf index entries)) writing out₀ out t
   unfolding intersectionOf

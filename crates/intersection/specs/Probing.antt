@@ -10,7 +10,7 @@ use Rattle.list.specs.Interval.{top, names, intervals, records}
 use Rattle.list.specs.Stretches.{stretches}
 use Rattle.list.specs.Ginix.{inEvery}
 use Rattle.index.specs.Format.{listOf}
-use Rattle.merge.specs.Asked.{Asked, listsOf}
+use Rattle.merge.specs.Request.{SoundRequest, listsOf}
 
 -- list j of the request has no more intervals than any other
 pub record Shortest (index entries : List ℕ) (j : ℕ) : Type 0 where
@@ -39,7 +39,7 @@ inAll index entries = inEvery (listsOf index entries)
 
 -- [a, b] stands in list j of the request
 pub record Within (index entries : List ℕ) (j a b : ℕ) : Type 0 where
-  pub asked : Asked index entries
+  pub asked : SoundRequest index entries
   pub list : j < length entries
   pub high : b ≤ top
   pub covers : (y : ℕ) → a ≤ y → y ≤ b → names (listOf index (getD entries j 0)) y ≡ true

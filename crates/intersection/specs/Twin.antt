@@ -8,17 +8,17 @@ use Rattle.list.specs.Interval.{top}
 use Rattle.list.specs.Kept.{nextPlace, lowerAt, upperAt}
 use Rattle.list.specs.Reading.{Goes}
 use Rattle.heap.specs.Heap.{countOf, IsHeap}
-use Rattle.merge.specs.Places.{singlesIn, lowerIn, upperIn}
+use Rattle.merge.specs.Places.{entrySingles, entryLowers, entryUppers}
 
 -- the place behind the interval that is next in list i of a request at a reading place, and the bounds of that interval
 abbrev pub nextOf : List ℕ → List ℕ → ℕ → Place → Place
-nextOf index entries i at = nextPlace (singlesIn index (getD entries i 0)) (lowerIn index (getD entries i 0)) at
+nextOf index entries i at = nextPlace (entrySingles index (getD entries i 0)) (entryLowers index (getD entries i 0)) at
 
 abbrev pub nextLower : List ℕ → List ℕ → ℕ → Place → ℕ
-nextLower index entries i at = lowerAt (singlesIn index (getD entries i 0)) (lowerIn index (getD entries i 0)) at
+nextLower index entries i at = lowerAt (entrySingles index (getD entries i 0)) (entryLowers index (getD entries i 0)) at
 
 abbrev pub nextUpper : List ℕ → List ℕ → ℕ → Place → ℕ
-nextUpper index entries i at = upperAt (singlesIn index (getD entries i 0)) (lowerIn index (getD entries i 0)) (upperIn index (getD entries i 0)) at
+nextUpper index entries i at = upperAt (entrySingles index (getD entries i 0)) (entryLowers index (getD entries i 0)) (entryUppers index (getD entries i 0)) at
 
 -- an upper bound and whose it is, as one number: the least of them has the least upper bound
 abbrev pub keyOf : ℕ → ℕ → ℕ
@@ -26,7 +26,7 @@ keyOf u i = u * 16 + i
 
 -- in every list of a request an interval is next, and its lower bound is a record's number
 pub record Standing (index entries : List ℕ) (at : ℕ → Place) : Type 0 where
-  pub goes : (i : ℕ) → i < length entries → Goes (singlesIn index (getD entries i 0)) (lowerIn index (getD entries i 0)) (at i)
+  pub goes : (i : ℕ) → i < length entries → Goes (entrySingles index (getD entries i 0)) (entryLowers index (getD entries i 0)) (at i)
   pub small : (i : ℕ) → i < length entries → nextLower index entries i (at i) ≤ top
 
 -- the upper bounds of the intervals that are next in the first `size` lists, in a heap

@@ -7,7 +7,7 @@ ghost use Rattle.list.specs.Ginix.{intersectionOf};
 ghost use Rattle.list.specs.Interval.{top, names};
 ghost use Rattle.list.specs.Sense.{Steady};
 ghost use Rattle.index.specs.Format.{listOf};
-ghost use Rattle.merge.specs.Asked.{Asked, listsOf};
+ghost use Rattle.merge.specs.Request.{SoundRequest, listsOf};
 ghost use Rattle.merge.specs.Places.{EntryIn};
 ghost use Rattle.merge.specs.Put.{Fitting, PutWhere, upTo};
 ghost use Rattle.merge.specs.Sweep.{Sweeps};
@@ -23,7 +23,7 @@ use list::answer::Tally;
 use list::reading::Interval;
 use list::reading::interval_at;
 use list::reading::next_place;
-use list::reading::place_of;
+use list::reading::reading_place;
 use list::sense::Sense;
 use list::sense::sense_at;
 use list::sense::smaller;
@@ -31,7 +31,7 @@ use merge::put::put;
 
 // The place in the request of a list with the fewest intervals.
 fn shortest(index: &[u8], entries: &[u32]) -> usize
-    requires { ⌜ Asked (now index) (now entries) ⌝ }
+    requires { ⌜ SoundRequest (now index) (now entries) ⌝ }
     ensures { λ r. ⌜ Shortest (now (index .entry)) (now (entries .entry)) r ⌝ }
 {
     let mut best = 0;
@@ -60,7 +60,7 @@ fn sense_in(index: &[u8], entry: usize, x: u32) -> Sense
         p: SingleAt(0),
         q: PairAt(0),
     };
-    let at = place_of(singles, upper, start, x);
+    let at = reading_place(singles, upper, start, x);
     sense_at(singles, lower, upper, at, x)
 }
 
@@ -182,7 +182,7 @@ fn put_within(
 
 // Counts, and writes, the intersection of the lists of a request: the shortest is walked, and each of its intervals is probed in the others.
 pub fn sweep_probing(index: &[u8], entries: &[u32], writing: bool, out: &mut [u32]) -> Tally
-    requires { ⌜ Asked (now index) (now entries) × (writing ≡ true → length (intersectionOf (listsOf (now index) (now entries))) ≤ length (now out)) ⌝ }
+    requires { ⌜ SoundRequest (now index) (now entries) × (writing ≡ true → length (intersectionOf (listsOf (now index) (now entries))) ≤ length (now out)) ⌝ }
     ensures { λ r. ⌜ Sweeps (intersectionOf (listsOf (now (index .entry)) (now (entries .entry)))) writing (now (out .entry)) (now (out .exit)) r ⌝ }
 {
     let j = shortest(index, entries);

@@ -9,7 +9,7 @@ ghost use lib.ListN.{length, getD};
 ghost use Rattle.list.specs.Ginix.{intersectionOf};
 ghost use Rattle.list.specs.Interval.{top};
 ghost use Rattle.list.specs.Kept.{start};
-ghost use Rattle.merge.specs.Asked.{Asked, listsOf};
+ghost use Rattle.merge.specs.Request.{SoundRequest, listsOf};
 ghost use Rattle.merge.specs.Put.{Fitting, PutWhere};
 ghost use Rattle.merge.specs.Sweep.{Sweeps};
 ghost use Rattle.intersection.specs.Twin.{keyOf, Standing, Frontier, Lowers};
@@ -42,7 +42,7 @@ fn key_of(upper: u32, j: usize) -> u32
 
 // Puts the upper bound of each list's first interval on its heap.
 fn first_uppers(index: &[u8], entries: &[u32], uppers: &mut [u32])
-    requires { ⌜ Asked (now index) (now entries) × (length (now uppers) ≡ 16) ⌝ }
+    requires { ⌜ SoundRequest (now index) (now entries) × (length (now uppers) ≡ 16) ⌝ }
     ensures { λ _. ⌜ Frontier (now (index .entry)) (now (entries .entry)) (λ i. start) (length (now (entries .entry))) (now (uppers .exit)) × (length (now (uppers .exit)) ≡ 16) ⌝ }
 {
     let mut j = 0;
@@ -62,7 +62,7 @@ fn first_uppers(index: &[u8], entries: &[u32], uppers: &mut [u32])
 
 // Fills the heap of lower bounds: one of each list, at its place. A heap has its least in front, so each stands by what it lacks to LIMIT.
 fn fill_lowers(index: &[u8], entries: &[u32], places: [Place; 16], lowers: &mut [u32])
-    requires { ⌜ Asked (now index) (now entries) × Standing (now index) (now entries) (λ i. getD places i start) × (length (now lowers) ≡ 32) ⌝ }
+    requires { ⌜ SoundRequest (now index) (now entries) × Standing (now index) (now entries) (λ i. getD places i start) × (length (now lowers) ≡ 32) ⌝ }
     ensures { λ _. ⌜ Lowers (now (index .entry)) (now (entries .entry)) (λ i. getD places i start) (length (now (entries .entry))) (length (now (entries .entry))) (now (lowers .exit)) × (length (now (lowers .exit)) ≡ 32) ⌝ }
 {
     let mut j = 0;
@@ -81,7 +81,7 @@ fn with_room(
     lowers: &mut [u32],
     size: usize,
 ) -> usize
-    requires { ⌜ Asked (now index) (now entries) × Standing (now index) (now entries) (λ i. getD places i start) × (length (now lowers) ≡ 32) × Lowers (now index) (now entries) (λ i. getD places i start) (length (now entries)) size (now lowers) ⌝ }
+    requires { ⌜ SoundRequest (now index) (now entries) × Standing (now index) (now entries) (λ i. getD places i start) × (length (now lowers) ≡ 32) × Lowers (now index) (now entries) (λ i. getD places i start) (length (now entries)) size (now lowers) ⌝ }
     ensures { λ r. ⌜ Lowers (now (index .entry)) (now (entries .entry)) (λ i. getD places i start) (length (now (entries .entry))) r (now (lowers .exit)) × (length (now (lowers .exit)) ≡ 32) × (r < 32) ⌝ }
 {
     if size < LOWERS {
@@ -104,7 +104,7 @@ fn put_overlap(out: &mut [u32], writing: bool, tally: Tally, overlap: Interval) 
 
 // Counts, and writes, the intersection of the lists of a request. It ends with the first list that is used up.
 pub fn sweep_twin(index: &[u8], entries: &[u32], writing: bool, out: &mut [u32]) -> Tally
-    requires { ⌜ Asked (now index) (now entries) × (writing ≡ true → length (intersectionOf (listsOf (now index) (now entries))) ≤ length (now out)) ⌝ }
+    requires { ⌜ SoundRequest (now index) (now entries) × (writing ≡ true → length (intersectionOf (listsOf (now index) (now entries))) ≤ length (now out)) ⌝ }
     ensures { λ r. ⌜ Sweeps (intersectionOf (listsOf (now (index .entry)) (now (entries .entry)))) writing (now (out .entry)) (now (out .exit)) r ⌝ }
 {
     let mut uppers = [0; 16];

@@ -19,7 +19,7 @@ use Rattle.list.proofs.StretchLaws.{proper-length}
 use Rattle.list.proofs.JoinLaws.{union-proper, intersection-proper}
 use Rattle.index.specs.Format.{listOf}
 use Rattle.index.specs.declared.Checked.the-variants.{Good, Refused}
-use Rattle.merge.specs.Asked.{Asked, listsOf}
+use Rattle.merge.specs.Request.{SoundRequest, listsOf}
 use Rattle.merge.specs.Sweep.{Sweeps}
 use Rattle.merge.proofs.ListsLaws.{asked-proper}
 use Rattle.join.specs.declared.Method.{Method}
@@ -31,12 +31,12 @@ use Rattle.join.proofs.JoinBound.{union-bound, intersection-bound}
 
 -- ---- every method
 
-asked-bound : (index entries : List ℕ) → Asked index entries → intervals (intersectionOf (listsOf index entries)) ≤ intervalSum (listsOf index entries)
+asked-bound : (index entries : List ℕ) → SoundRequest index entries → intervals (intersectionOf (listsOf index entries)) ≤ intervalSum (listsOf index entries)
 unfolding listsOf
 asked-bound index [] a = absurd (let h = a .some in omega arith)
 asked-bound index (e ∷ es) a = intersection-bound (listOf index e) (listsOf index es) (asked-proper index (e ∷ es) a)
 
-pub join-bound : (m : Method) (index entries : List ℕ) → Asked index entries → intervals (joinOf m (listsOf index entries)) ≤ intervalSum (listsOf index entries)
+pub join-bound : (m : Method) (index entries : List ℕ) → SoundRequest index entries → intervals (joinOf m (listsOf index entries)) ≤ intervalSum (listsOf index entries)
 join-bound ScanLine index entries a = union-bound (listsOf index entries) (asked-proper index entries a)
 join-bound ActiveInterval index entries a = union-bound (listsOf index entries) (asked-proper index entries a)
 join-bound TwinHeap index entries a = asked-bound index entries a

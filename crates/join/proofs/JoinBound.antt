@@ -11,7 +11,7 @@ use Rattle.list.proofs.StretchLaws.{proper-cells}
 use Rattle.list.proofs.JoinLaws.{AllProper}
 use Rattle.list.proofs.BoundLaws.{Still, AllOut, together, cells-bound}
 use Rattle.index.specs.Format.{listOf}
-use Rattle.merge.specs.Asked.{listsOf}
+use Rattle.merge.specs.Request.{listsOf}
 use Rattle.merge.proofs.ListsLaws.{lists-next, lists-end}
 use Rattle.join.specs.Bound.{intervalSum}
 

@@ -19,7 +19,7 @@ use Rattle.index.specs.declared.Checked.the-variants.{Good, Refused}
 use Rattle.index.specs.Format.{wordCount}
 use Rattle.index.specs.Check.{checkOf}
 use Rattle.index.proofs.CheckLaws.{not-good, cond-good, good-sound}
-use Rattle.merge.specs.Asked.{Asked}
+use Rattle.merge.specs.Request.{SoundRequest}
 use Rattle.join.specs.Join.{badListCount, badEntryNumber, entriesAfter, entriesOf, requestAfter, requestOf}
 
 -- ---- rule by rule
@@ -72,7 +72,7 @@ numbers-good : (f : Found) → entriesAfter f ≡ Good → f ≡ Nowhere
 numbers-good (At i) e = not-good (EntryNumber i) e
 numbers-good Nowhere e = refl
 
-pub request-asked : (index entries : List ℕ) → requestOf index entries ≡ Good → Asked index entries
+pub request-asked : (index entries : List ℕ) → requestOf index entries ≡ Good → SoundRequest index entries
 unfolding requestOf entriesOf badListCount badEntryNumber
 request-asked index entries e =
     let a = checked-good (checkOf index) (entriesOf index entries) e in

@@ -16,7 +16,7 @@ use Rattle.index.specs.declared.Checked.{Checked}
 use Rattle.index.specs.declared.Checked.the-variants.{Good, Refused}
 use Rattle.index.specs.Format.{wordCount}
 use Rattle.index.specs.Check.{checkOf}
-use Rattle.merge.specs.Asked.{listsOf}
+use Rattle.merge.specs.Request.{listsOf}
 
 -- Reference 9.1, row 13
 unfoldable pub badListCount : List ℕ → Bool

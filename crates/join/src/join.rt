@@ -5,7 +5,7 @@ ghost use Prim.Native.Nat.{_/_, _≤_};
 ghost use lib.ListN.{length};
 ghost use Rattle.list.specs.Answer.{listAnswer, listCells};
 ghost use Rattle.list.specs.Ginix.{unionOf, intersectionOf};
-ghost use Rattle.merge.specs.Asked.{Asked, listsOf};
+ghost use Rattle.merge.specs.Request.{SoundRequest, listsOf};
 ghost use Rattle.merge.specs.Sweep.{Sweeps};
 ghost use Rattle.join.specs.Join.{Joins};
 ghost use Rattle.join.specs.Method.{joinOf};
@@ -23,7 +23,7 @@ use union::scan::sweep_scan;
 
 // Counts, and writes where asked, the join of a request by a method.
 fn sweep(index: &[u8], entries: &[u32], writing: bool, out: &mut [u32], method: Method) -> Tally
-    requires { ⌜ Asked (now index) (now entries) × (writing ≡ true → length (joinOf method (listsOf (now index) (now entries))) ≤ length (now out)) ⌝ }
+    requires { ⌜ SoundRequest (now index) (now entries) × (writing ≡ true → length (joinOf method (listsOf (now index) (now entries))) ≤ length (now out)) ⌝ }
     ensures { λ r. ⌜ Sweeps (joinOf method (listsOf (now (index .entry)) (now (entries .entry)))) writing (now (out .entry)) (now (out .exit)) r ⌝ }
 {
     match method {
@@ -37,7 +37,7 @@ fn sweep(index: &[u8], entries: &[u32], writing: bool, out: &mut [u32], method: 
 // The join of a request that is not refused. Nothing is written before refusal 12 is excluded: a join has no more intervals than its lists
 // together, and where those may be too many it is counted first.
 fn join_asked(index: &[u8], entries: &[u32], out: &mut [u32], method: Method) -> Answer
-    requires { ⌜ Asked (now index) (now entries) ⌝ }
+    requires { ⌜ SoundRequest (now index) (now entries) ⌝ }
     ensures { λ r. ⌜ (r ≡ listAnswer (joinOf method (listsOf (now (index .entry)) (now (entries .entry)))) (length (now (out .entry)) / 2)) × (now (out .exit) ≡ listCells (joinOf method (listsOf (now (index .entry)) (now (entries .entry)))) (length (now (out .entry)) / 2) (now (out .entry))) ⌝ }
 {
     let room = out.len() / 2;

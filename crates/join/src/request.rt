@@ -4,7 +4,7 @@ ghost use Prim.Native.Nat.{_≤_};
 ghost use lib.ListN.{length};
 ghost use Rattle.refusal.specs.First.{first};
 ghost use Rattle.index.specs.Sound.{Sound};
-ghost use Rattle.merge.specs.Asked.{Asked, listsOf};
+ghost use Rattle.merge.specs.Request.{SoundRequest, listsOf};
 ghost use Rattle.join.specs.Join.{badEntryNumber, entriesOf, requestOf};
 ghost use Rattle.join.specs.Bound.{intervalSum};
 use directory::parts::interval_count;
@@ -58,7 +58,7 @@ pub fn check_request(index: &[u8], entries: &[u32]) -> Checked
 
 // How many intervals the lists of a request have together.
 pub fn interval_sum(index: &[u8], entries: &[u32]) -> usize
-    requires { ⌜ Asked (now index) (now entries) ⌝ }
+    requires { ⌜ SoundRequest (now index) (now entries) ⌝ }
     ensures { λ r. ⌜ (r ≡ intervalSum (listsOf (now (index .entry)) (now (entries .entry)))) × (r ≤ 67108864) ⌝ }
 {
     let mut sum = 0;

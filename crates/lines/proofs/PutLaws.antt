@@ -6,30 +6,30 @@ use native.Mathlib.Omega.{arith}
 use lib.ListN.{length, set, length-append}
 use lib.Seq.{sets, length-sets}
 use Rattle.laws.proofs.Lists.{sets-append, sets-front}
-use Rattle.lines.specs.Line.{Puts, Written}
+use Rattle.lines.specs.Line.{PutText, PutFirst}
 
-pub puts-then : {out mid out′ : List ℕ} {at k r : ℕ} {a b : List ℕ} → Puts out at a mid k → Puts mid k b out′ r → Puts out at (a ++ b) out′ r
+pub puts-then : {out mid out′ : List ℕ} {at k r : ℕ} {a b : List ℕ} → PutText out at a mid k → PutText mid k b out′ r → PutText out at (a ++ b) out′ r
 puts-then {out} {mid} {out′} {at} {k} {r} {a} {b} p q =
     record { end = omega (arith, p .end, q .end, length-append a b); bytes = q .bytes ∙ rw (p .bytes, p .end) (sym (sets-append out at a b)) }
 
 -- what is to be put from `at` on is what is left to put behind the first text
-pub puts-first : {out mid : List ℕ} {at k : ℕ} {a : List ℕ} (b : List ℕ) → Puts out at a mid k → sets out at (a ++ b) ≡ sets mid k b
+pub puts-first : {out mid : List ℕ} {at k : ℕ} {a : List ℕ} (b : List ℕ) → PutText out at a mid k → sets out at (a ++ b) ≡ sets mid k b
 puts-first {out} {mid} {at} {k} {a} b p = sets-append out at a b ∙ sym (rw (p .bytes, p .end))
 
 -- one byte
-pub puts-byte : (out : List ℕ) (at x : ℕ) → Puts out at (x ∷ []) (set out at x) (at + 1)
+pub puts-byte : (out : List ℕ) (at x : ℕ) → PutText out at (x ∷ []) (set out at x) (at + 1)
 puts-byte out at x = record { end = refl; bytes = refl }
 
-pub puts-length : {out mid : List ℕ} {at k : ℕ} {a : List ℕ} → Puts out at a mid k → length mid ≡ length out
+pub puts-length : {out mid : List ℕ} {at k : ℕ} {a : List ℕ} → PutText out at a mid k → length mid ≡ length out
 puts-length {out} {mid} {at} {k} {a} p = ap length (p .bytes) ∙ length-sets out at a
 
 -- room for two texts is room for the first, and behind it for the second
 pub room-front : (a b : List ℕ) (at n : ℕ) → at + length (a ++ b) ≤ n → at + length a ≤ n
 room-front a b at n h = omega (arith, length-append a b)
 
-pub room-behind : {out mid : List ℕ} {at k : ℕ} {a : List ℕ} (b : List ℕ) → Puts out at a mid k → at + length (a ++ b) ≤ length out → k + length b ≤ length mid
+pub room-behind : {out mid : List ℕ} {at k : ℕ} {a : List ℕ} (b : List ℕ) → PutText out at a mid k → at + length (a ++ b) ≤ length out → k + length b ≤ length mid
 room-behind {out} {mid} {at} {k} {a} b p h = omega (arith, length-append a b, p .end, puts-length p)
 
 -- all put from byte 0 on
-pub puts-written : {out out′ : List ℕ} {r : ℕ} (text : List ℕ) → Puts out 0 text out′ r → length text ≤ length out → Written out text out′ r
+pub puts-written : {out out′ : List ℕ} {r : ℕ} (text : List ℕ) → PutText out 0 text out′ r → length text ≤ length out → PutFirst out text out′ r
 puts-written {out} {out′} {r} text p h = record { size = omega (arith, p .end); bytes = p .bytes ∙ sets-front text out h }

@@ -52,11 +52,11 @@ lineOf number (Listed tally) cells = headText number 0 0 ++ tallyText tally cell
 lineOf number (Refused refusal) cells = headText number (numberOf refusal) (valueOf refusal) ++ (10 ∷ [])
 
 -- Reference 10: a text put into lent bytes from place `at` on, and the place behind it; all else stays
-pub record Puts (out : List ℕ) (at : ℕ) (text out′ : List ℕ) (r : ℕ) : Type 0 where
+pub record PutText (out : List ℕ) (at : ℕ) (text out′ : List ℕ) (r : ℕ) : Type 0 where
   pub end : r ≡ at + length text
   pub bytes : out′ ≡ sets out at text
 
 -- Reference 10: a text put from byte 0 on, and how long it is
-pub record Written (out text out′ : List ℕ) (r : ℕ) : Type 0 where
+pub record PutFirst (out text out′ : List ℕ) (r : ℕ) : Type 0 where
   pub size : r ≡ length text
   pub bytes : out′ ≡ text ++ drop (length text) out

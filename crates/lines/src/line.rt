@@ -1,7 +1,7 @@
 // The line of an answer. Reference 10.
 ghost use Prim.Native.Nat.{_+_, _≤_};
 ghost use lib.ListN.{length};
-ghost use Rattle.lines.specs.Line.{headText, tallyText, shown, lineOf, Puts, Written};
+ghost use Rattle.lines.specs.Line.{headText, tallyText, shown, lineOf, PutText, PutFirst};
 use crate::put::put_field;
 use crate::put::put_intervals;
 use crate::put::put_number;
@@ -14,7 +14,7 @@ pub const LINE_ROOM: usize = 344_169;
 // The three fields that every line has.
 fn put_head(out: &mut [u8], number: u64, refusal: u64, value: u64) -> usize
     requires { ⌜ 0 + length (headText number refusal value) ≤ length (now out) ⌝ }
-    ensures { λ r. ⌜ Puts (now (out .entry)) 0 (headText number refusal value) (now (out .exit)) r ⌝ }
+    ensures { λ r. ⌜ PutText (now (out .entry)) 0 (headText number refusal value) (now (out .exit)) r ⌝ }
 {
     let behind_number = put_number(out, 0, number);
     let behind_refusal = put_field(out, behind_number, refusal);
@@ -24,7 +24,7 @@ fn put_head(out: &mut [u8], number: u64, refusal: u64, value: u64) -> usize
 // The fields of an answer.
 fn put_tally(out: &mut [u8], at: usize, tally: Tally, cells: &[u32]) -> usize
     requires { ⌜ (shown (Answer.Listed tally) ≤ length (now cells)) × (at + length (tallyText tally (now cells)) ≤ length (now out)) ⌝ }
-    ensures { λ r. ⌜ Puts (now (out .entry)) at (tallyText tally (now (cells .entry))) (now (out .exit)) r ⌝ }
+    ensures { λ r. ⌜ PutText (now (out .entry)) at (tallyText tally (now (cells .entry))) (now (out .exit)) r ⌝ }
 {
     let behind_intervals = put_field(out, at, tally.intervals as u64);
     let behind_records = put_field(out, behind_intervals, tally.records as u64);
@@ -34,7 +34,7 @@ fn put_tally(out: &mut [u8], at: usize, tally: Tally, cells: &[u32]) -> usize
 // Writes the line of the answer to line `number`, whose intervals stand in the cells, and answers how long it is.
 pub fn write_line(number: usize, answer: Answer, cells: &[u32], out: &mut [u8]) -> usize
     requires { ⌜ (shown answer ≤ length (now cells)) × (length (lineOf number answer (now cells)) ≤ length (now out)) ⌝ }
-    ensures { λ r. ⌜ Written (now (out .entry)) (lineOf number answer (now (cells .entry))) (now (out .exit)) r ⌝ }
+    ensures { λ r. ⌜ PutFirst (now (out .entry)) (lineOf number answer (now (cells .entry))) (now (out .exit)) r ⌝ }
 {
     match answer {
         Answer::Listed(tally) => {

@@ -13,7 +13,7 @@ use lib.ListN.{length}
 use borrow.Author.Tests.{eq-eqb, ne-eqb}
 use Rattle.laws.proofs.Tests.{true-false, or-neither}
 use Rattle.list.specs.Interval.{isProper, names, intervals}
-use Rattle.list.specs.Stretches.{turned, stretches, cellsOf, kept, recordsFrom}
+use Rattle.list.specs.Stretches.{turned, stretches, cellsOf, consIf, recordsFrom}
 use Rattle.list.specs.Ginix.{one}
 use Rattle.list.proofs.NamesLaws.{names-in, names-either, proper-names-zero}
 use Rattle.list.proofs.StretchLaws.{cells-same, proper-cells}
@@ -52,7 +52,7 @@ named-starts (l ∷ u ∷ r) w e f =
 starts-step : (c : List ℕ) (w k : ℕ) (b v : Bool) → names c w ≡ b → names c (w + 1) ≡ v →
     length (stretches (names c) v (w + 1 + 1) k) ≤ 2 * starts c (w + 1 + 1) k + one v →
     length (turned b v (w + 1) (stretches (names c) v (w + 1 + 1) k))
-    ≤ 2 * length (kept (startsAt c (w + 1)) (w + 1) (recordsFrom (startsAt c) (w + 1 + 1) k)) + one b
+    ≤ 2 * length (consIf (startsAt c (w + 1)) (w + 1) (recordsFrom (startsAt c) (w + 1 + 1) k)) + one b
 starts-step c w k false false e f ih = omega (arith, kept-least (startsAt c (w + 1)) (w + 1) (recordsFrom (startsAt c) (w + 1 + 1) k))
 starts-step c w k false true e f ih = rw (named-starts c w e f) (omega arith)
 starts-step c w k true false e f ih = omega (arith, kept-least (startsAt c (w + 1)) (w + 1) (recordsFrom (startsAt c) (w + 1 + 1) k))
@@ -78,12 +78,12 @@ past-start : (l u y : ℕ) (r : List ℕ) → (y ≡ l → ⊥) → startsAt (l 
 unfolding startsAt
 past-start l u y r h = rw (ne-eqb y l h)
 
-kept-more : (v : Bool) (x : ℕ) (a b : List ℕ) → length a ≤ 1 + length b → length (kept v x a) ≤ 1 + length (kept v x b)
+kept-more : (v : Bool) (x : ℕ) (a b : List ℕ) → length a ≤ 1 + length b → length (consIf v x a) ≤ 1 + length (consIf v x b)
 kept-more true x a b h = omega arith
 kept-more false x a b h = h
 
 more-step : (l u x k : ℕ) (r : List ℕ) → starts (l ∷ u ∷ r) (x + 1) k ≤ 1 + starts r (x + 1) k → Dec (x ≡ l) →
-    length (kept (startsAt (l ∷ u ∷ r) x) x (recordsFrom (startsAt (l ∷ u ∷ r)) (x + 1) k)) ≤ 1 + length (kept (startsAt r x) x (recordsFrom (startsAt r) (x + 1) k))
+    length (consIf (startsAt (l ∷ u ∷ r) x) x (recordsFrom (startsAt (l ∷ u ∷ r)) (x + 1) k)) ≤ 1 + length (consIf (startsAt r x) x (recordsFrom (startsAt r) (x + 1) k))
 more-step l u x k r ih (yes e) =
     let s = recordsFrom-same (startsAt (l ∷ u ∷ r)) (startsAt r) (x + 1) k (λ y h g. past-start l u y r (λ (f : y ≡ l). omega arith)) in
     omega (

@@ -10,7 +10,7 @@ use lib.ListN.{length}
 use borrow.Author.Tests.{eq-eqb, ne-eqb}
 use Rattle.laws.proofs.Tests.{true-false}
 use Rattle.list.specs.Interval.{isProper, names, records}
-use Rattle.list.specs.Stretches.{turned, stretches, cellsOf, kept, recordsFrom, recordsOf}
+use Rattle.list.specs.Stretches.{turned, stretches, cellsOf, consIf, recordsFrom, recordsOf}
 use Rattle.list.specs.Among.{among}
 use Rattle.list.proofs.StretchLaws.{proper-cells}
 
@@ -21,7 +21,7 @@ unfolding recordsFrom
 recordsFrom-same p q x zero h = refl
 recordsFrom-same p q x (suc k) h =
     let e : p x ≡ q x = h x (omega arith) (omega arith) in
-    rw e (ap (λ (r : List ℕ). kept (q x) x r) (recordsFrom-same p q (x + 1) k (λ y f g. h y (omega arith) (omega arith))))
+    rw e (ap (λ (r : List ℕ). consIf (q x) x r) (recordsFrom-same p q (x + 1) k (λ y f g. h y (omega arith) (omega arith))))
 
 pub records-same : (p q : ℕ → Bool) (n : ℕ) → ((x : ℕ) → 1 ≤ x → x ≤ n → p x ≡ q x) → recordsOf p n ≡ recordsOf q n
 unfolding recordsOf
@@ -29,7 +29,7 @@ records-same p q n h = recordsFrom-same p q 1 n (λ y f g. h y f (omega arith))
 
 -- ---- the numbers of two parts
 
-kept-append : (v : Bool) (x : ℕ) (r s : List ℕ) → kept v x (r ++ s) ≡ kept v x r ++ s
+kept-append : (v : Bool) (x : ℕ) (r s : List ℕ) → consIf v x (r ++ s) ≡ consIf v x r ++ s
 kept-append true x r s = refl
 kept-append false x r s = refl
 
@@ -52,20 +52,20 @@ begun true l x = x - l
 begun false l x = 0
 
 count-step : (p : ℕ → Bool) (l x k : ℕ) (b v : Bool) → l < x →
-    ((h : ℕ) → h < x + 1 → records (kept v h (stretches p v (x + 1) k)) ≡ begun v h (x + 1) + length (recordsFrom p (x + 1) k)) →
-    records (kept b l (turned b v x (stretches p v (x + 1) k))) ≡ begun b l x + length (kept v x (recordsFrom p (x + 1) k))
+    ((h : ℕ) → h < x + 1 → records (consIf v h (stretches p v (x + 1) k)) ≡ begun v h (x + 1) + length (recordsFrom p (x + 1) k)) →
+    records (consIf b l (turned b v x (stretches p v (x + 1) k))) ≡ begun b l x + length (consIf v x (recordsFrom p (x + 1) k))
 unfolding records
 count-step p l x k false false h ih = ih l (omega arith)
 count-step p l x k false true h ih = omega (arith, ih x (omega arith))
 count-step p l x k true false h ih = omega (arith, ih l (omega arith))
 count-step p l x k true true h ih = omega (arith, ih l (omega arith))
 
-count-last : (l x : ℕ) (b : Bool) → l < x → records (kept b l (turned b false x [])) ≡ begun b l x + 0
+count-last : (l x : ℕ) (b : Bool) → l < x → records (consIf b l (turned b false x [])) ≡ begun b l x + 0
 unfolding records
 count-last l x false h = refl
 count-last l x true h = omega arith
 
-stretches-count : (p : ℕ → Bool) (l x k : ℕ) (b : Bool) → l < x → records (kept b l (stretches p b x k)) ≡ begun b l x + length (recordsFrom p x k)
+stretches-count : (p : ℕ → Bool) (l x k : ℕ) (b : Bool) → l < x → records (consIf b l (stretches p b x k)) ≡ begun b l x + length (recordsFrom p x k)
 unfolding stretches recordsFrom
 stretches-count p l x zero b h = count-last l x b h
 stretches-count p l x (suc k) b h = count-step p l x k b (p x) h (λ i g. stretches-count p i (x + 1) k (p x) g)
@@ -82,11 +82,11 @@ records-count p n = omega (arith, stretches-count p 0 1 n false (omega arith))
 pub proper-count : (n : ℕ) (c : List ℕ) → isProper n c ≡ true → records c ≡ length (recordsOf (names c) n)
 proper-count n c e = ap records (proper-cells n c e) ∙ records-count (names c) n
 
-pub kept-length : (v : Bool) (x : ℕ) (r : List ℕ) → length (kept v x r) ≤ length r + 1
+pub kept-length : (v : Bool) (x : ℕ) (r : List ℕ) → length (consIf v x r) ≤ length r + 1
 kept-length true x r = omega arith
 kept-length false x r = omega arith
 
-pub kept-least : (v : Bool) (x : ℕ) (r : List ℕ) → length r ≤ length (kept v x r)
+pub kept-least : (v : Bool) (x : ℕ) (r : List ℕ) → length r ≤ length (consIf v x r)
 kept-least true x r = omega arith
 kept-least false x r = omega arith
 
@@ -107,7 +107,7 @@ Ascends n k [] = Unit {0}
 Ascends n k (x ∷ xs) = (k < x) × (x ≤ n) × Ascends n x xs
 
 ascends-step : (p : ℕ → Bool) (n j x k : ℕ) (v : Bool) → j < x → x ≤ n →
-    ((i : ℕ) → i < x + 1 → Ascends n i (recordsFrom p (x + 1) k)) → Ascends n j (kept v x (recordsFrom p (x + 1) k))
+    ((i : ℕ) → i < x + 1 → Ascends n i (recordsFrom p (x + 1) k)) → Ascends n j (consIf v x (recordsFrom p (x + 1) k))
 ascends-step p n j x k true h g ih = (h, g, ih x (omega arith))
 ascends-step p n j x k false h g ih = ih j (omega arith)
 
@@ -134,18 +134,18 @@ unfolding among
 among-above n k x [] p h = refl
 among-above n k x (y ∷ ys) p h = rw (ne-eqb x y (λ (e : x ≡ y). omega arith)) (among-above n y x ys (p .2) h)
 
-among-first : (p : ℕ → Bool) (x k : ℕ) (v : Bool) → among (kept v x (recordsFrom p (x + 1) k)) x ≡ v
+among-first : (p : ℕ → Bool) (x k : ℕ) (v : Bool) → among (consIf v x (recordsFrom p (x + 1) k)) x ≡ v
 unfolding among
 among-first p x k true = rw (eq-eqb x x refl)
 among-first p x k false = among-below (x + k) x x (recordsFrom p (x + 1) k) (recordsFrom-ascends p (x + k) x (x + 1) k (omega arith) (omega arith)) (omega arith)
 
-among-later : (p : ℕ → Bool) (x k y : ℕ) (v : Bool) → x < y → among (recordsFrom p (x + 1) k) y ≡ p y → among (kept v x (recordsFrom p (x + 1) k)) y ≡ p y
+among-later : (p : ℕ → Bool) (x k y : ℕ) (v : Bool) → x < y → among (recordsFrom p (x + 1) k) y ≡ p y → among (consIf v x (recordsFrom p (x + 1) k)) y ≡ p y
 unfolding among
 among-later p x k y true h ih = rw (ne-eqb y x (λ (e : y ≡ x). omega arith)) ih
 among-later p x k y false h ih = ih
 
 among-step : (p : ℕ → Bool) (x k y : ℕ) → x ≤ y → (x < y → among (recordsFrom p (x + 1) k) y ≡ p y) → Dec (y ≤ x) →
-    among (kept (p x) x (recordsFrom p (x + 1) k)) y ≡ p y
+    among (consIf (p x) x (recordsFrom p (x + 1) k)) y ≡ p y
 among-step p x k y h ih (yes d) = let e : y ≡ x = omega arith in rw e (among-first p x k (p x))
 among-step p x k y h ih (no d) = let g = lt-of-not-le d in among-later p x k y (p x) g (ih g)
 

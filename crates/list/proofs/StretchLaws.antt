@@ -9,29 +9,29 @@ use mathlib.Core.List.{List, [], _∷_, _++_}
 use lib.ListN.{length}
 use Rattle.laws.proofs.Tests.{true-false}
 use Rattle.list.specs.Interval.{isProper, names, intervals}
-use Rattle.list.specs.Stretches.{turned, stretches, cellsOf, kept}
+use Rattle.list.specs.Stretches.{turned, stretches, cellsOf, consIf}
 use Rattle.list.proofs.ProperLaws.{ProperFrom, proper-facts, facts-proper}
 use Rattle.list.proofs.NamesLaws.{names-in, names-past, names-below, names-gap, proper-names-zero, proper-names-above}
 
--- ---- it is proper. `kept b l` puts the lower bound l in front of the cells from x on, where a stretch is open there
+-- ---- it is proper. `consIf b l` puts the lower bound l in front of the cells from x on, where a stretch is open there
 
 abbrev Begun : Bool → ℕ → ℕ → ℕ → Type 0
 Begun true j l x = (j ≤ l) × (l < x)
 Begun false j l x = j ≤ x
 
 proper-step : (p : ℕ → Bool) (m j l x k : ℕ) (b v : Bool) → Begun b j l x → x + suc k ≤ m + 1 →
-    ((i h : ℕ) → Begun v i h (x + 1) → ProperFrom m i (kept v h (stretches p v (x + 1) k))) →
-    ProperFrom m j (kept b l (turned b v x (stretches p v (x + 1) k)))
+    ((i h : ℕ) → Begun v i h (x + 1) → ProperFrom m i (consIf v h (stretches p v (x + 1) k))) →
+    ProperFrom m j (consIf b l (turned b v x (stretches p v (x + 1) k)))
 proper-step p m j l x k false false g r ih = ih j l (omega arith)
 proper-step p m j l x k false true g r ih = ih j x (omega arith, omega arith)
 proper-step p m j l x k true false g r ih = (g .0, omega arith, omega arith, ih (x - 1 + 2) l (omega arith))
 proper-step p m j l x k true true g r ih = ih j l (g .0, omega arith)
 
-proper-last : (m j l x : ℕ) (b : Bool) → Begun b j l x → x ≤ m + 1 → ProperFrom m j (kept b l (turned b false x []))
+proper-last : (m j l x : ℕ) (b : Bool) → Begun b j l x → x ≤ m + 1 → ProperFrom m j (consIf b l (turned b false x []))
 proper-last m j l x false g r = tt
 proper-last m j l x true g r = (g .0, omega arith, omega arith, tt)
 
-stretches-proper : (p : ℕ → Bool) (m j l x k : ℕ) (b : Bool) → Begun b j l x → x + k ≤ m + 1 → ProperFrom m j (kept b l (stretches p b x k))
+stretches-proper : (p : ℕ → Bool) (m j l x k : ℕ) (b : Bool) → Begun b j l x → x + k ≤ m + 1 → ProperFrom m j (consIf b l (stretches p b x k))
 unfolding stretches
 stretches-proper p m j l x zero b g r = proper-last m j l x b g (omega arith)
 stretches-proper p m j l x (suc k) b g r = proper-step p m j l x k b (p x) g r (λ i h f. stretches-proper p m i h (x + 1) k (p x) f (omega arith))
@@ -61,7 +61,7 @@ names-open p l x zero y h g = names-in l (x - 1) y [] h (omega arith)
 names-open p l x (suc k) y h g = open-step p l x k y (p x) h g (names-open p l (x + 1) k y h (omega arith))
 
 -- the number x itself, and one behind it
-names-first : (p : ℕ → Bool) (l x k : ℕ) (b v : Bool) → l < x → names (kept b l (turned b v x (stretches p v (x + 1) k))) x ≡ v
+names-first : (p : ℕ → Bool) (l x k : ℕ) (b v : Bool) → l < x → names (consIf b l (turned b v x (stretches p v (x + 1) k))) x ≡ v
 names-first p l x k false false h = stretches-below p (x + 1) k x (omega arith)
 names-first p l x k false true h = names-open p x (x + 1) k x (omega arith) (omega arith)
 names-first p l x k true false h =
@@ -69,22 +69,22 @@ names-first p l x k true false h =
 names-first p l x k true true h = names-open p l (x + 1) k x (omega arith) (omega arith)
 
 names-later : (p : ℕ → Bool) (l x k y : ℕ) (b v : Bool) → l < x → x < y →
-    ((h : ℕ) → h < x + 1 → names (kept v h (stretches p v (x + 1) k)) y ≡ p y) →
-    names (kept b l (turned b v x (stretches p v (x + 1) k))) y ≡ p y
+    ((h : ℕ) → h < x + 1 → names (consIf v h (stretches p v (x + 1) k)) y ≡ p y) →
+    names (consIf b l (turned b v x (stretches p v (x + 1) k))) y ≡ p y
 names-later p l x k y false false h g ih = ih l (omega arith)
 names-later p l x k y false true h g ih = ih x (omega arith)
 names-later p l x k y true false h g ih = names-past l (x - 1) y (stretches p false (x + 1) k) (omega arith) ∙ ih l (omega arith)
 names-later p l x k y true true h g ih = ih l (omega arith)
 
 names-step : (p : ℕ → Bool) (l x k y : ℕ) (b : Bool) → l < x → x ≤ y →
-    (x < y → (h : ℕ) → h < x + 1 → names (kept (p x) h (stretches p (p x) (x + 1) k)) y ≡ p y) → Dec (y ≤ x) →
-    names (kept b l (turned b (p x) x (stretches p (p x) (x + 1) k))) y ≡ p y
+    (x < y → (h : ℕ) → h < x + 1 → names (consIf (p x) h (stretches p (p x) (x + 1) k)) y ≡ p y) → Dec (y ≤ x) →
+    names (consIf b l (turned b (p x) x (stretches p (p x) (x + 1) k))) y ≡ p y
 names-step p l x k y b h g ih (yes d) =
     let e : y ≡ x = omega arith in
     rw e (names-first p l x k b (p x) h)
 names-step p l x k y b h g ih (no d) = let f = lt-of-not-le d in names-later p l x k y b (p x) h f (ih f)
 
-stretches-names : (p : ℕ → Bool) (l x k y : ℕ) (b : Bool) → l < x → x ≤ y → y < x + k → names (kept b l (stretches p b x k)) y ≡ p y
+stretches-names : (p : ℕ → Bool) (l x k y : ℕ) (b : Bool) → l < x → x ≤ y → y < x + k → names (consIf b l (stretches p b x k)) y ≡ p y
 unfolding stretches
 stretches-names p l x zero y b h g f = absurd (omega arith)
 stretches-names p l x (suc k) y b h g f =

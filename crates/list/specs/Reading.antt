@@ -23,5 +23,5 @@ pub record Goes (S L : List ℕ) (at : Place) : Type 0 where
   pub more : at .p .0 + at .q .0 < length S + length L
 
 -- the place behind all that ends before x
-abbrev pub placeOf : ℕ → List ℕ → List ℕ → Place
-placeOf x S U = record { p = record { 0 = countBelow x S }; q = record { 0 = countBelow x U } }
+abbrev pub readingPlace : ℕ → List ℕ → List ℕ → Place
+readingPlace x S U = record { p = record { 0 = countBelow x S }; q = record { 0 = countBelow x U } }

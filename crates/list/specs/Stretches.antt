@@ -21,14 +21,14 @@ unfoldable pub cellsOf : (ℕ → Bool) → ℕ → List ℕ
 cellsOf p n = stretches p false 1 n
 
 -- x in front of xs where the test holds
-abbrev pub kept : Bool → ℕ → List ℕ → List ℕ
-kept true x xs = x ∷ xs
-kept false x xs = xs
+abbrev pub consIf : Bool → ℕ → List ℕ → List ℕ
+consIf true x xs = x ∷ xs
+consIf false x xs = xs
 
 -- Reference 8.8: of the k numbers from x on, those at which p holds
 unfoldable pub recordsFrom : (ℕ → Bool) → ℕ → ℕ → List ℕ
 recordsFrom p x zero = []
-recordsFrom p x (suc k) = kept (p x) x (recordsFrom p (x + 1) k)
+recordsFrom p x (suc k) = consIf (p x) x (recordsFrom p (x + 1) k)
 
 -- Reference 8.8: the numbers from 1 to n at which p holds, in order
 unfoldable pub recordsOf : (ℕ → Bool) → ℕ → List ℕ

@@ -4,7 +4,7 @@ ghost use lib.ListN.{length};
 ghost use Rattle.list.specs.Cell.{numbersIn};
 ghost use Rattle.list.specs.Kept.{singleNext, nextPlace, lowerAt, upperAt};
 ghost use Rattle.list.specs.Seek.{Ascends};
-ghost use Rattle.list.specs.Reading.{Goes, placeOf};
+ghost use Rattle.list.specs.Reading.{Goes, readingPlace};
 use crate::PairAt;
 use crate::Place;
 use crate::SingleAt;
@@ -71,9 +71,9 @@ pub fn interval_at(singles: &[u8], lower: &[u8], upper: &[u8], at: Place) -> Int
 }
 
 // The place behind all that ends before x, sought from a place nearby.
-pub fn place_of(singles: &[u8], upper: &[u8], hint: Place, x: u32) -> Place
+pub fn reading_place(singles: &[u8], upper: &[u8], hint: Place, x: u32) -> Place
     requires { ⌜ Ascends (numbersIn (now singles)) × Ascends (numbersIn (now upper)) ⌝ }
-    ensures { λ r. ⌜ r ≡ placeOf x (numbersIn (now (singles .entry))) (numbersIn (now (upper .entry))) ⌝ }
+    ensures { λ r. ⌜ r ≡ readingPlace x (numbersIn (now (singles .entry))) (numbersIn (now (upper .entry))) ⌝ }
 {
     let p = hint.p;
     let q = hint.q;

@@ -17,22 +17,22 @@ use Rattle.index.specs.Format.{wordCount, highest, singleCount, pairCount, sing
 use Rattle.index.specs.Sound.{Sound}
 use Rattle.index.proofs.SoundLaws.{sound-trailer, sound-entry, sound-list, singles-length, lower-length, upper-length}
 use Rattle.directory.proofs.HasLaws.{list-proper}
-use Rattle.merge.specs.Asked.{Asked, listsOf}
-use Rattle.merge.specs.Places.{singlesIn, lowerIn, upperIn}
+use Rattle.merge.specs.Request.{SoundRequest, listsOf}
+use Rattle.merge.specs.Places.{entrySingles, entryLowers, entryUppers}
 
 -- ---- one entry
 
 module _ (index : List ℕ) (s : Sound index) (i : ℕ) (h : i < wordCount index) where
-  pub entry-kept : Kept (highest index) (singlesIn index i) (lowerIn index i) (upperIn index i)
-  entry-kept = kept-facts (highest index) (singlesIn index i) (lowerIn index i) (upperIn index i) (sound-list index s i h)
+  pub entry-kept : Kept (highest index) (entrySingles index i) (entryLowers index i) (entryUppers index i)
+  entry-kept = kept-facts (highest index) (entrySingles index i) (entryLowers index i) (entryUppers index i) (sound-list index s i h)
 
   pub entry-regions : length (lowerOf index i) ≡ length (upperOf index i)
   entry-regions = lower-length index s i h ∙ sym (upper-length index s i h)
 
   -- Reference 5.2: no list is empty
-  pub entry-some : 0 < length (singlesIn index i) + length (lowerIn index i)
+  pub entry-some : 0 < length (entrySingles index i) + length (entryLowers index i)
   entry-some =
-      some (singleCount index i) (pairCount index i) (length (singlesOf index i)) (length (lowerOf index i)) (length (singlesIn index i)) (length (lowerIn index i))
+      some (singleCount index i) (pairCount index i) (length (singlesOf index i)) (length (lowerOf index i)) (length (entrySingles index i)) (length (entryLowers index i))
       (sound-entry index s i h .list-some) (singles-length index s i h) (lower-length index s i h) (numbersIn-length (singlesOf index i)) (numbersIn-length (lowerOf index i))
     where
       some : (a b l m x y : ℕ) → 1 ≤ a + b → l ≡ 4 * a → m ≡ 4 * b → x ≡ l / 4 → y ≡ m / 4 → 0 < x + y
@@ -45,7 +45,7 @@ module _ (index : List ℕ) (s : Sound index) (i : ℕ) (h : i < wordCount index
       (proper-weaker (highest index) top 1 1 (listOf index i) (sound-trailer index s .highest-bound) (omega arith)
       (proper-facts (highest index) 1 (listOf index i) (list-proper index s i h)))
 
-  pub entry-ascends : Ascends (singlesIn index i) × Ascends (upperIn index i)
+  pub entry-ascends : Ascends (entrySingles index i) × Ascends (entryUppers index i)
   entry-ascends = let k = entry-kept in (k .singles-ascend, k .upper-ascend)
 
   -- what is said of the three regions is said of the entry's list
@@ -70,5 +70,5 @@ unfolding listsOf
 lists-proper index s [] f = tt
 lists-proper index s (e ∷ es) f = (entry-proper index s e (f 0 (omega arith)), lists-proper index s es (λ j h. f (suc j) (omega arith)))
 
-pub asked-proper : (index entries : List ℕ) → Asked index entries → AllProper top (listsOf index entries)
+pub asked-proper : (index entries : List ℕ) → SoundRequest index entries → AllProper top (listsOf index entries)
 asked-proper index entries a = lists-proper index (a .sound) entries (a .below)

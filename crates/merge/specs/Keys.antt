@@ -9,7 +9,7 @@ use Rattle.list.specs.declared.Place.{Place}
 use Rattle.list.specs.Ginix.{one}
 use Rattle.list.specs.Kept.{start, lowerAt}
 use Rattle.heap.specs.Heap.{countOf, IsHeap}
-use Rattle.merge.specs.Places.{singlesIn, lowerIn, usedUp}
+use Rattle.merge.specs.Places.{entrySingles, entryLowers, usedUp}
 
 -- f 0 + .. + f (n - 1)
 unfoldable pub sumOf : (ℕ → ℕ) → ℕ → ℕ
@@ -43,7 +43,7 @@ pub record Refilled (j : ℕ) (due : List ℕ) (size : ℕ) (old : List ℕ) (si
 
 -- the mark of the lower bound that is next in the list of an entry
 abbrev pub lowerDue : List ℕ → ℕ → Place → List ℕ
-lowerDue index entry at = cond (usedUp index entry at) [] (lowerMark (lowerAt (singlesIn index entry) (lowerIn index entry) at) ∷ [])
+lowerDue index entry at = cond (usedUp index entry at) [] (lowerMark (lowerAt (entrySingles index entry) (entryLowers index entry) at) ∷ [])
 
 -- the same of list j of a request, each list at its own place
 abbrev pub dueAt : List ℕ → List ℕ → List Place → ℕ → List ℕ

@@ -1,4 +1,4 @@
-pub mod Asked
+pub mod Request
 pub mod Places
 pub mod Put
 pub mod Keys

@@ -10,14 +10,14 @@ use Rattle.index.specs.Format.{wordCount, singlesOf, lowerOf, upperOf}
 use Rattle.index.specs.Sound.{Sound}
 
 -- the numbers of the three regions of entry i
-abbrev pub singlesIn : List ℕ → ℕ → List ℕ
-singlesIn index i = numbersIn (singlesOf index i)
+abbrev pub entrySingles : List ℕ → ℕ → List ℕ
+entrySingles index i = numbersIn (singlesOf index i)
 
-abbrev pub lowerIn : List ℕ → ℕ → List ℕ
-lowerIn index i = numbersIn (lowerOf index i)
+abbrev pub entryLowers : List ℕ → ℕ → List ℕ
+entryLowers index i = numbersIn (lowerOf index i)
 
-abbrev pub upperIn : List ℕ → ℕ → List ℕ
-upperIn index i = numbersIn (upperOf index i)
+abbrev pub entryUppers : List ℕ → ℕ → List ℕ
+entryUppers index i = numbersIn (upperOf index i)
 
 -- an entry of a sound index
 abbrev pub EntryIn : List ℕ → ℕ → Type 0
@@ -25,4 +25,4 @@ EntryIn index i = Sound index × (i < wordCount index)
 
 -- the list of entry i is used up at a place
 abbrev pub usedUp : List ℕ → ℕ → Place → Bool
-usedUp index i at = leb (length (singlesIn index i) + length (lowerIn index i)) (at .p .0 + at .q .0)
+usedUp index i at = leb (length (entrySingles index i) + length (entryLowers index i)) (at .p .0 + at .q .0)

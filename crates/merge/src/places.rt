@@ -5,7 +5,7 @@ ghost use lib.ListN.{length, getD, set, replicate};
 ghost use Rattle.list.specs.Cell.{numbersIn};
 ghost use Rattle.list.specs.Kept.{start, nextPlace, lowerAt, upperAt};
 ghost use Rattle.list.specs.Reading.{Goes};
-ghost use Rattle.merge.specs.Places.{singlesIn, lowerIn, upperIn, EntryIn, usedUp};
+ghost use Rattle.merge.specs.Places.{entrySingles, entryLowers, entryUppers, EntryIn, usedUp};
 use directory::parts::interval_count;
 use directory::parts::lower_of;
 use directory::parts::singles_of;
@@ -47,16 +47,16 @@ pub fn stepped(places: [Place; 16], j: usize, singles: &[u8], lower: &[u8]) -> [
 
 // The same, the list being that of an entry.
 pub fn moved_on(index: &[u8], entry: usize, places: [Place; 16], j: usize) -> [Place; 16]
-    requires { ⌜ EntryIn (now index) entry × (j < 16) × Goes (singlesIn (now index) entry) (lowerIn (now index) entry) (getD places j start) ⌝ }
-    ensures { λ r. ⌜ r ≡ set places j (nextPlace (singlesIn (now (index .entry)) entry) (lowerIn (now (index .entry)) entry) (getD places j start)) ⌝ }
+    requires { ⌜ EntryIn (now index) entry × (j < 16) × Goes (entrySingles (now index) entry) (entryLowers (now index) entry) (getD places j start) ⌝ }
+    ensures { λ r. ⌜ r ≡ set places j (nextPlace (entrySingles (now (index .entry)) entry) (entryLowers (now (index .entry)) entry) (getD places j start)) ⌝ }
 {
     stepped(places, j, singles_of(index, entry), lower_of(index, entry))
 }
 
 // The interval of an entry's list that is next at a place.
 pub fn next_interval(index: &[u8], entry: usize, at: Place) -> Interval
-    requires { ⌜ EntryIn (now index) entry × Goes (singlesIn (now index) entry) (lowerIn (now index) entry) at ⌝ }
-    ensures { λ r. ⌜ (r .lower ≡ lowerAt (singlesIn (now (index .entry)) entry) (lowerIn (now (index .entry)) entry) at) × (r .upper ≡ upperAt (singlesIn (now (index .entry)) entry) (lowerIn (now (index .entry)) entry) (upperIn (now (index .entry)) entry) at) ⌝ }
+    requires { ⌜ EntryIn (now index) entry × Goes (entrySingles (now index) entry) (entryLowers (now index) entry) at ⌝ }
+    ensures { λ r. ⌜ (r .lower ≡ lowerAt (entrySingles (now (index .entry)) entry) (entryLowers (now (index .entry)) entry) at) × (r .upper ≡ upperAt (entrySingles (now (index .entry)) entry) (entryLowers (now (index .entry)) entry) (entryUppers (now (index .entry)) entry) at) ⌝ }
 {
     interval_at(
         singles_of(index, entry),
@@ -68,7 +68,7 @@ pub fn next_interval(index: &[u8], entry: usize, at: Place) -> Interval
 
 // Whether an entry's list is used up at a place of it.
 pub fn used_up(index: &[u8], entry: usize, at: Place) -> bool
-    requires { ⌜ EntryIn (now index) entry × (at .p .0 ≤ length (singlesIn (now index) entry)) × (at .q .0 ≤ length (lowerIn (now index) entry)) ⌝ }
+    requires { ⌜ EntryIn (now index) entry × (at .p .0 ≤ length (entrySingles (now index) entry)) × (at .q .0 ≤ length (entryLowers (now index) entry)) ⌝ }
     ensures { λ r. ⌜ r ≡ usedUp (now (index .entry)) entry at ⌝ }
 {
     let p = at.p;

@@ -33,7 +33,7 @@ use Rattle.index.specs.declared.Checked.{Checked}
 use Rattle.index.specs.declared.Checked.the-variants.{Good, Refused}
 use Rattle.index.specs.Format.{wordStart, wordLength, wordOf}
 use Rattle.index.specs.Part.{Slice, partOf}
-use Rattle.directory.specs.Entry.{entryOf, entryWord}
+use Rattle.directory.specs.Entry.{entryCheck, entryWord}
 use Rattle.index.proofs.SoundLaws.{part-length, sound-word-room}
 use Rattle.directory.proofs.AnswerLaws.{entry-good, start-answered, start-refused, length-answered, length-refused}
 use Rattle.naburain.specs.declared.WordResult.{WordResult}
@@ -65,7 +65,7 @@ number-above-zero ProbeRange = omega arith
 number-above-zero Missing = omega arith
 
 -- by what the index and the number are refused by, if anything
-agree-at : (index : Slice) (i : ℕ) (k : Checked) → entryOf (index .bytes) i ≡ k →
+agree-at : (index : Slice) (i : ℕ) (k : Checked) → entryCheck (index .bytes) i ≡ k →
     Reported index i (entryWord index i) (wordResult k (wordStart (index .bytes) i) (wordLength (index .bytes) i))
 unfolding wordOf
 agree-at index i Good e =
@@ -94,6 +94,6 @@ agree-at index i (Refused x) e =
 
 -- any return that the contract of the one call allows, and any that the other's does
 pub word-parts-agree : (index : Slice) (i : ℕ) (r : Slice) (w : WordResult) →
-    r ≡ entryWord index i → w ≡ wordResult (entryOf (index .bytes) i) (wordStart (index .bytes) i) (wordLength (index .bytes) i) →
+    r ≡ entryWord index i → w ≡ wordResult (entryCheck (index .bytes) i) (wordStart (index .bytes) i) (wordLength (index .bytes) i) →
     Reported index i r w
-word-parts-agree index i r w p q = rw (p, q) (agree-at index i (entryOf (index .bytes) i) refl)
+word-parts-agree index i r w p q = rw (p, q) (agree-at index i (entryCheck (index .bytes) i) refl)

@@ -6,7 +6,7 @@ use Rattle.convert.specs.Convert.{ToIntervals, ToNumbers}
 use Rattle.index.specs.Format.{wordStart, wordLength}
 use Rattle.index.specs.Part.{Slice}
 use Rattle.index.specs.Check.{checkOf}
-use Rattle.directory.specs.Entry.{lookupOf, entryOf, entryWord, probeOf}
+use Rattle.directory.specs.Entry.{lookupOf, entryCheck, entryWord, probeOf}
 use Rattle.join.specs.Join.{Joins}
 use Rattle.question.specs.Grammar.{Rule, fromLeft}
 use Rattle.question.specs.Reading.{readingOf}
@@ -29,8 +29,8 @@ pub lookup-determined : (index word : List ℕ) → OneReturn (λ r. r ≡ looku
 lookup-determined index word = one-value (lookupOf index word)
 
 -- Reference 8.3: the refusal, and the part of the index
-pub entry-determined : (index : List ℕ) (i : ℕ) → OneReturn (λ r. r ≡ entryOf index i)
-entry-determined index i = one-value (entryOf index i)
+pub entry-determined : (index : List ℕ) (i : ℕ) → OneReturn (λ r. r ≡ entryCheck index i)
+entry-determined index i = one-value (entryCheck index i)
 
 pub word-determined : (index : Slice) (i : ℕ) → OneReturn (λ r. r ≡ entryWord index i)
 word-determined index i = one-value (entryWord index i)
@@ -70,8 +70,8 @@ check-exported-determined index = one-value (checkResult (checkOf index))
 pub lookup-exported-determined : (index word : List ℕ) → OneReturn (λ r. r ≡ lookupResult (lookupOf index word))
 lookup-exported-determined index word = one-value (lookupResult (lookupOf index word))
 
-pub word-exported-determined : (index : List ℕ) (i : ℕ) → OneReturn (λ r. r ≡ wordResult (entryOf index i) (wordStart index i) (wordLength index i))
-word-exported-determined index i = one-value (wordResult (entryOf index i) (wordStart index i) (wordLength index i))
+pub word-exported-determined : (index : List ℕ) (i : ℕ) → OneReturn (λ r. r ≡ wordResult (entryCheck index i) (wordStart index i) (wordLength index i))
+word-exported-determined index i = one-value (wordResult (entryCheck index i) (wordStart index i) (wordLength index i))
 
 pub probe-exported-determined : (index : List ℕ) (i a b : ℕ) → OneReturn (λ r. r ≡ probeResult (probeOf index i a b))
 probe-exported-determined index i a b = one-value (probeResult (probeOf index i a b))

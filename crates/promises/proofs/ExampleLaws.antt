@@ -7,7 +7,7 @@ use Rattle.list.specs.Cell.{numbersIn}
 use Rattle.list.specs.Kept.{walkFrom, walked, areLonger, isKept}
 use Rattle.index.specs.declared.Checked.the-variants.{Good}
 use Rattle.index.specs.Format.{
-  entryAt,
+  entryPlace,
   wordStart,
   wordLength,
   listStart,
@@ -26,5 +26,5 @@ use Rattle.index.specs.Check.{contentsOf, checkOf}
 use Rattle.promises.specs.Example.{example}
 
 pub example-good : checkOf example ≡ Good
-unfolding isWordByte allWordBytes same before isAnd isOr isNot isOperator isWord firstFrom first properFrom isProper numbersIn walkFrom walked areLonger isKept entryAt wordStart wordLength listStart singleCount pairCount listLength wordsEnd listsEnd wordOf singlesOf lowerOf upperOf badLength badEdition badTrailer badDirectory badWord badEntry badEnd badList contentsOf checkOf
+unfolding isWordByte allWordBytes same before isAnd isOr isNot isOperator isWord firstFrom first properFrom isProper numbersIn walkFrom walked areLonger isKept entryPlace wordStart wordLength listStart singleCount pairCount listLength wordsEnd listsEnd wordOf singlesOf lowerOf upperOf badLength badEdition badTrailer badDirectory badWord badEntry badEnd badList contentsOf checkOf
 example-good = refl

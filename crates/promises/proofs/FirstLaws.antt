@@ -11,7 +11,7 @@ use Rattle.word.specs.Word.{isWordByte, allWordBytes, operatorOf}
 use Rattle.word.specs.declared.Operator.{Operator}
 use Rattle.word.specs.declared.Operator.the-variants.{And, Or, Not, Neither}
 use Rattle.question.specs.Token.{choose, Tok, openT, closeT, otherT, runTok, flush, mark, run, gather, tokensAt, tokens}
-use Rattle.question.specs.Limits.{wordsIn}
+use Rattle.question.specs.Limits.{tokenWords}
 use Rattle.promises.specs.Wrong.{firstEntry, firstOf, firstWord, firstBuilt}
 
 take-twice : (n : ℕ) (xs : List ℕ) → take n (take n xs) ≡ take n xs
@@ -26,7 +26,7 @@ first-entry-twice a = ap (λ ys. (a .0, ys)) (take-twice 1 (a .1))
 
 -- a word, read as a question, is its first word
 abbrev Alone : List ℕ → Type 0
-Alone w = firstOf (wordsIn (tokens w)) ≡ w
+Alone w = firstOf (tokenWords (tokens w)) ≡ w
 
 run-gathered : (n start : ℕ) (acc w : List ℕ) → allWordBytes w ≡ true → gather n start acc w ≡ flush start (acc ++ w) []
 unfolding gather allWordBytes
@@ -36,28 +36,28 @@ run-gathered n start acc (b ∷ bs) e =
     rw (both .0) (run-gathered (n + 1) start (acc ++ b ∷ []) bs (both .1) ∙ ap (λ l. flush start l []) (append-assoc acc (b ∷ []) bs))
 
 word-alone : (w : List ℕ) → allWordBytes w ≡ true → operatorOf w ≡ Neither → Alone w
-unfolding tokens tokensAt wordsIn
-word-alone [] e o = ap (λ ts. firstOf (wordsIn ts)) (run-gathered 0 0 [] [] e)
-word-alone (a ∷ az) e o = ap (λ ts. firstOf (wordsIn ts)) (run-gathered 0 0 [] (a ∷ az) e) ∙ ap (λ p. firstOf (wordsIn (runTok p (a ∷ az) 0 ∷ []))) o
+unfolding tokens tokensAt tokenWords
+word-alone [] e o = ap (λ ts. firstOf (tokenWords ts)) (run-gathered 0 0 [] [] e)
+word-alone (a ∷ az) e o = ap (λ ts. firstOf (tokenWords ts)) (run-gathered 0 0 [] (a ∷ az) e) ∙ ap (λ p. firstOf (tokenWords (runTok p (a ∷ az) 0 ∷ []))) o
 
 none-alone : Alone []
-unfolding tokens tokensAt gather wordsIn
+unfolding tokens tokensAt gather tokenWords
 none-alone = refl
 
-flush-alone : (start : ℕ) (acc : List ℕ) (ts : List Tok) → allWordBytes acc ≡ true → Alone (firstOf (wordsIn ts)) → Alone (firstOf (wordsIn (flush start acc ts)))
-unfolding wordsIn
+flush-alone : (start : ℕ) (acc : List ℕ) (ts : List Tok) → allWordBytes acc ≡ true → Alone (firstOf (tokenWords ts)) → Alone (firstOf (tokenWords (flush start acc ts)))
+unfolding tokenWords
 flush-alone start [] ts e h = h
 flush-alone start (a ∷ az) ts e h = go (operatorOf (a ∷ az)) refl
   where
-    go : (o : Operator) → operatorOf (a ∷ az) ≡ o → Alone (firstOf (wordsIn (runTok o (a ∷ az) start ∷ ts)))
+    go : (o : Operator) → operatorOf (a ∷ az) ≡ o → Alone (firstOf (tokenWords (runTok o (a ∷ az) start ∷ ts)))
     go And p = h
     go Or p = h
     go Not p = h
     go Neither p = word-alone (a ∷ az) e p
 
-mark-alone : (n : ℕ) (ts : List Tok) (s t u : Bool) → Alone (firstOf (wordsIn ts)) →
-    Alone (firstOf (wordsIn (choose s (λ _. ts) (λ _. choose t (λ _. openT n ∷ ts) (λ _. choose u (λ _. closeT n ∷ ts) (λ _. otherT n ∷ ts))))))
-unfolding wordsIn
+mark-alone : (n : ℕ) (ts : List Tok) (s t u : Bool) → Alone (firstOf (tokenWords ts)) →
+    Alone (firstOf (tokenWords (choose s (λ _. ts) (λ _. choose t (λ _. openT n ∷ ts) (λ _. choose u (λ _. closeT n ∷ ts) (λ _. otherT n ∷ ts))))))
+unfolding tokenWords
 mark-alone n ts true t u h = h
 mark-alone n ts false true u h = h
 mark-alone n ts false false true h = h
@@ -70,19 +70,19 @@ all-and (a ∷ az) b e p =
     let both = and-both (isWordByte a) (allWordBytes az) e in
     both-and (isWordByte a) (allWordBytes (az ++ b ∷ [])) (both .0) (all-and az b (both .1) p)
 
-first-alone : (n start : ℕ) (acc bs : List ℕ) → allWordBytes acc ≡ true → Alone (firstOf (wordsIn (gather n start acc bs)))
-unfolding gather wordsIn allWordBytes
+first-alone : (n start : ℕ) (acc bs : List ℕ) → allWordBytes acc ≡ true → Alone (firstOf (tokenWords (gather n start acc bs)))
+unfolding gather tokenWords allWordBytes
 first-alone n start acc [] e = flush-alone start acc [] e none-alone
 first-alone n start acc (b ∷ bs) e = go (isWordByte b) refl (first-alone (n + 1) start (acc ++ b ∷ []) bs) (first-alone (n + 1) (n + 1) [] bs refl)
   where
-    go : (t : Bool) → isWordByte b ≡ t → (allWordBytes (acc ++ b ∷ []) ≡ true → Alone (firstOf (wordsIn (gather (n + 1) start (acc ++ b ∷ []) bs)))) →
-        Alone (firstOf (wordsIn (gather (n + 1) (n + 1) [] bs))) →
-        Alone (firstOf (wordsIn (choose t (λ _. gather (n + 1) start (acc ++ (b ∷ [])) bs) (λ _. flush start acc (mark n b (gather (n + 1) (n + 1) [] bs))))))
+    go : (t : Bool) → isWordByte b ≡ t → (allWordBytes (acc ++ b ∷ []) ≡ true → Alone (firstOf (tokenWords (gather (n + 1) start (acc ++ b ∷ []) bs)))) →
+        Alone (firstOf (tokenWords (gather (n + 1) (n + 1) [] bs))) →
+        Alone (firstOf (tokenWords (choose t (λ _. gather (n + 1) start (acc ++ (b ∷ [])) bs) (λ _. flush start acc (mark n b (gather (n + 1) (n + 1) [] bs))))))
     go true p more rest = more (all-and acc b e p)
     go false p more rest =
         flush-alone start acc (mark n b (gather (n + 1) (n + 1) [] bs)) e (mark-alone n (gather (n + 1) (n + 1) [] bs) (eqb b 32) (eqb b 40) (eqb b 41) rest)
 
-first-of-tokens : (s : List ℕ) → Alone (firstOf (wordsIn (tokens s)))
+first-of-tokens : (s : List ℕ) → Alone (firstOf (tokenWords (tokens s)))
 unfolding tokens tokensAt allWordBytes
 first-of-tokens s = first-alone 0 0 [] s refl
 

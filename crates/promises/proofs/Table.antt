@@ -15,7 +15,7 @@ use Rattle.list.specs.Kept.{walkFrom, walked}
 use Rattle.list.specs.declared.answer.Answer.{Answer}
 use Rattle.list.proofs.JoinLaws.{AllProper, union-limit, intersection-limit}
 use Rattle.index.specs.Format.{
-  entryAt,
+  entryPlace,
   wordStart,
   wordLength,
   listStart,
@@ -31,7 +31,7 @@ use Rattle.directory.specs.Has.{hasWithin, has}
 use Rattle.question.specs.Token.{run, gather, tokensAt, tokens}
 use Rattle.question.specs.Grammar.{fromLeft, question, operand, links, whole}
 use Rattle.question.specs.Meaning.{fits}
-use Rattle.question.specs.Reading.{isForeign, refusalOf, asked}
+use Rattle.question.specs.Reading.{isForeign, refusalOf, parsed}
 use Rattle.query.specs.Ask.{satisfying, treeAnswer, treeCells, askAnswer, askCells, Asks}
 use Rattle.promises.specs.Example.{example}
 use Rattle.promises.specs.Table.{AllRight, table}
@@ -39,13 +39,13 @@ use Rattle.promises.proofs.Rows.{_&_}
 use Rattle.promises.proofs.ExampleLaws.{example-good}
 
 -- a question over the example's index: once that is good, what the question comes to
-pub asks-example : (s out out′ : List ℕ) (r : Answer) → r ≡ treeAnswer example (asked fromLeft s) (length out / 2) →
-    out′ ≡ treeCells example (asked fromLeft s) (length out / 2) out → Asks fromLeft example s out out′ r
+pub asks-example : (s out out′ : List ℕ) (r : Answer) → r ≡ treeAnswer example (parsed fromLeft s) (length out / 2) →
+    out′ ≡ treeCells example (parsed fromLeft s) (length out / 2) out → Asks fromLeft example s out out′ r
 asks-example s out out′ r a c =
     let room = length out / 2 in
     record {
-      answer = a ∙ ap (λ g. askAnswer g example (asked fromLeft s) room) (sym example-good);
-      cells = c ∙ ap (λ g. askCells g example (asked fromLeft s) room out) (sym example-good);
+      answer = a ∙ ap (λ g. askAnswer g example (parsed fromLeft s) room) (sym example-good);
+      cells = c ∙ ap (λ g. askCells g example (parsed fromLeft s) room out) (sym example-good);
     }
 
 pub union-is : (lists : List (List ℕ)) (c : List ℕ) → AllProper 9 lists → cellsOf (inSome lists) 9 ≡ c → unionOf lists ≡ c
@@ -56,7 +56,7 @@ pub intersection-is : (l : List ℕ) (lists : List (List ℕ)) (c : List ℕ) �
 intersection-is l lists c p e = sym (intersection-limit 9 l lists (omega arith) p) ∙ e
 
 pub table-right : AllRight table
-unfolding firstFrom first isWordByte same isAnd isOr isNot operatorOf properFrom isProper names records stretches cellsOf inSome inEvery belowCount overlapCount numbersIn walkFrom walked entryAt wordStart wordLength listStart singleCount pairCount wordOf singlesOf lowerOf upperOf listOf hasWithin has run gather tokensAt tokens fromLeft question operand links whole fits isForeign refusalOf asked satisfying
+unfolding firstFrom first isWordByte same isAnd isOr isNot operatorOf properFrom isProper names records stretches cellsOf inSome inEvery belowCount overlapCount numbersIn walkFrom walked entryPlace wordStart wordLength listStart singleCount pairCount wordOf singlesOf lowerOf upperOf listOf hasWithin has run gather tokensAt tokens fromLeft question operand links whole fits isForeign refusalOf parsed satisfying
 table-right =
     asks-example _ _ _ _ refl refl
     & asks-example _ _ _ _ refl refl

@@ -12,7 +12,7 @@ use Rattle.directory.specs.declared.Lookup.the-variants.{Entry, NoEntry}
 use Rattle.directory.specs.declared.Probed.the-variants.{NoCount}
 use Rattle.question.specs.declared.reader.Reading.the-variants as reading
 use Rattle.question.specs.Token.{run, gather, tokensAt, tokens}
-use Rattle.question.specs.Limits.{wordsIn}
+use Rattle.question.specs.Limits.{tokenWords}
 use Rattle.promises.specs.Example.{boats, tide, or′}
 use Rattle.promises.specs.Table.{listed}
 use Rattle.promises.specs.Wrong.{
@@ -66,7 +66,7 @@ pub first-words :
     × (firstWord ([], 40 ∷ 40 ∷ boats ++ or′ ++ tide ++ 41 ∷ 41 ∷ []) ≡ ([], boats))
     × (firstWord ([], or′ ++ boats) ≡ ([], boats))
     × (firstWord (boats, 40 ∷ 41 ∷ []) ≡ (boats, []))
-unfolding isWordByte same isAnd isOr isNot operatorOf gather tokensAt tokens wordsIn
+unfolding isWordByte same isAnd isOr isNot operatorOf gather tokensAt tokens tokenWords
 first-words = (refl, refl, refl, refl, refl, refl)
 
 pub first-entries : (firstEntry (boats, 3 ∷ 0 ∷ 1 ∷ []) ≡ (boats, 3 ∷ [])) × (firstEntry (boats, []) ≡ (boats, []))

@@ -14,7 +14,7 @@ use Rattle.list.specs.Kept.{walkFrom, walked}
 use Rattle.list.specs.declared.answer.Answer.{Answer}
 use Rattle.list.specs.declared.answer.Answer.the-variants.{Refused}
 use Rattle.index.specs.Format.{
-  entryAt,
+  entryPlace,
   wordStart,
   wordLength,
   listStart,
@@ -30,8 +30,8 @@ use Rattle.directory.specs.Has.{hasWithin, has}
 use Rattle.question.specs.Token.{run, gather, tokensAt, tokens}
 use Rattle.question.specs.Grammar.{fromLeft, question, operand, links, whole}
 use Rattle.question.specs.Meaning.{fits}
-use Rattle.question.specs.Reading.{isForeign, refusalOf, asked}
-use Rattle.question.specs.Limits.{wordsIn}
+use Rattle.question.specs.Reading.{isForeign, refusalOf, parsed}
+use Rattle.question.specs.Limits.{tokenWords}
 use Rattle.query.specs.Ask.{satisfying, Asks}
 use Rattle.promises.specs.Example.{boats, maps, tide, or′, example}
 use Rattle.promises.specs.Outcome.{OneOutcome}
@@ -71,7 +71,7 @@ Outcomes =
     × Asks fromLeft example boats-or-maps [] [] (Refused (Room 1))
 
 outcomes : Outcomes
-unfolding firstFrom first isWordByte same isAnd isOr isNot operatorOf names records stretches cellsOf numbersIn walkFrom walked entryAt wordStart wordLength listStart singleCount pairCount wordOf singlesOf lowerOf upperOf listOf hasWithin has run gather tokensAt tokens fromLeft question operand links whole fits isForeign refusalOf asked satisfying
+unfolding firstFrom first isWordByte same isAnd isOr isNot operatorOf names records stretches cellsOf numbersIn walkFrom walked entryPlace wordStart wordLength listStart singleCount pairCount wordOf singlesOf lowerOf upperOf listOf hasWithin has run gather tokensAt tokens fromLeft question operand links whole fits isForeign refusalOf parsed satisfying
 outcomes = (
   asks-example _ _ _ _ refl refl,
   asks-example _ _ _ _ refl refl,
@@ -99,7 +99,7 @@ pub ask-silent : Fails asks (Silent answerRefused)
 ask-silent = silent-fails one answerRefused tide-asked lent (outcomes .0) refl (differ-at 0 (2 ∷ 4 ∷ 8 ∷ 9 ∷ []) lent (λ e. omega arith))
 
 pub ask-first : Fails asks (FirstOnly answerRefused firstWord)
-unfolding isWordByte same isAnd isOr isNot operatorOf gather tokensAt tokens wordsIn
+unfolding isWordByte same isAnd isOr isNot operatorOf gather tokensAt tokens tokenWords
 ask-first =
     first-fails one answerRefused firstWord tide-asked lent (outcomes .0) (outcomes .2) refl refl
     (differ-at 3 (2 ∷ 4 ∷ 8 ∷ 9 ∷ []) (2 ∷ 4 ∷ 8 ∷ 8 ∷ []) (λ e. omega arith))

@@ -14,8 +14,8 @@ use Rattle.question.specs.Token.{run}
 use Rattle.list.specs.declared.Written.{Written}
 use Rattle.list.specs.declared.Written.the-variants.{Wrote, Refused}
 use Rattle.refusal.specs.declared.Refusal.the-variants.{Room}
-use Rattle.build.specs.Lent.{wordsFrom, wordsOf, restFrom, restOf, wordTotal, badLent, sumTo, badCount, badRest, beginsList, badListed, listsFrom}
-use Rattle.build.specs.Written.{cellsBytes, singlesIn, lowersIn, uppersIn, keptBytes, listsBytes, wordsBytes, directoryBytes, indexOf}
+use Rattle.build.specs.Lent.{wordsFrom, lentWords, restFrom, restOf, wordTotal, badLent, sumTo, badCount, badRest, beginsList, badListed, listsFrom}
+use Rattle.build.specs.Layout.{cellsBytes, cellSingles, lowersIn, uppersIn, keptBytes, listsBytes, wordsBytes, directoryBytes, indexOf}
 use Rattle.build.specs.Build.{lentOf, indexFrom, buildOf, bytesAfter}
 use Rattle.promises.specs.Outcome.{OneOutcome}
 use Rattle.promises.specs.Wrong.{
@@ -73,7 +73,7 @@ Outcomes =
     × (getD (after one zeros) 4 0 ≡ 97)
 
 outcomes : Outcomes
-unfolding firstFrom first isWordByte allWordBytes same before isAnd isOr isNot isOperator isWord stretches cellsOf among wordsFrom wordsOf restFrom restOf wordTotal badLent sumTo badCount badRest beginsList badListed listsFrom cellsBytes singlesIn lowersIn uppersIn keptBytes listsBytes wordsBytes directoryBytes indexOf lentOf buildOf
+unfolding firstFrom first isWordByte allWordBytes same before isAnd isOr isNot isOperator isWord stretches cellsOf among wordsFrom lentWords restFrom restOf wordTotal badLent sumTo badCount badRest beginsList badListed listsFrom cellsBytes cellSingles lowersIn uppersIn keptBytes listsBytes wordsBytes directoryBytes indexOf lentOf buildOf
 outcomes = (refl, refl, refl, refl, refl, refl, refl)
 
 differ : after two zeros ≡ after one zeros → ⊥

@@ -16,8 +16,8 @@ use Rattle.list.specs.Answer.{listAnswer, listCells}
 use Rattle.list.specs.declared.answer.Answer.{Answer}
 use Rattle.list.specs.declared.answer.Answer.the-variants.{Refused}
 use Rattle.index.specs.declared.Checked.the-variants.{Good}
-use Rattle.index.specs.Format.{entryAt, listStart, singleCount, pairCount, singlesOf, lowerOf, upperOf, listOf}
-use Rattle.merge.specs.Asked.{listsOf}
+use Rattle.index.specs.Format.{entryPlace, listStart, singleCount, pairCount, singlesOf, lowerOf, upperOf, listOf}
+use Rattle.merge.specs.Request.{listsOf}
 use Rattle.join.specs.Join.{
   badListCount,
   badEntryNumber,
@@ -77,7 +77,7 @@ UnionOutcomes =
     × Joins unionOf example (0 ∷ 2 ∷ []) [] [] (Refused (Room 1))
 
 union-outcomes : UnionOutcomes
-unfolding firstFrom first properFrom isProper names records stretches cellsOf inSome numbersIn walkFrom walked entryAt listStart singleCount pairCount singlesOf lowerOf upperOf listOf badListCount badEntryNumber entriesOf listsOf
+unfolding firstFrom first properFrom isProper names records stretches cellsOf inSome numbersIn walkFrom walked entryPlace listStart singleCount pairCount singlesOf lowerOf upperOf listOf badListCount badEntryNumber entriesOf listsOf
 union-outcomes = (
   joins-example unionOf (0 ∷ 3 ∷ []) lent (2 ∷ 4 ∷ 8 ∷ 9 ∷ []) refl (union-is (listsOf example (0 ∷ 3 ∷ [])) (2 ∷ 4 ∷ 8 ∷ 9 ∷ []) (refl, (refl, tt)) refl) (2 ∷ 4 ∷ 8 ∷ 9 ∷ []) (listed 2 5) refl refl,
   joins-example unionOf (0 ∷ 2 ∷ []) lent (2 ∷ 9 ∷ []) refl (union-is (listsOf example (0 ∷ 2 ∷ [])) (2 ∷ 9 ∷ []) (refl, (refl, tt)) refl) (2 ∷ 9 ∷ 0 ∷ 0 ∷ []) (listed 1 8) refl refl,
@@ -122,7 +122,7 @@ IntersectionOutcomes =
     × Joins intersectionOf example (1 ∷ 3 ∷ []) [] [] (Refused (Room 1))
 
 intersection-outcomes : IntersectionOutcomes
-unfolding firstFrom first properFrom isProper names records stretches cellsOf inEvery numbersIn walkFrom walked entryAt listStart singleCount pairCount singlesOf lowerOf upperOf listOf badListCount badEntryNumber entriesOf listsOf
+unfolding firstFrom first properFrom isProper names records stretches cellsOf inEvery numbersIn walkFrom walked entryPlace listStart singleCount pairCount singlesOf lowerOf upperOf listOf badListCount badEntryNumber entriesOf listsOf
 intersection-outcomes = (
   joins-example intersectionOf (0 ∷ 3 ∷ []) lent (3 ∷ 3 ∷ 8 ∷ 8 ∷ []) refl (intersection-is (listOf example 0) (listsOf example (3 ∷ [])) (3 ∷ 3 ∷ 8 ∷ 8 ∷ []) refl refl) (3 ∷ 3 ∷ 8 ∷ 8 ∷ []) (listed 2 2) refl refl,
   joins-example intersectionOf (1 ∷ 3 ∷ []) lent (3 ∷ 3 ∷ []) refl (intersection-is (listOf example 1) (listsOf example (3 ∷ [])) (3 ∷ 3 ∷ []) refl refl) (3 ∷ 3 ∷ 0 ∷ 0 ∷ []) (listed 1 1) refl refl,

@@ -8,15 +8,15 @@ use Rattle.refusal.specs.First.{firstFrom, first}
 use Rattle.list.specs.Ginix.{belowCount, overlapCount}
 use Rattle.list.specs.Cell.{numbersIn}
 use Rattle.list.specs.Kept.{walkFrom, walked}
-use Rattle.index.specs.Format.{entryAt, wordStart, wordLength, listStart, singleCount, pairCount, part, wordOf, singlesOf, lowerOf, upperOf, listOf, wordCount}
+use Rattle.index.specs.Format.{entryPlace, wordStart, wordLength, listStart, singleCount, pairCount, part, wordOf, singlesOf, lowerOf, upperOf, listOf, wordCount}
 use Rattle.index.specs.Check.{checkOf}
-use Rattle.directory.specs.Entry.{lookupAfter, lookupOf, entryAfter, entryOf, numberAfter, entryStart, entryLength, badRange, rangeAnswer, probeAfter, probeOf}
+use Rattle.directory.specs.Entry.{lookupAfter, lookupOf, entryAfter, entryCheck, numberAfter, entryStart, entryLength, badRange, rangeAnswer, probeAfter, probeOf}
 use Rattle.index.specs.declared.Checked.the-variants.{Good}
 use Rattle.directory.specs.declared.Probed.{Probed}
 use Rattle.directory.specs.declared.Probed.the-variants.{Counted}
 use Rattle.question.specs.Token.{run, gather, tokensAt, tokens}
 use Rattle.question.specs.Grammar.{fromLeft, question, operand, links, whole}
-use Rattle.question.specs.Reading.{isForeign, refusalOf, asked, readingOf}
+use Rattle.question.specs.Reading.{isForeign, refusalOf, parsed, readingOf}
 use Rattle.promises.specs.Example.{boats, example}
 use Rattle.promises.specs.Wrong.{
   FailsToBe,
@@ -42,7 +42,7 @@ pub check-refusing : FailsToBe checkOf (RefusingAll checkRefused)
 check-refusing = refusing-all-fails checkOf checkRefused example (ap checkRefused example-good)
 
 pub lookup-refusing : FailsToBe lookup (RefusingAll lookupRefused)
-unfolding same firstFrom first entryAt wordStart wordLength wordOf lookupOf
+unfolding same firstFrom first entryPlace wordStart wordLength wordOf lookupOf
 lookup-refusing =
     refusing-all-fails lookup lookupRefused (example, boats)
     (ap (λ g. lookupRefused (lookupAfter g (first (λ i. same (wordOf example i) boats) (wordCount example)))) example-good)
@@ -50,15 +50,15 @@ lookup-refusing =
 abbrev pub counted : ℕ → ℕ → Probed
 counted below overlapping = Counted (record { below = below; overlapping = overlapping })
 
-entry-good : entryOf example 0 ≡ Good
-unfolding entryOf
+entry-good : entryCheck example 0 ≡ Good
+unfolding entryCheck
 entry-good = ap (λ g. entryAfter g true) example-good
 
 pub entry-refusing : FailsToBe entry (RefusingAll checkRefused)
 entry-refusing = refusing-all-fails entry checkRefused (example, 0) (ap checkRefused entry-good)
 
 pub word-refusing : FailsToBe word (RefusingAll partRefused)
-unfolding entryAt wordStart wordLength entryStart entryLength
+unfolding entryPlace wordStart wordLength entryStart entryLength
 word-refusing =
     refusing-all-fails word partRefused (record { memory = 0; place = 0; bytes = example }, 0)
     (ap (λ g. wordRefused (part (numberAfter g (wordStart example 0)) (numberAfter g (wordLength example 0)) example)) entry-good)
@@ -74,7 +74,7 @@ abbrev Counts : Type 0
 Counts = (probe (example, 0, 1, 9) ≡ counted 0 2) × (probe (example, 0, 5, 9) ≡ counted 1 1)
 
 counts : Counts
-unfolding numbersIn walkFrom walked entryAt listStart singleCount pairCount singlesOf lowerOf upperOf listOf belowCount overlapCount badRange probeOf
+unfolding numbersIn walkFrom walked entryPlace listStart singleCount pairCount singlesOf lowerOf upperOf listOf belowCount overlapCount badRange probeOf
 counts = (
   ap (λ g. probeAfter g (counted 0 2)) entry-good,
   ap (λ g. probeAfter g (counted 1 1)) entry-good,
@@ -89,5 +89,5 @@ probe-inventing-overlapping =
     inventing-all-fails probe overlappingIn (example, 0, 1, 9) (example, 0, 5, 9) 2 1 (ap overlappingIn (counts .0)) (ap overlappingIn (counts .1)) (λ e. omega arith)
 
 pub reading-refusing : FailsToBe readingOf (RefusingAll readingRefused)
-unfolding isWordByte same isAnd isOr isNot operatorOf firstFrom first run gather tokensAt tokens fromLeft question operand links whole isForeign refusalOf asked readingOf
+unfolding isWordByte same isAnd isOr isNot operatorOf firstFrom first run gather tokensAt tokens fromLeft question operand links whole isForeign refusalOf parsed readingOf
 reading-refusing = refusing-all-fails readingOf readingRefused boats refl

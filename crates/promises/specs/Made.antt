@@ -18,10 +18,10 @@ use Rattle.convert.specs.Convert.{answerOf, leftOf, badNumberOf, intervalsOf, b
 use Rattle.directory.specs.declared.Probed.{Probed}
 use Rattle.directory.specs.declared.Probed.the-variants.{Counted, NoCount}
 use Rattle.index.specs.Check.{checkOf}
-use Rattle.merge.specs.Asked.{listsOf}
+use Rattle.merge.specs.Request.{listsOf}
 use Rattle.join.specs.Join.{requestOf, joinAnswer, joinCells}
 use Rattle.question.specs.Grammar.{fromLeft}
-use Rattle.question.specs.Reading.{asked}
+use Rattle.question.specs.Reading.{parsed}
 use Rattle.query.specs.Ask.{askAnswer, askCells}
 use Rattle.build.specs.Build.{buildOf, indexFrom, bytesAfter}
 use Rattle.promises.specs.Wrong.{Writer, Promise, Meets, Is}
@@ -48,8 +48,8 @@ rightJoin method a out = (
 
 abbrev pub rightAsk : Writer (List ℕ × List ℕ) Answer
 rightAsk a out = (
-  askAnswer (checkOf (a .0)) (a .0) (asked fromLeft (a .1)) (length out / 2),
-  askCells (checkOf (a .0)) (a .0) (asked fromLeft (a .1)) (length out / 2) out,
+  askAnswer (checkOf (a .0)) (a .0) (parsed fromLeft (a .1)) (length out / 2),
+  askCells (checkOf (a .0)) (a .0) (parsed fromLeft (a .1)) (length out / 2) out,
 )
 
 abbrev pub rightBuild : Writer (ℕ × List ℕ × List ℕ × List ℕ) Written

@@ -20,12 +20,12 @@ use Rattle.directory.specs.declared.Lookup.the-variants.{Entry, NoEntry}
 use Rattle.directory.specs.declared.Probed.{Probed}
 use Rattle.directory.specs.declared.Probed.the-variants.{Counted, NoCount}
 use Rattle.index.specs.Part.{Slice}
-use Rattle.directory.specs.Entry.{lookupOf, entryOf, entryWord, probeOf}
+use Rattle.directory.specs.Entry.{lookupOf, entryCheck, entryWord, probeOf}
 use Rattle.join.specs.Join.{Joins}
 use Rattle.question.specs.declared.reader.Reading.{Reading}
 use Rattle.question.specs.declared.reader.Reading.the-variants as reading
 use Rattle.question.specs.Token.{run, tokens}
-use Rattle.question.specs.Limits.{wordsIn}
+use Rattle.question.specs.Limits.{tokenWords}
 use Rattle.question.specs.Grammar.{fromLeft}
 use Rattle.query.specs.Ask.{Asks}
 use Rattle.build.specs.Build.{Builds}
@@ -78,7 +78,7 @@ abbrev pub lookup : List ℕ × List ℕ → Lookup
 lookup a = lookupOf (a .0) (a .1)
 
 abbrev pub entry : List ℕ × ℕ → Checked
-entry a = entryOf (a .0) (a .1)
+entry a = entryCheck (a .0) (a .1)
 
 abbrev pub word : Slice × ℕ → Slice
 word a = entryWord (a .0) (a .1)
@@ -173,7 +173,7 @@ firstOf (w ∷ ws) = w
 
 -- Reference 6.1: the question's first word, at whatever depth; the empty question where it has none
 abbrev pub firstWord : List ℕ × List ℕ → List ℕ × List ℕ
-firstWord a = (a .0, firstOf (wordsIn (tokens (a .1))))
+firstWord a = (a .0, firstOf (tokenWords (tokens (a .1))))
 
 -- Reference 8.9: the first word with its byte 10, its count, and its numbers
 abbrev pub firstBuilt : ℕ × List ℕ × List ℕ × List ℕ → ℕ × List ℕ × List ℕ × List ℕ

@@ -26,9 +26,9 @@ use Rattle.question.specs.declared.reader.Reading.the-variants as reading
 use Rattle.question.specs.Token.{tokens}
 use Rattle.question.specs.Grammar.{Tree, Rule, fromLeft}
 use Rattle.question.specs.Meaning.{fits}
-use Rattle.question.specs.Reading.{Asked, asks, refuses, asked, readingOf}
+use Rattle.question.specs.Reading.{Parsed, parses, refuses, parsed, readingOf}
 use Rattle.question.specs.Reading as read
-use Rattle.question.proofs.AskedLaws.{asked-accepts}
+use Rattle.question.proofs.ParsedLaws.{asked-accepts}
 use Rattle.query.specs.Ask.{satisfying, Answers, Asks}
 use Rattle.codes.specs.Code.{codesOf}
 use Rattle.codes.specs.Coded.{Coded}
@@ -46,10 +46,10 @@ use Rattle.slots.proofs.WholeLaws.{asked-fits}
 pub part-codes : (question codes codes′ : List ℕ) (n : ℕ) → Coded question codes codes′ n → take (n - 0) codes′ ≡ codesOf (tokens question)
 part-codes question codes codes′ n c = rw (sub-zero n) (c .are)
 
-asked-tree : (s codes : List ℕ) (t : Tree) (k : ℕ) → asked fromLeft s ≡ asks t k → codes ≡ codesOf (tokens s) → TreeOf codes t
+asked-tree : (s codes : List ℕ) (t : Tree) (k : ℕ) → parsed fromLeft s ≡ parses t k → codes ≡ codesOf (tokens s) → TreeOf codes t
 asked-tree s codes t k is e = record { toks = tokens s; are = sym e; fuel = 2 * length s + 2; words = k; reads = asked-accepts fromLeft s t k is .reads }
 
-pub asked-prepared : (s index entries₀ entries codes : List ℕ) (count : ℕ) (t : Tree) (k : ℕ) → asked fromLeft s ≡ asks t k → Sound index →
+pub asked-prepared : (s index entries₀ entries codes : List ℕ) (count : ℕ) (t : Tree) (k : ℕ) → parsed fromLeft s ≡ parses t k → Sound index →
     Slots index s entries₀ entries count → codes ≡ codesOf (tokens s) → Prepared codes index entries count t
 asked-prepared s index entries₀ entries codes count t k is sound slots e = record {
   reads = asked-tree s codes t k is e;
@@ -93,10 +93,10 @@ module _ (codes index entries : List ℕ) (words n : ℕ) (t : Tree) (prepared :
 -- ---- the question's promise
 
 module _ (rule : Rule) (index question out : List ℕ) where
-  pub listing-answers : (out′ : List ℕ) (r : Answer) (t : Tree) (k : ℕ) → asked rule question ≡ asks t k → Listing (satisfying index t) out out′ r → Answers rule index question out out′ r
+  pub listing-answers : (out′ : List ℕ) (r : Answer) (t : Tree) (k : ℕ) → parsed rule question ≡ parses t k → Listing (satisfying index t) out out′ r → Answers rule index question out out′ r
   listing-answers out′ r t k e l = record { answer = rw e (l .answer); cells = rw e (l .cells) }
 
-  pub refused-answers : (x : Refusal) → asked rule question ≡ refuses x → Answers rule index question out out (answer.Refused x)
+  pub refused-answers : (x : Refusal) → parsed rule question ≡ refuses x → Answers rule index question out out (answer.Refused x)
   refused-answers x e = record { answer = rw e; cells = rw e }
 
   -- over any bytes
@@ -110,10 +110,10 @@ module _ (rule : Rule) (index question out : List ℕ) where
   pub asks-once : (out′ out″ : List ℕ) (r s : Answer) → Asks rule index question out out′ r → Asks rule index question out out″ s → (r ≡ s) × (out′ ≡ out″)
   asks-once out′ out″ r s p q = (p .answer ∙ sym (q .answer), p .cells ∙ sym (q .cells))
 
-refused-step : (a : Asked) (x : Refusal) → read.answer a ≡ reading.Refused x → a ≡ refuses x
-refused-step (asks t k) x e = absurd (let z : _≡_ {A = ℕ} 0 1 = cc in omega arith)
+refused-step : (a : Parsed) (x : Refusal) → read.answer a ≡ reading.Refused x → a ≡ refuses x
+refused-step (parses t k) x e = absurd (let z : _≡_ {A = ℕ} 0 1 = cc in omega arith)
 refused-step (refuses r) x e = let f : r ≡ x = cc in ap refuses f
 
-pub reading-refuses : (s : List ℕ) (x : Refusal) → readingOf s ≡ reading.Refused x → asked fromLeft s ≡ refuses x
+pub reading-refuses : (s : List ℕ) (x : Refusal) → readingOf s ≡ reading.Refused x → parsed fromLeft s ≡ refuses x
 unfolding readingOf
-reading-refuses s x e = refused-step (asked fromLeft s) x e
+reading-refuses s x e = refused-step (parsed fromLeft s) x e

@@ -35,11 +35,11 @@ use Rattle.index.proofs.CheckLaws.{good-sound}
 use Rattle.question.specs.Token.{tokens}
 use Rattle.question.specs.Grammar.{Tree, Rule, fromLeft}
 use Rattle.question.specs.Meaning.{fits, Respects}
-use Rattle.question.specs.Reading.{asks, asked}
-use Rattle.question.specs.Limits.{wordsIn}
+use Rattle.question.specs.Reading.{parses, parsed}
+use Rattle.question.specs.Limits.{tokenWords}
 use Rattle.question.specs.Exchange.{around, Matched, Exchangeable, AcceptedToo}
 use Rattle.question.proofs.RuleLaws.{from-left-respects}
-use Rattle.question.proofs.AskedLaws.{accepted-within}
+use Rattle.question.proofs.ParsedLaws.{accepted-within}
 use Rattle.question.proofs.Exchange.{exchange, inside-accepted}
 use Rattle.query.specs.Ask.{satisfying, Asks}
 use Rattle.query.specs.Demand3.{written, Answered, SameRecords, Exchanging, ExchangingPair, writtenBy, OnlyWritten, ListOrRoom, SameAnswers}
@@ -161,12 +161,12 @@ module _ (rule : Rule) (respects : Respects rule) (index before a b behind : Lis
         words = e .words;
         accepted = e .accepted;
         tree-a = by .tree;
-        words-a = length (wordsIn (tokens a));
+        words-a = length (tokenWords (tokens a));
         a-accepted = by .accepted;
         tree-b = e .tree-b;
         words-b = e .words-b;
         b-accepted = e .b-accepted;
-        same = e .same (by .tree) (length (wordsIn (tokens a))) (by .accepted);
+        same = e .same (by .tree) (length (tokenWords (tokens a))) (by .accepted);
         within = e .within;
       }
 
@@ -176,11 +176,11 @@ module _ (rule : Rule) (respects : Respects rule) (index before a b behind : Lis
       SameAnswers rule (around before b behind) out out′ other other′ r r′
   exchange-pair e = exchange-answers (pair-exchanging e)
 
-asks-once : (rule : Rule) (s : List ℕ) (t u : Tree) (n m : ℕ) → asked rule s ≡ asks t n → asked rule s ≡ asks u m → t ≡ u
+asks-once : (rule : Rule) (s : List ℕ) (t u : Tree) (n m : ℕ) → parsed rule s ≡ parses t n → parsed rule s ≡ parses u m → t ≡ u
 asks-once rule s t u n m e f = cc
 
 -- no premise is empty: any pair of brackets in an accepted question may be exchanged, for itself if for nothing else
-pub exchanging-itself : (rule : Rule) (index before a behind : List ℕ) → checkOf index ≡ Good → (t : Tree) (n : ℕ) → asked rule (around before a behind) ≡ asks t n → Matched a →
+pub exchanging-itself : (rule : Rule) (index before a behind : List ℕ) → checkOf index ≡ Good → (t : Tree) (n : ℕ) → parsed rule (around before a behind) ≡ parses t n → Matched a →
     ExchangingPair rule index before a a behind
 exchanging-itself rule index before a behind sound t n accepted matched =
     let by = inside-accepted rule before a behind t n accepted matched in
@@ -191,9 +191,9 @@ exchanging-itself rule index before a behind sound t n accepted matched =
       accepted = accepted;
       matched = matched;
       tree-b = by .tree;
-      words-b = length (wordsIn (tokens a));
+      words-b = length (tokenWords (tokens a));
       b-accepted = by .accepted;
-      same = λ u m e x h g. ap (λ (y : Tree). fits (has index) y x) (asks-once rule a u (by .tree) m (length (wordsIn (tokens a))) e (by .accepted));
+      same = λ u m e x h g. ap (λ (y : Tree). fits (has index) y x) (asks-once rule a u (by .tree) m (length (tokenWords (tokens a))) e (by .accepted));
       within = accepted-within rule (around before a behind) t n accepted;
     }
 
@@ -212,6 +212,6 @@ module _ (index before a b behind : List ℕ) where
       SameAnswers fromLeft (around before b behind) out out′ other other′ r r′
   exchange-pair-from-left = exchange-pair fromLeft from-left-respects index before a b behind
 
-pub exchanging-itself-from-left : (index before a behind : List ℕ) → checkOf index ≡ Good → (t : Tree) (n : ℕ) → asked fromLeft (around before a behind) ≡ asks t n → Matched a →
+pub exchanging-itself-from-left : (index before a behind : List ℕ) → checkOf index ≡ Good → (t : Tree) (n : ℕ) → parsed fromLeft (around before a behind) ≡ parses t n → Matched a →
     ExchangingPair fromLeft index before a a behind
 exchanging-itself-from-left = exchanging-itself fromLeft

@@ -20,8 +20,8 @@ use Rattle.list.proofs.SweepLaws.{Swept, swept-count, swept-records, swept-writ
 use Rattle.index.specs.Format.{wordCount, highest, listOf}
 use Rattle.index.specs.Sound.{Sound}
 use Rattle.directory.proofs.HasLaws.{list-proper}
-use Rattle.question.specs.Grammar.{Tree, fromLeft, question, wordsOf}
-use Rattle.question.specs.Limits.{wordsIn}
+use Rattle.question.specs.Grammar.{Tree, fromLeft, question, treeWords}
+use Rattle.question.specs.Limits.{tokenWords}
 use Rattle.question.proofs.RuleLaws.{from-left-keeps}
 use Rattle.question.proofs.TreeWords.{Words, question-words}
 use Rattle.window.specs.Window.{member, Holds}
@@ -42,11 +42,11 @@ use Rattle.slots.proofs.SlotLaws.{slots-none}
 -- ---- the codes read as t
 
 -- its words are the codes that are a word's
-pub tree-words : (codes : List ℕ) (t : Tree) → TreeOf codes t → length (wordsOf t) ≡ wordCodes codes
-unfolding wordsIn
+pub tree-words : (codes : List ℕ) (t : Tree) → TreeOf codes t → length (treeWords t) ≡ wordCodes codes
+unfolding tokenWords
 tree-words codes t o =
-    let w = subst (Words wordsOf 0 (o .toks)) (o .reads) (question-words fromLeft from-left-keeps (o .fuel) 8 0 (o .toks)) in
-    sym (ap length (w .0 ∙ append-nil (wordsOf t))) ∙ sym (codes-words (o .toks)) ∙ ap wordCodes (o .are)
+    let w = subst (Words treeWords 0 (o .toks)) (o .reads) (question-words fromLeft from-left-keeps (o .fuel) 8 0 (o .toks)) in
+    sym (ap length (w .0 ∙ append-nil (treeWords t))) ∙ sym (codes-words (o .toks)) ∙ ap wordCodes (o .are)
 
 module _ (codes index entries : List ℕ) (t : Tree) (o : TreeOf codes t) where
   pub tree-holds : (x : ℕ) (hints ws hints′ ws′ : List ℕ) (r : Step) →

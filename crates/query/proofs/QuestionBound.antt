@@ -11,9 +11,9 @@ use Rattle.list.proofs.BoundLaws.{cells-bound}
 use Rattle.index.specs.Format.{highest}
 use Rattle.index.specs.Sound.{Sound}
 use Rattle.directory.specs.Has.{has}
-use Rattle.question.specs.Grammar.{Tree, fromLeft, wordsOf}
+use Rattle.question.specs.Grammar.{Tree, fromLeft, treeWords}
 use Rattle.question.specs.Meaning.{fits}
-use Rattle.question.specs.Reading.{asks, asked}
+use Rattle.question.specs.Reading.{parses, parsed}
 use Rattle.slots.specs.Slots.{slotHas, slotFits}
 use Rattle.slots.specs.Find.{Slots}
 use Rattle.slots.specs.Bound.{slotsIntervals}
@@ -25,12 +25,12 @@ use Rattle.query.specs.Ask.{satisfying}
 -- ---- the question
 
 pub question-bound : (index entries : List ℕ) → Sound index → (t : Tree) →
-    ((i : ℕ) → i < length (wordsOf t) → (x : ℕ) → slotHas index entries i x ≡ has index (getD (wordsOf t) i []) x) →
-    intervals (satisfying index t) ≤ slotsIntervals index entries 0 (length (wordsOf t))
+    ((i : ℕ) → i < length (treeWords t) → (x : ℕ) → slotHas index entries i x ≡ has index (getD (treeWords t) i []) x) →
+    intervals (satisfying index t) ≤ slotsIntervals index entries 0 (length (treeWords t))
 unfolding satisfying
 question-bound index entries s t f =
     let v = slotHas index entries in
-    let n = length (wordsOf t) in
+    let n = length (treeWords t) in
     let e : cellsOf (fits (has index) t) (highest index) ≡ cellsOf (slotFits v t 0) (highest index) =
     cells-same (fits (has index) t) (slotFits v t 0) (highest index) (λ x h l. sym (slot-fits v (has index) t x (λ i g. f i g x))) in
     rw (e, ← tests-together index entries s 0 n)
@@ -39,7 +39,7 @@ question-bound index entries s t f =
 
 -- an answer with room for that many intervals needs no counting first
 pub slots-bound : (index question entries entries′ : List ℕ) (n : ℕ) → Sound index → Slots index question entries entries′ n →
-    (t : Tree) (k : ℕ) → asked fromLeft question ≡ asks t k → intervals (satisfying index t) ≤ slotsIntervals index entries′ 0 n
+    (t : Tree) (k : ℕ) → parsed fromLeft question ≡ parses t k → intervals (satisfying index t) ≤ slotsIntervals index entries′ 0 n
 slots-bound index question entries entries′ n s w t k e =
     let c = w .count t k e in
     rw (c .1) (question-bound index entries′ s t (λ i h x. w .have t k e i (omega (arith, c .1)) x))

@@ -13,7 +13,7 @@ use Rattle.directory.specs.Has.{has}
 use Rattle.index.specs.Check.{checkOf}
 use Rattle.question.specs.Grammar.{Tree, Rule}
 use Rattle.question.specs.Meaning.{fits}
-use Rattle.question.specs.Reading.{asks, asked}
+use Rattle.question.specs.Reading.{parses, parsed}
 use Rattle.question.specs.Limits.{WithinLimits}
 use Rattle.question.specs.Exchange.{around, Matched}
 use Rattle.query.specs.Ask.{Asks}
@@ -27,7 +27,7 @@ written tally out = take (2 * tally .intervals) out
 pub record Answered (rule : Rule) (index question : List ℕ) (t : Tree) (out out′ : List ℕ) (tally : Tally) : Type 0 where
   pub sound : checkOf index ≡ Good
   pub words : ℕ
-  pub accepted : asked rule question ≡ asks t words
+  pub accepted : parsed rule question ≡ parses t words
   pub promise : Asks rule index question out out′ (Listed tally)
 
 -- Reference 11, demand 3: every record satisfies both questions or neither
@@ -42,13 +42,13 @@ pub record Exchanging (rule : Rule) (index before a b behind : List ℕ) : Type 
   pub sound : checkOf index ≡ Good
   pub tree : Tree
   pub words : ℕ
-  pub accepted : asked rule (around before a behind) ≡ asks tree words
+  pub accepted : parsed rule (around before a behind) ≡ parses tree words
   pub tree-a : Tree
   pub words-a : ℕ
-  pub a-accepted : asked rule a ≡ asks tree-a words-a
+  pub a-accepted : parsed rule a ≡ parses tree-a words-a
   pub tree-b : Tree
   pub words-b : ℕ
-  pub b-accepted : asked rule b ≡ asks tree-b words-b
+  pub b-accepted : parsed rule b ≡ parses tree-b words-b
   pub same : SameRecords index tree-a tree-b
   pub within : WithinLimits (around before b behind)
 
@@ -57,12 +57,12 @@ pub record ExchangingPair (rule : Rule) (index before a b behind : List ℕ) : T
   pub sound : checkOf index ≡ Good
   pub tree : Tree
   pub words : ℕ
-  pub accepted : asked rule (around before a behind) ≡ asks tree words
+  pub accepted : parsed rule (around before a behind) ≡ parses tree words
   pub matched : Matched a
   pub tree-b : Tree
   pub words-b : ℕ
-  pub b-accepted : asked rule b ≡ asks tree-b words-b
-  pub same : (t : Tree) (n : ℕ) → asked rule a ≡ asks t n → SameRecords index t tree-b
+  pub b-accepted : parsed rule b ≡ parses tree-b words-b
+  pub same : (t : Tree) (n : ℕ) → parsed rule a ≡ parses t n → SameRecords index t tree-b
   pub within : WithinLimits (around before b behind)
 
 -- Reference 7: the cells that a call writes, none where it refuses
@@ -83,7 +83,7 @@ ListOrRoom (Refused x) = numberOf x ≡ 12
 pub record SameAnswers (rule : Rule) (second out out′ other other′ : List ℕ) (r r′ : Answer) : Type 0 where
   pub tree : Tree
   pub words : ℕ
-  pub accepted : asked rule second ≡ asks tree words
+  pub accepted : parsed rule second ≡ parses tree words
   pub list-or-room : ListOrRoom r
   pub answers : r ≡ r′
   pub cells : writtenBy r out′ ≡ writtenBy r′ other′

@@ -31,7 +31,7 @@ abbrev pub testOf : List ℕ → List ℕ → Tree → ℕ → Bool
 testOf index entries t = slotFits (slotHas index entries) t 0
 
 -- the hints are moved, and nothing else is said of them
-pub record Kept (hints ws hints′ ws′ : List ℕ) : Type 0 where
+pub record SameLengths (hints ws hints′ ws′ : List ℕ) : Type 0 where
   pub hints-long : length hints′ ≡ length hints
   pub ws-long : length ws′ ≡ length ws
 

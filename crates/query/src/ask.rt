@@ -5,7 +5,7 @@ ghost use lib.ListN.{length};
 ghost use Rattle.index.specs.Sound.{Sound};
 ghost use Rattle.question.specs.Grammar.{Tree, fromLeft};
 ghost use Rattle.query.specs.Ask.{satisfying, Answers, Asks};
-ghost use Rattle.slots.specs.Find.{IsAsked};
+ghost use Rattle.slots.specs.Find.{IsParsed};
 ghost use Rattle.query.specs.Prepared.{Prepared, IsPrepared, Listing};
 use crate::drive::sweep_question;
 use codes::write::write_codes;
@@ -44,7 +44,7 @@ fn put_answer(
 }
 
 fn answer_accepted(index: &[u8], question: &[u8], out: &mut [u32]) -> Answer
-    requires { ⌜ Sound (now index) × IsAsked (now question) ⌝ }
+    requires { ⌜ Sound (now index) × IsParsed (now question) ⌝ }
     ensures { λ r. ⌜ Answers fromLeft (now (index .entry)) (now (question .entry)) (now (out .entry)) (now (out .exit)) r ⌝ }
 {
     let mut codes: [u8; 256] = [0; 256];

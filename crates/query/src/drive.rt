@@ -10,7 +10,7 @@ ghost use Rattle.codes.specs.Code.{wordCodes};
 ghost use Rattle.slots.specs.Slots.{slotHas, ReadBy};
 ghost use Rattle.evaluate.specs.Senses.{Sensed};
 ghost use Rattle.window.specs.Steps.{Stepped};
-ghost use Rattle.query.specs.Drive.{TreeOf, testOf, Kept, Slotted, Roomy, Fits, Stands, Moved, Tallied};
+ghost use Rattle.query.specs.Drive.{TreeOf, testOf, SameLengths, Slotted, Roomy, Fits, Stands, Moved, Tallied};
 use evaluate::eval::eval_level;
 use evaluate::look::Look;
 use evaluate::look::look_level;
@@ -67,7 +67,7 @@ fn take_window(
     requires lends { ⌜ ReadBy (now index) (now entries) (now hints) ⌝ }
     requires within { ⌜ (1 ≤ length (now ws)) × (length (now ws) ≤ 128) × (1 ≤ x) × (x ≤ 16777215) × (k < 4294967296) × (records < 4294967296) ⌝ }
     requires room { ⌜ Roomy (now codes) (now index) (now entries) x writing k (now out) ⌝ }
-    ensures keeps { λ _. ⌜ Kept (now (hints .entry)) (now (ws .entry)) (now (hints .exit)) (now (ws .exit)) ⌝ }
+    ensures keeps { λ _. ⌜ SameLengths (now (hints .entry)) (now (ws .entry)) (now (hints .exit)) (now (ws .exit)) ⌝ }
     ensures steps { λ r. ⌜ ((t : Tree) → TreeOf (now (codes .entry)) t → Stepped (testOf (now (index .entry)) (now (entries .entry)) t) x (64 * length (now (ws .entry))) writing k records (now (out .entry)) (now (out .exit)) (r .cells) (r .records)) ⌝ }
 {
     clear(ws);
@@ -117,7 +117,7 @@ fn step(
     requires slotted { ⌜ Slotted (now codes) (now index) (now entries) (now senses) slots (at .x) ⌝ }
     requires stands { ⌜ Stands n at ⌝ }
     requires room { ⌜ Roomy (now codes) (now index) (now entries) (at .x) writing (at .cells) (now out) ⌝ }
-    ensures keeps { λ _. ⌜ Kept (now (hints .entry)) (now (ws .entry)) (now (hints .exit)) (now (ws .exit)) ⌝ }
+    ensures keeps { λ _. ⌜ SameLengths (now (hints .entry)) (now (ws .entry)) (now (hints .exit)) (now (ws .exit)) ⌝ }
     ensures sensed { λ r. ⌜ (length (now (senses .exit)) ≡ length (now (senses .entry))) × Sensed (slotHas (now (index .entry)) (now (entries .entry))) (now (senses .exit)) (r .x) ⌝ }
     ensures words { λ r. ⌜ (1 ≤ r .words) × (r .words ≤ 128) ⌝ }
     ensures moves { λ r. ⌜ ((t : Tree) → TreeOf (now (codes .entry)) t → Moved (testOf (now (index .entry)) (now (entries .entry)) t) n writing at (now (out .entry)) (now (out .exit)) r) ⌝ }

@@ -5,7 +5,7 @@
 -- Let a and b be questions that are accepted by themselves and that the same records fit. Then for any bytes before and behind,
 --   exchange-fits      where `before ( a ) behind` and `before ( b ) behind` are both accepted, the same records fit both;
 --   exchange-accepted  where the first is accepted, and the second has at most 256 bytes, 16 words and 8 brackets open at once, the second is accepted.
--- `asked rule s ≡ asks t n` says that s is accepted, with tree t and n words, and `around before a behind` is the bytes `before ( a ) behind`.
+-- `parsed rule s ≡ parses t n` says that s is accepted, with tree t and n words, and `around before a behind` is the bytes `before ( a ) behind`.
 -- It holds at any depth, whatever the index has of each word, and for every rule of grouping under which operands that the same records fit may be
 -- exchanged (`Respects`; the published rule, from the left, is one: `from-left-respects` in RuleLaws).
 use Prim.Native.Nat.{ℕ, _+_, _*_, _≤_}
@@ -17,7 +17,7 @@ use lib.ListN.{length, length-append}
 use Rattle.question.specs.Token.{Tok, tokens}
 use Rattle.question.specs.Grammar.{Tree, Rule, fromLeft, good, question}
 use Rattle.question.specs.Meaning.{Same, Respects}
-use Rattle.question.specs.Reading.{asks, asked}
+use Rattle.question.specs.Reading.{parses, parsed}
 use Rattle.question.specs.Limits.{deepest, WithinLimits}
 use Rattle.question.specs.Walk.{operatorNext, reached, walk, fresh}
 use Rattle.question.specs.Stops.{Faultless}
@@ -25,12 +25,12 @@ use Rattle.question.specs.Exchange.{around, Matched, AcceptedBy, Accepte
 use Rattle.question.proofs.Lockstep as lock
 use Rattle.question.proofs.LimitLaws.{count, walk-kept, accepts-walk}
 use Rattle.question.proofs.PartLaws.{bracketed, Taken, inside-walk, exchange-walk, walk-bare, bare-walk, bare-count, bare-deepest, bare-open, bare-below}
-use Rattle.question.proofs.AskedLaws.{asked-accepts, accepted-walk, accepted-within, walk-accepted}
+use Rattle.question.proofs.ParsedLaws.{asked-accepts, accepted-walk, accepted-within, walk-accepted}
 use Rattle.question.proofs.RuleLaws.{from-left-respects}
 use Rattle.question.proofs.SplitLaws.{bares, bareOut, bare-question, tokens-around, none-proper, proper-none, proper-around, proper-inside, none-short, short-none, short-around, short-inside}
 
 -- an accepted question, by its tokens without their places
-module _ (rule : Rule) (s : List ℕ) (t : Tree) (n : ℕ) (accepted : asked rule s ≡ asks t n) where
+module _ (rule : Rule) (s : List ℕ) (t : Tree) (n : ℕ) (accepted : parsed rule s ≡ parses t n) where
   bares-read : question rule (2 * length s + 2) 8 0 (bares (tokens s)) ≡ good t [] n
   bares-read = bare-question rule (2 * length s + 2) 8 0 (tokens s) ∙ ap bareOut (asked-accepts rule s t n accepted .reads)
 
@@ -42,7 +42,7 @@ parts before a behind = bracketed (bares (tokens before)) (bares (tokens a)) (ba
 
 -- ---- the first question, and its part by itself
 
-module _ (rule : Rule) (before a behind : List ℕ) (t : Tree) (n : ℕ) (accepted : asked rule (around before a behind) ≡ asks t n) where
+module _ (rule : Rule) (before a behind : List ℕ) (t : Tree) (n : ℕ) (accepted : parsed rule (around before a behind) ≡ parses t n) where
   parts-walked : walk fresh (parts before a behind) ≡ reached (operatorNext 0 n)
   parts-walked = rw (tokens-around before a behind) at (bares-walked rule (around before a behind) t n accepted)
 
@@ -70,7 +70,7 @@ module _ (rule : Rule) (before a behind : List ℕ) (t : Tree) (n : ℕ) (accept
       (accepts-walk (tokens a) (count (tokens a)) (bare-walk fresh (tokens a) (operatorNext 0 (count (tokens a))) (w ∙ ap (λ (i : ℕ). reached (operatorNext 0 i)) (bare-count (tokens a)))))
 
 -- the brackets of an accepted question match
-pub accepted-matched : (rule : Rule) (a : List ℕ) (t : Tree) (n : ℕ) → asked rule a ≡ asks t n → Matched a
+pub accepted-matched : (rule : Rule) (a : List ℕ) (t : Tree) (n : ℕ) → parsed rule a ≡ parses t n → Matched a
 accepted-matched rule a t n h =
     let kept = walk-kept fresh (tokens a) (operatorNext 0 n) (accepted-walk rule a t n h) in record { above = kept .above; ends = kept .brackets }
 
@@ -78,13 +78,13 @@ accepted-matched rule a t n h =
 
 module _ (rule : Rule) (respects : Respects rule) (has : List ℕ → ℕ → Bool)
     (before a b behind : List ℕ)
-    (ta tb : Tree) (na nb : ℕ) (a-accepted : asked rule a ≡ asks ta na) (b-accepted : asked rule b ≡ asks tb nb)
+    (ta tb : Tree) (na nb : ℕ) (a-accepted : parsed rule a ≡ parses ta na) (b-accepted : parsed rule b ≡ parses tb nb)
     (a-b : Same has ta tb)
-    (t : Tree) (n : ℕ) (accepted : asked rule (around before a behind) ≡ asks t n) where
+    (t : Tree) (n : ℕ) (accepted : parsed rule (around before a behind) ≡ parses t n) where
   abbrev second : List ℕ
   second = around before b behind
 
-  pub exchange-fits : (u : Tree) (m : ℕ) → asked rule (around before b behind) ≡ asks u m → Same has t u
+  pub exchange-fits : (u : Tree) (m : ℕ) → parsed rule (around before b behind) ≡ parses u m → Same has t u
   exchange-fits u m h =
       lock.step-means rule respects has (bares (tokens a)) (bares (tokens b)) (bares (tokens behind)) ta tb a-b (2 * length a + 2) (2 * length b + 2) na nb
       (bares-read rule a ta na a-accepted) (bares-read rule b tb nb b-accepted)
@@ -124,7 +124,7 @@ module _ (rule : Rule) (respects : Respects rule) (has : List ℕ → ℕ → Bo
 -- ---- both in one statement
 
 pub exchange : (rule : Rule) → Respects rule → (has : List ℕ → ℕ → Bool) (a b : List ℕ) → Exchangeable rule has a b →
-    (before behind : List ℕ) (t : Tree) (n : ℕ) → asked rule (around before a behind) ≡ asks t n → Exchanged rule has t (around before b behind)
+    (before behind : List ℕ) (t : Tree) (n : ℕ) → parsed rule (around before a behind) ≡ parses t n → Exchanged rule has t (around before b behind)
 exchange rule respects has a b e before behind t n h =
     record {
       fits-same = exchange-fits rule respects has before a b behind (e .tree-a) (e .tree-b) (e .words-a) (e .words-b) (e .a-accepted) (e .b-accepted) (e .same) t n h;
@@ -133,11 +133,11 @@ exchange rule respects has a b e before behind t n h =
 
 -- the published rule
 pub exchange-from-left : (has : List ℕ → ℕ → Bool) (a b : List ℕ) → Exchangeable fromLeft has a b →
-    (before behind : List ℕ) (t : Tree) (n : ℕ) → asked fromLeft (around before a behind) ≡ asks t n → Exchanged fromLeft has t (around before b behind)
+    (before behind : List ℕ) (t : Tree) (n : ℕ) → parsed fromLeft (around before a behind) ≡ parses t n → Exchanged fromLeft has t (around before b behind)
 exchange-from-left = exchange fromLeft from-left-respects
 
-pub inside-accepted-from-left : (before a behind : List ℕ) (t : Tree) (n : ℕ) → asked fromLeft (around before a behind) ≡ asks t n → Matched a → AcceptedBy fromLeft a (count (tokens a))
+pub inside-accepted-from-left : (before a behind : List ℕ) (t : Tree) (n : ℕ) → parsed fromLeft (around before a behind) ≡ parses t n → Matched a → AcceptedBy fromLeft a (count (tokens a))
 inside-accepted-from-left = inside-accepted fromLeft
 
-pub accepted-within-from-left : (s : List ℕ) (t : Tree) (n : ℕ) → asked fromLeft s ≡ asks t n → WithinLimits s
+pub accepted-within-from-left : (s : List ℕ) (t : Tree) (n : ℕ) → parsed fromLeft s ≡ parses t n → WithinLimits s
 accepted-within-from-left = accepted-within fromLeft

@@ -8,7 +8,7 @@ pub mod WalkLaws
 pub mod LimitLaws
 pub mod StopLaws
 pub mod PartLaws
-pub mod AskedLaws
+pub mod ParsedLaws
 pub mod SplitLaws
 pub mod RuleLaws
 pub mod Exchange

@@ -8,13 +8,13 @@ use lib.ListN.{length}
 use lib.Dec.{ltb, eqb}
 use borrow.Author.Tests.{ltb-true, eqb-true, eqb-false}
 use Rattle.question.specs.Token.{choose, Tok, wordT, opT, openT, closeT, otherT}
-use Rattle.question.specs.Limits.{wordsIn, deepest, openAfter}
+use Rattle.question.specs.Limits.{tokenWords, deepest, openAfter}
 use Rattle.question.specs.Walk.{Stand, operandNext, operatorNext, Pass, goes, refused, pass, Walked, reached, stopped, onward, walk, toEnd, walkAll, fresh}
 use Rattle.question.specs.Exchange.{NeverBelow}
 use Rattle.question.proofs.Apart.{zero-one}
 
 abbrev pub count : List Tok → ℕ
-count ts = length (wordsIn ts)
+count ts = length (tokenWords ts)
 
 abbrev pub openAt : Stand → ℕ
 openAt (operandNext n k) = n
@@ -80,7 +80,7 @@ record Counted (at : Stand) (t : Tok) (r : List Tok) (to : Stand) : Type 0 where
 
 counted-word : (n k p : ℕ) (w : List ℕ) (r : List Tok) (to : Stand) (b : Bool) → ltb k 16 ≡ b → choose b (λ _. goes (operatorNext n (k + 1))) (λ _. refused 10) ≡ goes to →
     Counted (operandNext n k) (wordT w p) r to
-unfolding wordsIn openAfter deepest
+unfolding tokenWords openAfter deepest
 counted-word n k p w r to true e h =
     let q : operatorNext n (k + 1) ≡ to = cc in
     let l : k < 16 = ltb-true k 16 e in
@@ -90,7 +90,7 @@ counted-word n k p w r to false e h = zero-one (cc)
 
 counted-open : (n k p : ℕ) (r : List Tok) (to : Stand) (b : Bool) → ltb n 8 ≡ b → choose b (λ _. goes (operandNext (n + 1) k)) (λ _. refused 11) ≡ goes to →
     Counted (operandNext n k) (openT p) r to
-unfolding wordsIn openAfter deepest
+unfolding tokenWords openAfter deepest
 counted-open n k p r to true e h =
     let q : operandNext (n + 1) k ≡ to = cc in
     let l : n < 8 = ltb-true n 8 e in
@@ -103,7 +103,7 @@ some-open n h = omega arith
 
 counted-close : (n k p : ℕ) (r : List Tok) (to : Stand) (b : Bool) → eqb n 0 ≡ b → choose b (λ _. refused 9) (λ _. goes (operatorNext (n - 1) k)) ≡ goes to →
     Counted (operatorNext n k) (closeT p) r to
-unfolding wordsIn openAfter deepest
+unfolding tokenWords openAfter deepest
 counted-close n k p r to true e h = zero-one (cc)
 counted-close n k p r to false e h =
     let q : operatorNext (n - 1) k ≡ to = cc in
@@ -111,7 +111,7 @@ counted-close n k p r to false e h =
     (record { words = refl; brackets = refl; full = λ f. f; within = λ f. omega arith; deep = λ f g. omega arith; above = λ f. (some-open n (eqb-false n 0 e), f) })
 
 counted : (at : Stand) (t : Tok) (r : List Tok) (to : Stand) → pass at t ≡ goes to → Counted at t r to
-unfolding wordsIn openAfter deepest
+unfolding tokenWords openAfter deepest
 counted (operandNext n k) (wordT w p) r to h = counted-word n k p w r to (ltb k 16) refl h
 counted (operandNext n k) (opT o p) r to h = zero-one (cc)
 counted (operandNext n k) (openT p) r to h = counted-open n k p r to (ltb n 8) refl h
@@ -136,7 +136,7 @@ pub record Kept (at : Stand) (ts : List Tok) (to : Stand) : Type 0 where
   pub above : NeverBelow (openAt at) ts
 
 pub walk-kept : (at : Stand) (ts : List Tok) (to : Stand) → walk at ts ≡ reached to → Kept at ts to
-unfolding wordsIn openAfter deepest
+unfolding tokenWords openAfter deepest
 walk-kept at [] to h =
     subst (λ (x : Stand). Kept at [] x) (walk-none at to h)
     (record { words = omega arith; brackets = refl; full = λ f. f; within = λ f. f; deep = λ f. f; above = tt })

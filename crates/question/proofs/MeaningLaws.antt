@@ -8,7 +8,7 @@ use lib.ListN.{length, getD, length-append, List·getD-append}
 use lib.Seq.{getD-append-add}
 use Rattle.question.specs.declared.token.Op.{Op}
 use Rattle.question.specs.declared.token.Op.the-variants.{And, Or, Not}
-use Rattle.question.specs.Grammar.{Tree, word, pair, part, wordsOf}
+use Rattle.question.specs.Grammar.{Tree, word, pair, part, treeWords}
 use Rattle.question.specs.Meaning.{combine, fits}
 
 -- ---- what an operator says of its two sides
@@ -30,28 +30,28 @@ not-says = (refl, refl, refl, refl)
 -- what is said of the tree's words, each by its number: `said k` of the k-th word of the question, where the tree's first is number `from`
 unfoldable pub fitsBy : (ℕ → Bool) → ℕ → Tree → Bool
 fitsBy said from (word w) = said from
-fitsBy said from (pair o a b) = combine o (fitsBy said from a) (fitsBy said (from + length (wordsOf a)) b)
+fitsBy said from (pair o a b) = combine o (fitsBy said from a) (fitsBy said (from + length (treeWords a)) b)
 fitsBy said from (part t) = fitsBy said from t
 
 pub fits-by : (has : List ℕ → ℕ → Bool) (x : ℕ) (said : ℕ → Bool) (from : ℕ) (t : Tree) →
-    ((i : ℕ) → i < length (wordsOf t) → said (from + i) ≡ has (getD (wordsOf t) i []) x) → fitsBy said from t ≡ fits has t x
-unfolding fitsBy fits wordsOf
+    ((i : ℕ) → i < length (treeWords t) → said (from + i) ≡ has (getD (treeWords t) i []) x) → fitsBy said from t ≡ fits has t x
+unfolding fitsBy fits treeWords
 fits-by has x said from (word w) h = let e : from ≡ from + 0 = omega arith in ap said e ∙ h 0 (omega arith)
 fits-by has x said from (pair o a b) h =
-    let l : length (wordsOf a ++ wordsOf b) ≡ length (wordsOf a) + length (wordsOf b) = length-append (wordsOf a) (wordsOf b) in
+    let l : length (treeWords a ++ treeWords b) ≡ length (treeWords a) + length (treeWords b) = length-append (treeWords a) (treeWords b) in
     ap₂ (combine o)
-    (fits-by has x said from a (λ i lt. h i (omega arith) ∙ ap (λ (w : List ℕ). has w x) (List·getD-append (wordsOf a) (wordsOf b) [] i lt)))
-    (fits-by has x said (from + length (wordsOf a)) b
-    (λ i lt. let s : from + length (wordsOf a) + i ≡ from + (length (wordsOf a) + i) = omega arith in
-    ap said s ∙ h (length (wordsOf a) + i) (omega arith) ∙ ap (λ (w : List ℕ). has w x) (getD-append-add (wordsOf a) (wordsOf b) i [])))
+    (fits-by has x said from a (λ i lt. h i (omega arith) ∙ ap (λ (w : List ℕ). has w x) (List·getD-append (treeWords a) (treeWords b) [] i lt)))
+    (fits-by has x said (from + length (treeWords a)) b
+    (λ i lt. let s : from + length (treeWords a) + i ≡ from + (length (treeWords a) + i) = omega arith in
+    ap said s ∙ h (length (treeWords a) + i) (omega arith) ∙ ap (λ (w : List ℕ). has w x) (getD-append-add (treeWords a) (treeWords b) i [])))
 fits-by has x said from (part t) h = fits-by has x said from t h
 
 -- a record that has the same of a tree's words as another record of another index fits it where the other does
 pub fits-words : (has had : List ℕ → ℕ → Bool) (x y : ℕ) (t : Tree) →
-    ((i : ℕ) → i < length (wordsOf t) → has (getD (wordsOf t) i []) x ≡ had (getD (wordsOf t) i []) y) → fits has t x ≡ fits had t y
+    ((i : ℕ) → i < length (treeWords t) → has (getD (treeWords t) i []) x ≡ had (getD (treeWords t) i []) y) → fits has t x ≡ fits had t y
 fits-words has had x y t h =
-    sym (fits-by has x (λ i. has (getD (wordsOf t) i []) x) 0 t (λ i lt. let z : 0 + i ≡ i = omega arith in ap (λ (n : ℕ). has (getD (wordsOf t) n []) x) z))
-    ∙ fits-by had y (λ i. has (getD (wordsOf t) i []) x) 0 t (λ i lt. let z : 0 + i ≡ i = omega arith in ap (λ (n : ℕ). has (getD (wordsOf t) n []) x) z ∙ h i lt)
+    sym (fits-by has x (λ i. has (getD (treeWords t) i []) x) 0 t (λ i lt. let z : 0 + i ≡ i = omega arith in ap (λ (n : ℕ). has (getD (treeWords t) n []) x) z))
+    ∙ fits-by had y (λ i. has (getD (treeWords t) i []) x) 0 t (λ i lt. let z : 0 + i ≡ i = omega arith in ap (λ (n : ℕ). has (getD (treeWords t) n []) x) z ∙ h i lt)
 
 -- ---- the steps
 

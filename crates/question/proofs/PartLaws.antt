@@ -7,7 +7,7 @@ use mathlib.Core.Bool.{Bool, true, false}
 use lib.Dec.{ltb, eqb}
 use borrow.Author.Tests.{ltb-true, lt-ltb, ne-eqb}
 use Rattle.question.specs.Token.{choose, Tok, wordT, opT, openT, closeT, otherT}
-use Rattle.question.specs.Limits.{wordsIn, deepest, openAfter}
+use Rattle.question.specs.Limits.{tokenWords, deepest, openAfter}
 use Rattle.question.specs.Walk.{Stand, operandNext, operatorNext, goes, refused, pass, reached, walk, fresh}
 use Rattle.question.specs.Exchange.{NeverBelow}
 use Rattle.question.proofs.Apart.{zero-one}
@@ -53,7 +53,7 @@ deepest-rest n (closeT p ∷ r) b = omega (arith, deepest-rest (n - 1) r b)
 deepest-rest n (otherT p ∷ r) b = deepest-rest n r b
 
 count-append : (a b : List Tok) → count (a ++ b) ≡ count a + count b
-unfolding wordsIn
+unfolding tokenWords
 count-append [] b = omega arith
 count-append (wordT w p ∷ r) b = omega (arith, count-append r b)
 count-append (opT o p ∷ r) b = count-append r b
@@ -92,7 +92,7 @@ record Again (at mid : Stand) (t : Tok) (r : List Tok) (m j : ℕ) : Type 0 wher
 module _ (r : List Tok) (m j : ℕ) where
   again-word : (n k p : ℕ) (w : List ℕ) (mid : Stand) (b : Bool) → choose b (λ _. goes (operatorNext n (k + 1))) (λ _. refused 10) ≡ goes mid → NeverBelow m r → deepest m r ≤ 8 → j < 16 →
       Again (operandNext n k) mid (wordT w p) r m j
-  unfolding wordsIn openAfter
+  unfolding tokenWords openAfter
   again-word n k p w mid true h a d l =
       let q : operatorNext n (k + 1) ≡ mid = cc in
       subst (λ (x : Stand). Again (operandNext n k) x (wordT w p) r m j) q
@@ -101,7 +101,7 @@ module _ (r : List Tok) (m j : ℕ) where
 
   again-open : (n k p : ℕ) (mid : Stand) (b : Bool) → choose b (λ _. goes (operandNext (n + 1) k)) (λ _. refused 11) ≡ goes mid → NeverBelow (m + 1) r → deepest (m + 1) r ≤ 8 → m < 8 →
       Again (operandNext n k) mid (openT p) r m j
-  unfolding wordsIn openAfter
+  unfolding tokenWords openAfter
   again-open n k p mid true h a d l =
       let q : operandNext (n + 1) k ≡ mid = cc in
       subst (λ (x : Stand). Again (operandNext n k) x (openT p) r m j) q
@@ -110,7 +110,7 @@ module _ (r : List Tok) (m j : ℕ) where
 
   again-close : (n k p : ℕ) (mid : Stand) (b : Bool) → choose b (λ _. refused 9) (λ _. goes (operatorNext (n - 1) k)) ≡ goes mid → 1 ≤ m → NeverBelow (m - 1) r → deepest (m - 1) r ≤ 8 →
       Again (operatorNext n k) mid (closeT p) r m j
-  unfolding wordsIn openAfter
+  unfolding tokenWords openAfter
   again-close n k p mid true h l a d = zero-one (cc)
   again-close n k p mid false h l a d =
       let q : operatorNext (n - 1) k ≡ mid = cc in
@@ -118,7 +118,7 @@ module _ (r : List Tok) (m j : ℕ) where
       (record { m′ = m - 1; j′ = j; passes = rw (ne-eqb m 0 (λ (e : m ≡ 0). omega arith)); above = a; deep = d; brackets = refl; words = refl })
 
 again : (at mid : Stand) (t : Tok) (r : List Tok) (m j : ℕ) → pass at t ≡ goes mid → NeverBelow m (t ∷ r) → deepest m (t ∷ r) ≤ 8 → j + count (t ∷ r) ≤ 16 → Again at mid t r m j
-unfolding wordsIn openAfter deepest
+unfolding tokenWords openAfter deepest
 again (operandNext n k) mid (wordT w p) r m j h a d l = again-word r m j n k p w mid (ltb k 16) h a d (omega arith)
 again (operandNext n k) mid (opT o p) r m j h a d l = zero-one (cc)
 again (operandNext n k) mid (openT p) r m j h a d l = again-open r m j n k p mid (ltb n 8) h a d (omega (arith, deepest-from (m + 1) r))
@@ -135,7 +135,7 @@ again (operatorNext n k) mid (otherT p) r m j h a d l = zero-one (cc)
 
 pub walk-again : (at : Stand) (ts : List Tok) (to : Stand) (m j : ℕ) → walk at ts ≡ reached to → NeverBelow m ts → deepest m ts ≤ 8 → j + count ts ≤ 16 →
     walk (like at m j) ts ≡ reached (like to (openAfter m ts) (j + count ts))
-unfolding walk wordsIn openAfter
+unfolding walk tokenWords openAfter
 walk-again at [] to m j h a d l =
     subst (λ (x : Stand). reached (like at m j) ≡ reached (like x m (j + 0))) (walk-none at to h) (let e : j ≡ j + 0 = omega arith in ap (λ (i : ℕ). reached (like at m i)) e)
 walk-again at (t ∷ r) to m j h a d l =
@@ -249,7 +249,7 @@ module _ (P A Q : List Tok) where
 -- another part B in its place
 pub exchange-walk : (P A B Q : List Tok) (NA NB : ℕ) → walk fresh (bracketed P A Q) ≡ reached (operatorNext 0 NA) → NeverBelow 0 A → openAfter 0 A ≡ 0 → walk fresh B ≡ reached (operatorNext 0 NB) →
     deepest 0 (bracketed P B Q) ≤ 8 → count (bracketed P B Q) ≤ 16 → Taken (bracketed P B Q)
-unfolding deepest wordsIn
+unfolding deepest tokenWords
 exchange-walk P A B Q NA NB h above ends alone d l =
     let a = around-walk P A Q NA h above ends in
     let room = a .room in
@@ -302,7 +302,7 @@ bare-walk at (t ∷ r) to h =
     let x = through at (bare t) (bares r) to h in walk-pass at (x .mid) t r (sym (pass-bare at t) ∙ x .passes) ∙ bare-walk (x .mid) r to (x .onward)
 
 pub bare-count : (ts : List Tok) → count (bares ts) ≡ count ts
-unfolding wordsIn
+unfolding tokenWords
 bare-count [] = refl
 bare-count (wordT w p ∷ r) = omega (arith, bare-count r)
 bare-count (opT o p ∷ r) = bare-count r

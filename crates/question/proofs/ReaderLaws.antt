@@ -19,7 +19,7 @@ use Rattle.question.specs.declared.reader.Read.the-variants.{At, Bad}
 use Rattle.question.specs.declared.reader.Reading.the-variants.{Accepted, Refused}
 use Rattle.question.specs.Token.{cut, Tok, tokensAt, tokens}
 use Rattle.question.specs.Grammar.{Tree, word, part, link, Rule, Out, good, bad, bind, closed, question, operand, links, ended, whole}
-use Rattle.question.specs.Reading.{placeOf, refusalOf, outcome, answer}
+use Rattle.question.specs.Reading.{tokenPlace, refusalOf, outcome, answer}
 use Rattle.question.specs.Next.{headed, Within, NextToken, startOf}
 use Rattle.question.specs.Readers.{GoodAt, BadAt, Is, Ahead, ReadsQuestion, ReadsOperand, ReadsLinks, ReadsWhole}
 
@@ -44,7 +44,7 @@ module _ {s : List ℕ} {at : ℕ} {t b : Token} where
   token-lies nt e = subst (Within at (length s)) e (nt .lies)
 
 -- the tokens left start where their first token does
-place-is : (s : List ℕ) (at : ℕ) (t : Token) → Within at (length s) t → startOf t ≡ placeOf (length s) (headed s t)
+place-is : (s : List ℕ) (at : ℕ) (t : Token) → Within at (length s) t → startOf t ≡ tokenPlace (length s) (headed s t)
 place-is s at (End p) h = h .1
 place-is s at (Word p q) h = refl
 place-is s at (Op o p q) h = refl

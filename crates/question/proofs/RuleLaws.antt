@@ -4,7 +4,7 @@ use mathlib.Core.Path.{_≡_, refl, sym, ap₂, _∙_}
 use mathlib.Core.List.{List, [], _∷_, _++_, append-assoc, append-nil}
 use mathlib.Core.Bool.{Bool}
 use Rattle.question.specs.declared.token.Op.{Op}
-use Rattle.question.specs.Grammar.{Tree, pair, Link, link, Rule, fromLeft, wordsOf}
+use Rattle.question.specs.Grammar.{Tree, pair, Link, link, Rule, fromLeft, treeWords}
 use Rattle.question.specs.Meaning.{combine, fits, Same, SameLinks, none, more, Respects}
 
 -- ---- from the left
@@ -34,13 +34,13 @@ from-left-none t = refl
 
 abbrev pub linkWords : List Link → List (List ℕ)
 linkWords [] = []
-linkWords (link o t ∷ ls) = wordsOf t ++ linkWords ls
+linkWords (link o t ∷ ls) = treeWords t ++ linkWords ls
 
 -- a rule that keeps the words in their order
 abbrev pub Keeps : Rule → Type 0
-Keeps rule = (t : Tree) (ls : List Link) → wordsOf (rule t ls) ≡ wordsOf t ++ linkWords ls
+Keeps rule = (t : Tree) (ls : List Link) → treeWords (rule t ls) ≡ treeWords t ++ linkWords ls
 
 pub from-left-keeps : Keeps fromLeft
-unfolding fromLeft wordsOf
-from-left-keeps t [] = sym (append-nil (wordsOf t))
-from-left-keeps t (link o u ∷ ls) = from-left-keeps (pair o t u) ls ∙ append-assoc (wordsOf t) (wordsOf u) (linkWords ls)
+unfolding fromLeft treeWords
+from-left-keeps t [] = sym (append-nil (treeWords t))
+from-left-keeps t (link o u ∷ ls) = from-left-keeps (pair o t u) ls ∙ append-assoc (treeWords t) (treeWords u) (linkWords ls)

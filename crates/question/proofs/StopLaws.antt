@@ -4,7 +4,7 @@
 --   never-used-up       so the bound on its calls is never used up, and no reading is refused by 0;
 --   word-limit-read     it is refused by 10 exactly where a word stands behind 16 words, where an operand must stand;
 --   bracket-limit-read  and by 11 exactly where a bracket opens behind 8 that are open, where an operand must stand.
--- What the whole call answers then is in AskedLaws (`grammar-asked`, `word-limit-asked`, `bracket-limit-asked`).
+-- What the whole call answers then is in ParsedLaws (`grammar-asked`, `word-limit-asked`, `bracket-limit-asked`).
 use Prim.Native.Nat.{ℕ, _+_, _-_, _≤_}
 use native.Mathlib.Omega.{arith}
 use mathlib.Core.Path.{_≡_, refl, sym, ap, _∙_}

@@ -15,22 +15,22 @@ use Rattle.word.specs.declared.Operator.the-variants.{And, Or, Not, Neither}
 use Rattle.question.specs.declared.token.Op.{Op}
 use Rattle.question.specs.declared.words.WordPlaces.{WordPlaces}
 use Rattle.question.specs.Token.{choose, cut, Tok, wordT, opT, openT, closeT, otherT, runTok, flush, mark, gather, tokensAt, tokens}
-use Rattle.question.specs.Grammar.{Tree, word, Link, link, Rule, Out, good, bad, bind, closed, question, operand, links, wordsOf}
-use Rattle.question.specs.Reading.{asks, asked}
-use Rattle.question.specs.Limits.{wordsIn}
+use Rattle.question.specs.Grammar.{Tree, word, Link, link, Rule, Out, good, bad, bind, closed, question, operand, links, treeWords}
+use Rattle.question.specs.Reading.{parses, parsed}
+use Rattle.question.specs.Limits.{tokenWords}
 use Rattle.question.specs.Words.{startsIn, endsIn, zeros, placed, Places}
 use Rattle.question.proofs.RuleLaws.{linkWords, Keeps}
-use Rattle.question.proofs.AskedLaws.{asked-accepts, accepted-within}
+use Rattle.question.proofs.ParsedLaws.{asked-accepts, accepted-within}
 
 -- ---- the words of what is read, and those left, are the words of the tokens
 
 abbrev pub Words : {A : Type 0} → (A → List (List ℕ)) → ℕ → List Tok → Out A → Type 0
-Words ws k ts (good a r j) = (wordsIn ts ≡ ws a ++ wordsIn r) × (j ≡ k + length (ws a))
+Words ws k ts (good a r j) = (tokenWords ts ≡ ws a ++ tokenWords r) × (j ≡ k + length (ws a))
 Words ws k ts (bad c r) = Unit {0}
 
 -- an operand, and the links behind it
 level-words : {C : Type 0} (ws : C → List (List ℕ)) (k : ℕ) (ts : List Tok) (o : Out Tree) (ls : ℕ → List Tok → Out (List Link)) (put : Tree → List Link → C) →
-    ((t : Tree) (l : List Link) → ws (put t l) ≡ wordsOf t ++ linkWords l) → Words wordsOf k ts o → ((j : ℕ) (r : List Tok) → Words linkWords j r (ls j r)) →
+    ((t : Tree) (l : List Link) → ws (put t l) ≡ treeWords t ++ linkWords l) → Words treeWords k ts o → ((j : ℕ) (r : List Tok) → Words linkWords j r (ls j r)) →
     Words ws k ts (bind o (λ e r j. bind (ls j r) (λ l z i. good (put e l) z i)))
 level-words ws k ts (bad c r) ls put keeps w v = tt
 level-words ws k ts (good e r j) ls put keeps w v = go (ls j r) (v j r)
@@ -38,12 +38,12 @@ level-words ws k ts (good e r j) ls put keeps w v = go (ls j r) (v j r)
     go : (o : Out (List Link)) → Words linkWords j r o → Words ws k ts (bind o (λ l z i. good (put e l) z i))
     go (bad c z) u = tt
     go (good l z i) u = (
-      w .0 ∙ ap (λ (y : List (List ℕ)). wordsOf e ++ y) (u .0) ∙ sym (append-assoc (wordsOf e) (linkWords l) (wordsIn z)) ∙ ap (λ (y : List (List ℕ)). y ++ wordsIn z) (sym (keeps e l)),
-      omega (arith, w .1, u .1, ap length (keeps e l), length-append (wordsOf e) (linkWords l)),
+      w .0 ∙ ap (λ (y : List (List ℕ)). treeWords e ++ y) (u .0) ∙ sym (append-assoc (treeWords e) (linkWords l) (tokenWords z)) ∙ ap (λ (y : List (List ℕ)). y ++ tokenWords z) (sym (keeps e l)),
+      omega (arith, w .1, u .1, ap length (keeps e l), length-append (treeWords e) (linkWords l)),
     )
 
-closed-words : (k p : ℕ) (r : List Tok) (o : Out Tree) → Words wordsOf k r o → Words wordsOf k (openT p ∷ r) (bind o closed)
-unfolding wordsIn wordsOf
+closed-words : (k p : ℕ) (r : List Tok) (o : Out Tree) → Words treeWords k r o → Words treeWords k (openT p ∷ r) (bind o closed)
+unfolding tokenWords treeWords
 closed-words k p r (bad c z) w = tt
 closed-words k p r (good e [] j) w = tt
 closed-words k p r (good e (wordT v q ∷ z) j) w = tt
@@ -52,24 +52,24 @@ closed-words k p r (good e (openT q ∷ z) j) w = tt
 closed-words k p r (good e (closeT q ∷ z) j) w = w
 closed-words k p r (good e (otherT q ∷ z) j) w = tt
 
-choose-words : (k : ℕ) (ts : List Tok) (t : Bool) (a b : Unit {0} → Out Tree) → Words wordsOf k ts (a tt) → Words wordsOf k ts (b tt) → Words wordsOf k ts (choose t a b)
+choose-words : (k : ℕ) (ts : List Tok) (t : Bool) (a b : Unit {0} → Out Tree) → Words treeWords k ts (a tt) → Words treeWords k ts (b tt) → Words treeWords k ts (choose t a b)
 choose-words k ts true a b p q = p
 choose-words k ts false a b p q = q
 
 link-words : (k p : ℕ) (o : Op) (r : List Tok) (x : Out (List Link)) → Words linkWords k r x → Words linkWords k (opT o p ∷ r) x
-unfolding wordsIn
+unfolding tokenWords
 link-words k p o r (good l z i) w = w
 link-words k p o r (bad c z) w = tt
 
 module _ (rule : Rule) (keeps : Keeps rule) where
   mutual
-    unfolding question operand links wordsIn wordsOf
+    unfolding question operand links tokenWords treeWords
 
-    pub question-words : (f d k : ℕ) (ts : List Tok) → Words wordsOf k ts (question rule f d k ts)
+    pub question-words : (f d k : ℕ) (ts : List Tok) → Words treeWords k ts (question rule f d k ts)
     question-words zero d k ts = tt
-    question-words (suc f) d k ts = level-words wordsOf k ts (operand rule f d k ts) (λ j r. links rule f d j r) rule keeps (operand-words f d k ts) (λ j r. links-words f d j r)
+    question-words (suc f) d k ts = level-words treeWords k ts (operand rule f d k ts) (λ j r. links rule f d j r) rule keeps (operand-words f d k ts) (λ j r. links-words f d j r)
 
-    pub operand-words : (f d k : ℕ) (ts : List Tok) → Words wordsOf k ts (operand rule f d k ts)
+    pub operand-words : (f d k : ℕ) (ts : List Tok) → Words treeWords k ts (operand rule f d k ts)
     operand-words zero d k ts = tt
     operand-words (suc f) d k [] = tt
     operand-words (suc f) d k (wordT w p ∷ r) = choose-words k (wordT w p ∷ r) (ltb k 16) (λ _. good (word w) r (k + 1)) (λ _. bad 10 (wordT w p ∷ r)) (refl, omega arith) tt
@@ -91,12 +91,12 @@ module _ (rule : Rule) (keeps : Keeps rule) where
     links-words (suc f) d k (otherT p ∷ r) = (refl, omega arith)
 
   -- an accepted question: its tree has its words, and they are counted
-  pub accepted-words : (s : List ℕ) (t : Tree) (n : ℕ) → asked rule s ≡ asks t n → (wordsIn (tokens s) ≡ wordsOf t) × (n ≡ length (wordsOf t)) × (n ≤ 16)
-  unfolding wordsIn
+  pub accepted-words : (s : List ℕ) (t : Tree) (n : ℕ) → parsed rule s ≡ parses t n → (tokenWords (tokens s) ≡ treeWords t) × (n ≡ length (treeWords t)) × (n ≤ 16)
+  unfolding tokenWords
   accepted-words s t n h =
       let e : question rule (2 * length s + 2) 8 0 (tokens s) ≡ good t [] n = asked-accepts rule s t n h .reads in
-      let w : Words wordsOf 0 (tokens s) (good t [] n) = subst (Words wordsOf 0 (tokens s)) e (question-words (2 * length s + 2) 8 0 (tokens s)) in
-      let words : wordsIn (tokens s) ≡ wordsOf t = w .0 ∙ append-nil (wordsOf t) in
+      let w : Words treeWords 0 (tokens s) (good t [] n) = subst (Words treeWords 0 (tokens s)) e (question-words (2 * length s + 2) 8 0 (tokens s)) in
+      let words : tokenWords (tokens s) ≡ treeWords t = w .0 ∙ append-nil (treeWords t) in
       (words, omega (arith, w .1), omega (arith, w .1, ap length words, accepted-within rule s t n h .words))
 
 -- ---- each word of the tokens is cut out of the bytes
@@ -174,8 +174,8 @@ StandsAt s w p q = (cut s p q ≡ w) × (p ≤ q) × (q ≤ length s)
 first-stands : (s w : List ℕ) (p : ℕ) → w ≡ take (length w) (drop p s) → p + length w ≤ length s → StandsAt s w p (p + length w)
 first-stands s w p e l = let m : p + length w - p ≡ length w = omega arith in (rw m (sym e), omega arith, l)
 
-stands : (s : List ℕ) (ts : List Tok) → Cuts s ts → (k : ℕ) → k < length (wordsIn ts) → StandsAt s (getD (wordsIn ts) k []) (getD (startsIn ts) k 0) (getD (endsIn ts) k 0)
-unfolding wordsIn startsIn endsIn
+stands : (s : List ℕ) (ts : List Tok) → Cuts s ts → (k : ℕ) → k < length (tokenWords ts) → StandsAt s (getD (tokenWords ts) k []) (getD (startsIn ts) k 0) (getD (endsIn ts) k 0)
+unfolding tokenWords startsIn endsIn
 stands s [] h k l = absurd (omega arith)
 stands s (wordT w p ∷ r) h zero l = first-stands s w p (h .0) (h .1)
 stands s (wordT w p ∷ r) h (suc k) l = stands s r (h .2) k (omega arith)
@@ -184,8 +184,8 @@ stands s (openT p ∷ r) h k l = stands s r h k l
 stands s (closeT p ∷ r) h k l = stands s r h k l
 stands s (otherT p ∷ r) h k l = stands s r h k l
 
-starts-length : (ts : List Tok) → length (startsIn ts) ≡ length (wordsIn ts)
-unfolding wordsIn startsIn
+starts-length : (ts : List Tok) → length (startsIn ts) ≡ length (tokenWords ts)
+unfolding tokenWords startsIn
 starts-length [] = refl
 starts-length (wordT w p ∷ r) = ap suc (starts-length r)
 starts-length (opT o p ∷ r) = starts-length r
@@ -193,8 +193,8 @@ starts-length (openT p ∷ r) = starts-length r
 starts-length (closeT p ∷ r) = starts-length r
 starts-length (otherT p ∷ r) = starts-length r
 
-ends-length : (ts : List Tok) → length (endsIn ts) ≡ length (wordsIn ts)
-unfolding wordsIn endsIn
+ends-length : (ts : List Tok) → length (endsIn ts) ≡ length (tokenWords ts)
+unfolding tokenWords endsIn
 ends-length [] = refl
 ends-length (wordT w p ∷ r) = ap suc (ends-length r)
 ends-length (opT o p ∷ r) = ends-length r
@@ -211,21 +211,21 @@ placed-at places k h l m =
 -- the places are those of the tree's words, in reading order
 pub record WordsStand (s : List ℕ) (t : Tree) (n : ℕ) (r : WordPlaces) : Type 0 where
   pub count : r .count ≡ n
-  pub at : (k : ℕ) → k < n → cut s (getD (r .starts) k 0) (getD (r .ends) k 0) ≡ getD (wordsOf t) k []
+  pub at : (k : ℕ) → k < n → cut s (getD (r .starts) k 0) (getD (r .ends) k 0) ≡ getD (treeWords t) k []
   pub order : (k : ℕ) → k < n → getD (r .starts) k 0 ≤ getD (r .ends) k 0
   pub inside : (k : ℕ) → k < n → getD (r .ends) k 0 ≤ length s
 
-module _ (rule : Rule) (keeps : Keeps rule) (s : List ℕ) (t : Tree) (n : ℕ) (accepted : asked rule s ≡ asks t n) (r : WordPlaces) (p : Places s r) where
-  here : (k : ℕ) → k < n → StandsAt s (getD (wordsOf t) k []) (getD (r .starts) k 0) (getD (r .ends) k 0)
+module _ (rule : Rule) (keeps : Keeps rule) (s : List ℕ) (t : Tree) (n : ℕ) (accepted : parsed rule s ≡ parses t n) (r : WordPlaces) (p : Places s r) where
+  here : (k : ℕ) → k < n → StandsAt s (getD (treeWords t) k []) (getD (r .starts) k 0) (getD (r .ends) k 0)
   here k h =
       let w = accepted-words rule keeps s t n accepted in
-      let lw : length (wordsIn (tokens s)) ≡ n = ap length (w .0) ∙ sym (w .1) in
+      let lw : length (tokenWords (tokens s)) ≡ n = ap length (w .0) ∙ sym (w .1) in
       let ls = starts-length (tokens s) in
       let le = ends-length (tokens s) in
       let m = w .2 in
       let a : getD (r .starts) k 0 ≡ getD (startsIn (tokens s)) k 0 = ap (λ (y : List ℕ). getD y k 0) (p .starts) ∙ placed-at (startsIn (tokens s)) k (omega arith) (omega arith) (omega arith) in
       let b : getD (r .ends) k 0 ≡ getD (endsIn (tokens s)) k 0 = ap (λ (y : List ℕ). getD y k 0) (p .ends) ∙ placed-at (endsIn (tokens s)) k (omega arith) (omega arith) (omega arith) in
-      let c : getD (wordsIn (tokens s)) k [] ≡ getD (wordsOf t) k [] = ap (λ (y : List (List ℕ)). getD y k []) (w .0) in
+      let c : getD (tokenWords (tokens s)) k [] ≡ getD (treeWords t) k [] = ap (λ (y : List (List ℕ)). getD y k []) (w .0) in
       rw (a, b, ← c) (stands s (tokens s) (tokens-cuts s) k (omega arith))
 
   pub word-places-stand : WordsStand s t n r

@@ -6,7 +6,7 @@ use mathlib.Core.Bool.{Bool}
 use Rattle.question.specs.Token.{Tok, wordT, opT, openT, closeT, otherT, tokens}
 use Rattle.question.specs.Grammar.{Tree, Rule}
 use Rattle.question.specs.Meaning.{Same}
-use Rattle.question.specs.Reading.{asks, asked}
+use Rattle.question.specs.Reading.{parses, parsed}
 use Rattle.question.specs.Limits.{openAfter, WithinLimits}
 
 -- Reference 11, demand 3: the bytes `before ( a ) behind`
@@ -30,7 +30,7 @@ pub record Matched (a : List ℕ) : Type 0 where
 -- Reference 6: s is accepted, with n words
 pub record AcceptedBy (rule : Rule) (s : List ℕ) (n : ℕ) : Type 0 where
   pub tree : Tree
-  pub accepted : asked rule s ≡ asks tree n
+  pub accepted : parsed rule s ≡ parses tree n
 
 -- Reference 11, demand 3: a and b are accepted by themselves, and the same records fit them
 pub record Exchangeable (rule : Rule) (has : List ℕ → ℕ → Bool) (a b : List ℕ) : Type 0 where
@@ -38,18 +38,18 @@ pub record Exchangeable (rule : Rule) (has : List ℕ → ℕ → Bool) (a b : L
   pub tree-b : Tree
   pub words-a : ℕ
   pub words-b : ℕ
-  pub a-accepted : asked rule a ≡ asks tree-a words-a
-  pub b-accepted : asked rule b ≡ asks tree-b words-b
+  pub a-accepted : parsed rule a ≡ parses tree-a words-a
+  pub b-accepted : parsed rule b ≡ parses tree-b words-b
   pub same : Same has tree-a tree-b
 
 -- Reference 11, demand 3: s is accepted, and the records that fit t fit it
 pub record AcceptedToo (rule : Rule) (has : List ℕ → ℕ → Bool) (s : List ℕ) (t : Tree) : Type 0 where
   pub tree : Tree
   pub count : ℕ
-  pub accepted : asked rule s ≡ asks tree count
+  pub accepted : parsed rule s ≡ parses tree count
   pub fits-same : Same has t tree
 
 -- Reference 11, demand 3: what follows of `before ( a ) behind`, which is accepted with tree t, and of s, which is `before ( b ) behind`
 pub record Exchanged (rule : Rule) (has : List ℕ → ℕ → Bool) (t : Tree) (s : List ℕ) : Type 0 where
-  pub fits-same : (u : Tree) (m : ℕ) → asked rule s ≡ asks u m → Same has t u
+  pub fits-same : (u : Tree) (m : ℕ) → parsed rule s ≡ parses u m → Same has t u
   pub accepted : WithinLimits s → AcceptedToo rule has s t

@@ -81,7 +81,7 @@ unfoldable pub whole : Rule → List ℕ → Out Tree
 whole rule s = bind (question rule (2 * length s + 2) 8 0 (tokens s)) ended
 
 -- Reference 6.3: the tree's words, in reading order
-unfoldable pub wordsOf : Tree → List (List ℕ)
-wordsOf (word w) = w ∷ []
-wordsOf (pair o a b) = wordsOf a ++ wordsOf b
-wordsOf (part t) = wordsOf t
+unfoldable pub treeWords : Tree → List (List ℕ)
+treeWords (word w) = w ∷ []
+treeWords (pair o a b) = treeWords a ++ treeWords b
+treeWords (part t) = treeWords t

@@ -5,13 +5,13 @@ use lib.ListN.{length}
 use Rattle.question.specs.Token.{Tok, wordT, opT, openT, closeT, otherT, tokens}
 
 -- Reference 6.4: the words, in order
-unfoldable pub wordsIn : List Tok → List (List ℕ)
-wordsIn [] = []
-wordsIn (wordT w p ∷ r) = w ∷ wordsIn r
-wordsIn (opT o p ∷ r) = wordsIn r
-wordsIn (openT p ∷ r) = wordsIn r
-wordsIn (closeT p ∷ r) = wordsIn r
-wordsIn (otherT p ∷ r) = wordsIn r
+unfoldable pub tokenWords : List Tok → List (List ℕ)
+tokenWords [] = []
+tokenWords (wordT w p ∷ r) = w ∷ tokenWords r
+tokenWords (opT o p ∷ r) = tokenWords r
+tokenWords (openT p ∷ r) = tokenWords r
+tokenWords (closeT p ∷ r) = tokenWords r
+tokenWords (otherT p ∷ r) = tokenWords r
 
 -- Reference 6.4: the most brackets that are open at one place, where n are open before the tokens
 unfoldable pub deepest : ℕ → List Tok → ℕ
@@ -34,5 +34,5 @@ openAfter n (otherT p ∷ r) = openAfter n r
 -- Reference 6.4: the limits of a whole question; how long a word is does not depend on what stands around it
 pub record WithinLimits (s : List ℕ) : Type 0 where
   pub bytes : length s ≤ 256
-  pub words : length (wordsIn (tokens s)) ≤ 16
+  pub words : length (tokenWords (tokens s)) ≤ 16
   pub brackets : deepest 0 (tokens s) ≤ 8

@@ -9,7 +9,7 @@ use Rattle.question.specs.declared.reader.Read.the-variants.{At, Bad}
 use Rattle.question.specs.declared.reader.Reading.{Reading}
 use Rattle.question.specs.Token.{Tok, tokensAt}
 use Rattle.question.specs.Grammar.{Rule, Out, good, bad, question, operand, links, whole}
-use Rattle.question.specs.Reading.{placeOf, refusalOf, outcome, answer}
+use Rattle.question.specs.Reading.{tokenPlace, refusalOf, outcome, answer}
 
 -- read up to place n, with j words
 pub record GoodAt {A : Type 0} (s : List ℕ) (n j : ℕ) (o : Out A) : Type 0 where
@@ -20,7 +20,7 @@ pub record BadAt {A : Type 0} (s : List ℕ) (refusal : Refusal) (o : Out A) : T
   pub number : ℕ
   pub left : List Tok
   pub says : o ≡ bad number left
-  pub is : refusal ≡ refusalOf number (placeOf (length s) left)
+  pub is : refusal ≡ refusalOf number (tokenPlace (length s) left)
 
 abbrev pub Is : {A : Type 0} → List ℕ → Read → Out A → Type 0
 Is s (At n j) o = GoodAt s n j o

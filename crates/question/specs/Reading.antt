@@ -17,9 +17,9 @@ use Rattle.question.specs.Token.{choose, run, Tok, wordT, opT, openT, cl
 use Rattle.question.specs.Grammar.{Tree, Rule, fromLeft, Out, good, bad, whole}
 
 -- Reference 6: accepted, with the tree and the number of words; or refused
-pub data Asked : Type 0 where
-  asks : Tree → ℕ → Asked
-  refuses : Refusal → Asked
+pub data Parsed : Type 0 where
+  parses : Tree → ℕ → Parsed
+  refuses : Refusal → Parsed
 
 -- Reference 9.1, row 7
 unfoldable pub isForeign : ℕ → Bool
@@ -33,43 +33,43 @@ abbrev pub longAt : List ℕ → ℕ → Bool
 longAt s i = ltb 32 (run (drop i s))
 
 -- Reference 9.1, rows 9 to 11: the place of the first token left; where none is left, the question's length
-abbrev pub placeOf : ℕ → List Tok → ℕ
-placeOf len [] = len
-placeOf len (wordT w p ∷ r) = p
-placeOf len (opT o p ∷ r) = p
-placeOf len (openT p ∷ r) = p
-placeOf len (closeT p ∷ r) = p
-placeOf len (otherT p ∷ r) = p
+abbrev pub tokenPlace : ℕ → List Tok → ℕ
+tokenPlace len [] = len
+tokenPlace len (wordT w p ∷ r) = p
+tokenPlace len (opT o p ∷ r) = p
+tokenPlace len (openT p ∷ r) = p
+tokenPlace len (closeT p ∷ r) = p
+tokenPlace len (otherT p ∷ r) = p
 
 -- Reference 9.1, rows 9 to 11: what is neither 10 nor 11 is 9, for the bound on the calls is never used up
 -- (`refused-number` and `never-used-up` in proofs/StopLaws.antt).
 unfoldable pub refusalOf : ℕ → ℕ → Refusal
 refusalOf number place = cond (eqb number 10) (WordLimit place) (cond (eqb number 11) (BracketLimit place) (Grammar place))
 
-abbrev pub outcome : ℕ → Out Tree → Asked
-outcome len (good t r k) = asks t k
-outcome len (bad number r) = refuses (refusalOf number (placeOf len r))
+abbrev pub outcome : ℕ → Out Tree → Parsed
+outcome len (good t r k) = parses t k
+outcome len (bad number r) = refuses (refusalOf number (tokenPlace len r))
 
 -- Reference 9.2: the refusal where there is a place for it, else what comes next
-abbrev pub unless : Found → (ℕ → Refusal) → (Unit {0} → Asked) → Asked
+abbrev pub unless : Found → (ℕ → Refusal) → (Unit {0} → Parsed) → Parsed
 unless (At i) fault next = refuses (fault i)
 unless Nowhere fault next = next tt
 
 -- Reference 9.2: each refusal is asked of the whole question before the next one is; the last three are met by reading it
-unfoldable pub asked : Rule → List ℕ → Asked
-asked rule s =
+unfoldable pub parsed : Rule → List ℕ → Parsed
+parsed rule s =
     choose (ltb 256 (length s)) (λ _. refuses (QuestionLength (length s)))
     (λ _. unless (first (foreignAt s) (length s)) QuestionByte
     (λ _. unless (first (longAt s) (length s)) LongWord
     (λ _. outcome (length s) (whole rule s))))
 
 -- Reference 8.10: what the call answers
-abbrev pub answer : Asked → Reading
-answer (asks t k) = Accepted k
+abbrev pub answer : Parsed → Reading
+answer (parses t k) = Accepted k
 answer (refuses refusal) = Refused refusal
 
 unfoldable pub readingOf : List ℕ → Reading
-readingOf s = answer (asked fromLeft s)
+readingOf s = answer (parsed fromLeft s)
 
 -- Reference 8.10: the answer as two numbers, 0 and how many words, or the refusal's number and value
 abbrev pub readingResult : Reading → ℕ × ℕ

@@ -1,4 +1,4 @@
--- Reference 9.1, rows 9 to 11, said by the walk (proved of the reading in proofs/StopLaws.antt, and of the call in AskedLaws.antt).
+-- Reference 9.1, rows 9 to 11, said by the walk (proved of the reading in proofs/StopLaws.antt, and of the call in ParsedLaws.antt).
 use Prim.Native.Nat.{ℕ, _≤_}
 use mathlib.Core.Path.{_≡_}
 use mathlib.Core.List.{List, _∷_, _++_}
@@ -7,8 +7,8 @@ use lib.ListN.{length}
 use Rattle.refusal.specs.First.{first}
 use Rattle.refusal.specs.declared.Found.the-variants.{Nowhere}
 use Rattle.question.specs.Token.{Tok, wordT, openT, tokens}
-use Rattle.question.specs.Limits.{wordsIn, openAfter}
-use Rattle.question.specs.Reading.{foreignAt, longAt, placeOf}
+use Rattle.question.specs.Limits.{tokenWords, openAfter}
+use Rattle.question.specs.Reading.{foreignAt, longAt, tokenPlace}
 use Rattle.question.specs.Walk.{operandNext, reached, stopped, walk, walkAll, fresh}
 
 -- Reference 9.1, rows 9 to 11: the numbers by which a question is refused for its tokens
@@ -30,7 +30,7 @@ pub record WordTooMany (ts r : List Tok) : Type 0 where
   pub brackets : ℕ
   pub words : ℕ
   pub stands : walk fresh front ≡ reached (operandNext brackets words)
-  pub full : length (wordsIn front) ≡ 16
+  pub full : length (tokenWords front) ≡ 16
 
 -- Reference 9.1, row 11: an opening bracket where an operand has to come, behind 8 that are open; r is the tokens from it on
 pub record BracketTooMany (ts r : List Tok) : Type 0 where
@@ -55,7 +55,7 @@ pub record StopsAt (Stop : List Tok → List Tok → Type 0) (s : List ℕ) (p :
   pub faultless : Faultless s
   pub left : List Tok
   pub stop : Stop (tokens s) left
-  pub place : p ≡ placeOf (length s) left
+  pub place : p ≡ tokenPlace (length s) left
 
 -- each follows from the other
 abbrev pub Exactly : Type 0 → Type 0 → Type 0

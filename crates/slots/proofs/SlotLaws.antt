@@ -10,7 +10,7 @@ use Rattle.list.specs.Reading.{listIn}
 use Rattle.index.specs.Format.{wordCount, singlesOf, lowerOf, upperOf, listOf}
 use Rattle.question.specs.declared.token.Op.{Op}
 use Rattle.question.specs.declared.token.Op.the-variants.{And, Or, Not}
-use Rattle.question.specs.Grammar.{Tree, word, pair, part, wordsOf}
+use Rattle.question.specs.Grammar.{Tree, word, pair, part, treeWords}
 use Rattle.question.specs.Meaning.{combine}
 use Rattle.slots.specs.Slots.{slotHas, slotFits}
 
@@ -38,7 +38,7 @@ module _ (v : ℕ → ℕ → Bool) (k x : ℕ) where
   slot-part t = refl
 
   -- j is the slot of b's first word
-  pub slot-pair : (o : Op) (a b : Tree) (j : ℕ) → j ≡ k + length (wordsOf a) → slotFits v (pair o a b) k x ≡ combine o (slotFits v a k x) (slotFits v b j x)
+  pub slot-pair : (o : Op) (a b : Tree) (j : ℕ) → j ≡ k + length (treeWords a) → slotFits v (pair o a b) k x ≡ combine o (slotFits v a k x) (slotFits v b j x)
   unfolding slotFits
   slot-pair o a b j e = rw e
 
@@ -51,5 +51,5 @@ combine-none Not b e = refl
 pub slots-none : (v : ℕ → ℕ → Bool) (x : ℕ) → ((k : ℕ) → v k x ≡ false) → (t : Tree) (k : ℕ) → slotFits v t k x ≡ false
 unfolding slotFits
 slots-none v x h (word w) k = h k
-slots-none v x h (pair o a b) k = rw (slots-none v x h a k) (combine-none o (slotFits v b (k + length (wordsOf a)) x) (slots-none v x h b (k + length (wordsOf a))))
+slots-none v x h (pair o a b) k = rw (slots-none v x h a k) (combine-none o (slotFits v b (k + length (treeWords a)) x) (slots-none v x h b (k + length (treeWords a))))
 slots-none v x h (part t) k = slots-none v x h t k

@@ -6,9 +6,9 @@ use mathlib.Core.Bool.{Bool}
 use mathlib.Core.List.{List, []}
 use lib.ListN.{length, getD}
 use Rattle.directory.specs.Has.{has}
-use Rattle.question.specs.Grammar.{Tree, word, pair, part, wordsOf, fromLeft}
+use Rattle.question.specs.Grammar.{Tree, word, pair, part, treeWords, fromLeft}
 use Rattle.question.specs.Meaning.{combine, fits}
-use Rattle.question.specs.Reading.{asks, asked}
+use Rattle.question.specs.Reading.{parses, parsed}
 use Rattle.question.proofs.MeaningLaws.{fitsBy, fits-by}
 use Rattle.slots.specs.Slots.{slotHas, slotFits}
 use Rattle.slots.specs.Find.{Slots}
@@ -18,16 +18,16 @@ use Rattle.slots.specs.Find.{Slots}
 slot-fits-by : (v : ℕ → ℕ → Bool) (t : Tree) (k x : ℕ) → slotFits v t k x ≡ fitsBy (λ i. v i x) k t
 unfolding slotFits fitsBy
 slot-fits-by v (word w) k x = refl
-slot-fits-by v (pair o a b) k x = ap₂ (combine o) (slot-fits-by v a k x) (slot-fits-by v b (k + length (wordsOf a)) x)
+slot-fits-by v (pair o a b) k x = ap₂ (combine o) (slot-fits-by v a k x) (slot-fits-by v b (k + length (treeWords a)) x)
 slot-fits-by v (part t) k x = slot-fits-by v t k x
 
-pub slot-fits : (v : ℕ → ℕ → Bool) (had : List ℕ → ℕ → Bool) (t : Tree) (x : ℕ) → ((i : ℕ) → i < length (wordsOf t) → v i x ≡ had (getD (wordsOf t) i []) x) →
+pub slot-fits : (v : ℕ → ℕ → Bool) (had : List ℕ → ℕ → Bool) (t : Tree) (x : ℕ) → ((i : ℕ) → i < length (treeWords t) → v i x ≡ had (getD (treeWords t) i []) x) →
     slotFits v t 0 x ≡ fits had t x
 slot-fits v had t x h =
     slot-fits-by v t 0 x ∙ fits-by had x (λ i. v i x) 0 t (λ i l. let z : 0 + i ≡ i = omega arith in ap (λ (n : ℕ). v n x) z ∙ h i l)
 
 -- so of an accepted question, with the slots of its words
-pub asked-fits : (s : List ℕ) (t : Tree) (n : ℕ) → asked fromLeft s ≡ asks t n → (index entries₀ entries : List ℕ) (count : ℕ) → Slots index s entries₀ entries count →
+pub asked-fits : (s : List ℕ) (t : Tree) (n : ℕ) → parsed fromLeft s ≡ parses t n → (index entries₀ entries : List ℕ) (count : ℕ) → Slots index s entries₀ entries count →
     (x : ℕ) → slotFits (slotHas index entries) t 0 x ≡ fits (has index) t x
 asked-fits s t n is index entries₀ entries count slots x =
     let c = slots .count t n is in

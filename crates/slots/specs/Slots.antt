@@ -8,7 +8,7 @@ use lib.ListN.{length, getD}
 use Rattle.list.specs.Interval.{names}
 use Rattle.index.specs.Format.{wordCount, listOf}
 use Rattle.index.specs.Sound.{Sound}
-use Rattle.question.specs.Grammar.{Tree, word, pair, part, wordsOf}
+use Rattle.question.specs.Grammar.{Tree, word, pair, part, treeWords}
 use Rattle.question.specs.Meaning.{combine}
 
 -- whether the word of slot k stands in record x: an entry number that is no entry's has none
@@ -24,5 +24,5 @@ pub record ReadBy (index entries hints : List ℕ) : Type 0 where
 -- whether record x fits a tree whose first word has slot k, by what each slot has
 unfoldable pub slotFits : (ℕ → ℕ → Bool) → Tree → ℕ → ℕ → Bool
 slotFits v (word w) k x = v k x
-slotFits v (pair o a b) k x = combine o (slotFits v a k x) (slotFits v b (k + length (wordsOf a)) x)
+slotFits v (pair o a b) k x = combine o (slotFits v a k x) (slotFits v b (k + length (treeWords a)) x)
 slotFits v (part t) k x = slotFits v t k x

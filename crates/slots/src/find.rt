@@ -2,16 +2,16 @@
 ghost use mathlib.Core.Path.{_≡_};
 ghost use lib.ListN.{length};
 ghost use Rattle.index.specs.Sound.{Sound};
-ghost use Rattle.slots.specs.Find.{IsAsked, EntryOf, Slots};
+ghost use Rattle.slots.specs.Find.{IsParsed, StandsFor, Slots};
 use directory::find::find_word;
 use index::trailer::word_count;
 use question::words::word_places;
 use refusal::Found;
 
 // The entry whose word it is; where the index has no such word, a number that is no entry's.
-fn entry_of(index: &[u8], word: &[u8]) -> usize
+fn entry_for(index: &[u8], word: &[u8]) -> usize
     requires { ⌜ Sound (now index) ⌝ }
-    ensures { λ r. ⌜ EntryOf (now (index .entry)) (now (word .entry)) r ⌝ }
+    ensures { λ r. ⌜ StandsFor (now (index .entry)) (now (word .entry)) r ⌝ }
 {
     match find_word(index, word) {
         Found::At(i) => i,
@@ -21,7 +21,7 @@ fn entry_of(index: &[u8], word: &[u8]) -> usize
 
 // Looks each word up once, in reading order, and answers how many there are.
 pub fn find_slots(index: &[u8], question: &[u8], entries: &mut [usize]) -> usize
-    requires { ⌜ Sound (now index) × IsAsked (now question) × (length (now entries) ≡ 16) ⌝ }
+    requires { ⌜ Sound (now index) × IsParsed (now question) × (length (now entries) ≡ 16) ⌝ }
     ensures { λ r. ⌜ Slots (now (index .entry)) (now (question .entry)) (now (entries .entry)) (now (entries .exit)) r ⌝ }
 {
     let places = word_places(question);
@@ -32,7 +32,7 @@ pub fn find_slots(index: &[u8], question: &[u8], entries: &mut [usize]) -> usize
     while k < count {
         let start = starts[k];
         let end = ends[k];
-        entries[k] = entry_of(index, &question[start..end]);
+        entries[k] = entry_for(index, &question[start..end]);
         k += 1;
     }
     count

@@ -14,8 +14,8 @@ use Rattle.list.specs.Interval.{top}
 use Rattle.list.specs.Ginix.{unionOf}
 use Rattle.list.specs.Kept.{start}
 use Rattle.index.proofs.SoundLaws.{sound-trailer}
-use Rattle.merge.specs.Asked.{Asked, listsOf}
-use Rattle.merge.specs.Places.{singlesIn, lowerIn}
+use Rattle.merge.specs.Request.{SoundRequest, listsOf}
+use Rattle.merge.specs.Places.{entrySingles, entryLowers}
 use Rattle.merge.specs.Keys.{lowerMark, Keys, Refilled, dueAt}
 use Rattle.merge.specs.Put.{Fitting, Put, PutWhere}
 use Rattle.merge.specs.Sweep.{Sweeps}
@@ -70,7 +70,7 @@ module _ (index entries : List ℕ) (places : List Place) (most y : ℕ) (r : Al
     least = λ i b bs h q. let m = f .least i b bs h q in let l = front-lower in omega arith;
   }
 
-module _ (index entries : List ℕ) (asked : Asked index entries) (places : List Place) (most : ℕ) (r : AllRead index entries places most) where
+module _ (index entries : List ℕ) (asked : SoundRequest index entries) (places : List Place) (most : ℕ) (r : AllRead index entries places most) where
   module _ (j : ℕ) (next : Interval) (n : Next index entries places j next) where
     pub next-ordered : (next .lower ≤ next .upper) × (next .upper ≤ top)
     next-ordered =
@@ -97,7 +97,7 @@ pub record Active (index entries : List ℕ) (writing : Bool) (out₀ out : List
   pub inside : (x : ℕ) → active .lower ≤ x → x ≤ active .upper → inAny index entries x ≡ true
   pub read : AllRead index entries places (active .upper + 2)
 
-module _ (index entries : List ℕ) (asked : Asked index entries) (writing : Bool) (out₀ : List ℕ) where
+module _ (index entries : List ℕ) (asked : SoundRequest index entries) (writing : Bool) (out₀ : List ℕ) where
   -- it begins as the least lower bound alone
   pub active-start : (keys : List ℕ) (t : Tally) (active : Interval) → length keys ≡ 16 → Keys (length entries) (length entries) keys (dueAt index entries (replicate 16 start)) →
       t .intervals ≡ 0 → t .records ≡ 0 → active .lower ≡ getD keys 0 0 / 32 → active .upper ≡ getD keys 0 0 / 32 →
@@ -220,7 +220,7 @@ pub record Line (index entries : List ℕ) (writing : Bool) (out₀ out keys : L
   pub queue : Keys (length entries) size keys (dueAt index entries places)
   pub state : Active index entries writing out₀ out places t active
 
-module _ {index entries : List ℕ} (asked : Asked index entries) {writing : Bool} {out₀ : List ℕ} where
+module _ {index entries : List ℕ} (asked : SoundRequest index entries) {writing : Bool} {out₀ : List ℕ} where
   pub line-start : {keys : List ℕ} {size : ℕ} {places : List Place} {t : Tally} {active : Interval} → length keys ≡ 16 →
       Keys (length entries) (length entries) keys (dueAt index entries (replicate 16 start)) → size ≡ length entries → places ≡ replicate 16 start →
       t .intervals ≡ 0 → t .records ≡ 0 → active .lower ≡ getD keys 0 0 / 32 → active .upper ≡ getD keys 0 0 / 32 →
@@ -254,8 +254,8 @@ module _ {index entries : List ℕ} (asked : Asked index entries) {writing : Boo
       line-fits {next} n = active-fits index entries asked writing out₀ out places t active (s .state) (getD keys 0 0 % 16) next n
 
       pub line-on : {places′ : List Place} → places′ ≡ placesOn index entries places (getD keys 0 0 % 16) →
-          (getD places′ (getD keys 0 0 % 16) start .p .0 ≤ length (singlesIn index (getD entries (getD keys 0 0 % 16) 0)))
-          × (getD places′ (getD keys 0 0 % 16) start .q .0 ≤ length (lowerIn index (getD entries (getD keys 0 0 % 16) 0)))
+          (getD places′ (getD keys 0 0 % 16) start .p .0 ≤ length (entrySingles index (getD entries (getD keys 0 0 % 16) 0)))
+          × (getD places′ (getD keys 0 0 % 16) start .q .0 ≤ length (entryLowers index (getD entries (getD keys 0 0 % 16) 0)))
       line-on e =
           let few = asked .few in
           let l = line-list in

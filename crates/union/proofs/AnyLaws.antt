@@ -9,7 +9,7 @@ use Rattle.list.specs.declared.Place.{Place}
 use Rattle.list.specs.Interval.{names}
 use Rattle.list.specs.Ginix.{inSome}
 use Rattle.index.specs.Format.{listOf}
-use Rattle.merge.specs.Asked.{listsOf}
+use Rattle.merge.specs.Request.{listsOf}
 use Rattle.merge.specs.Keys.{lowerMark, dueAt}
 use Rattle.merge.proofs.DueLaws.{AllRead, quiet-below, quiet-end}
 

@@ -14,7 +14,7 @@ use Rattle.list.specs.Interval.{top}
 use Rattle.list.specs.Ginix.{one}
 use Rattle.list.proofs.SeekLaws.{one-small}
 use Rattle.index.proofs.SoundLaws.{sound-trailer}
-use Rattle.merge.specs.Asked.{Asked}
+use Rattle.merge.specs.Request.{SoundRequest}
 use Rattle.merge.specs.Keys.{sumOf, lowerMark, upperMark, dueAt}
 use Rattle.merge.proofs.KeysLaws.{sum-change, sum-at, sum-where, sum-most, Front}
 use Rattle.merge.proofs.DueLaws.{
@@ -78,7 +78,7 @@ one-true false h = absurd (omega arith)
 same-mark : (a b : ℕ) (r q : List ℕ) → a ∷ r ≡ b ∷ q → a ≡ b
 same-mark a b r q e = cc
 
-module _ (index entries : List ℕ) (asked : Asked index entries) (places : List Place) (f : ℕ → Bool) (s count lower : ℕ) (o : Over index entries places f s count lower) where
+module _ (index entries : List ℕ) (asked : SoundRequest index entries) (places : List Place) (f : ℕ → Bool) (s count lower : ℕ) (o : Over index entries places f s count lower) where
   pub over-few : count ≤ 16
   over-few = let few = asked .few in let e = o .sum in omega (arith, sum-most (λ j. one (f j)) (length entries) (λ i. one-small (f i)))
 

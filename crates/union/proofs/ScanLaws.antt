@@ -13,8 +13,8 @@ use Rattle.list.specs.declared.answer.Tally.{Tally}
 use Rattle.list.specs.Interval.{top}
 use Rattle.list.specs.Ginix.{one, unionOf}
 use Rattle.list.specs.Kept.{start}
-use Rattle.merge.specs.Asked.{Asked, listsOf}
-use Rattle.merge.specs.Places.{singlesIn, lowerIn}
+use Rattle.merge.specs.Request.{SoundRequest, listsOf}
+use Rattle.merge.specs.Places.{entrySingles, entryLowers}
 use Rattle.merge.specs.Keys.{sumOf, upperMark, Keys, Refilled, dueAt}
 use Rattle.merge.specs.Put.{Fitting, PutWhere, upTo}
 use Rattle.merge.specs.Sweep.{Sweeps}
@@ -67,7 +67,7 @@ pub record Scan (index entries : List ℕ) (writing : Bool) (out₀ out keys : L
   pub over : Over index entries places ins line count lower
   pub stretch : Stretch (inAny index entries) writing out₀ out t line count lower
 
-module _ {index entries : List ℕ} (asked : Asked index entries) {writing : Bool} {out₀ : List ℕ} where
+module _ {index entries : List ℕ} (asked : SoundRequest index entries) {writing : Bool} {out₀ : List ℕ} where
   pub scan-start : {keys : List ℕ} {size : ℕ} {places : List Place} {t : Tally} {count lower : ℕ} → length keys ≡ 16 →
       Keys (length entries) (length entries) keys (dueAt index entries (replicate 16 start)) → size ≡ length entries → places ≡ replicate 16 start →
       t .intervals ≡ 0 → t .records ≡ 0 → count ≡ 0 → Scan index entries writing out₀ out₀ keys size places t count lower
@@ -165,8 +165,8 @@ module _ {index entries : List ℕ} (asked : Asked index entries) {writing : Boo
             (omega arith, λ c. stretch-fits (inAny index entries) writing out₀ out t (g .line) count lower (g .stretch) (getD keys 0 0 / 32) upper-some (h .0) (h .1) in-line (h .2) (stop c) r)
 
         pub upper-on : {places′ : List Place} → places′ ≡ placesOn index entries places (getD keys 0 0 % 16) →
-            (getD places′ (getD keys 0 0 % 16) start .p .0 ≤ length (singlesIn index (getD entries (getD keys 0 0 % 16) 0)))
-            × (getD places′ (getD keys 0 0 % 16) start .q .0 ≤ length (lowerIn index (getD entries (getD keys 0 0 % 16) 0)))
+            (getD places′ (getD keys 0 0 % 16) start .p .0 ≤ length (entrySingles index (getD entries (getD keys 0 0 % 16) 0)))
+            × (getD places′ (getD keys 0 0 % 16) start .q .0 ≤ length (entryLowers index (getD entries (getD keys 0 0 % 16) 0)))
         upper-on e =
             let few = asked .few in
             let l = scan-list in

@@ -5,7 +5,7 @@ ghost use Prim.Native.Nat.{max, _≤_};
 ghost use lib.ListN.{length};
 ghost use Rattle.list.specs.Ginix.{unionOf};
 ghost use Rattle.list.specs.Interval.{top};
-ghost use Rattle.merge.specs.Asked.{Asked, listsOf};
+ghost use Rattle.merge.specs.Request.{SoundRequest, listsOf};
 ghost use Rattle.merge.specs.Put.{Fitting, PutWhere};
 ghost use Rattle.merge.specs.Sweep.{Sweeps};
 ghost use Rattle.union.specs.Active.{isApart, Joined};
@@ -70,7 +70,7 @@ fn put_before(
 
 // Counts, and writes, the union of the lists of a request.
 pub fn sweep_active(index: &[u8], entries: &[u32], writing: bool, out: &mut [u32]) -> Tally
-    requires { ⌜ Asked (now index) (now entries) × (writing ≡ true → length (unionOf (listsOf (now index) (now entries))) ≤ length (now out)) ⌝ }
+    requires { ⌜ SoundRequest (now index) (now entries) × (writing ≡ true → length (unionOf (listsOf (now index) (now entries))) ≤ length (now out)) ⌝ }
     ensures { λ r. ⌜ Sweeps (unionOf (listsOf (now (index .entry)) (now (entries .entry)))) writing (now (out .entry)) (now (out .exit)) r ⌝ }
 {
     let mut keys = [0; 16];

@@ -9,7 +9,7 @@ use mathlib.Core.Bool.{Bool}
 use lib.Bits.{bitAnd, and-step, and-self, and-le-r}
 use lib.Count.{trailingZeros, ones, onesIn, ones-step}
 use lib.ListN.{length}
-use Rattle.list.specs.Stretches.{kept, recordsFrom}
+use Rattle.list.specs.Stretches.{consIf, recordsFrom}
 use Rattle.window.specs.Bit.{on, set?}
 use Rattle.window.specs.Flips.{marks}
 use Rattle.window.proofs.BitLaws.{on-suc, on-zero}
@@ -17,7 +17,7 @@ use Rattle.window.proofs.BitLaws.{on-suc, on-zero}
 -- digit by digit: the places, counted from at, of the set ones among n's d lowest digits
 unfoldable pub places : ℕ → ℕ → ℕ → List ℕ
 places zero at n = []
-places (suc d) at n = kept (set? (n % 2)) at (places d (at + 1) (n / 2))
+places (suc d) at n = consIf (set? (n % 2)) at (places d (at + 1) (n / 2))
 
 pub places-records : (p : ℕ → Bool) (d at n : ℕ) → ((i : ℕ) → i < d → on n i ≡ p (at + i)) → places d at n ≡ recordsFrom p at d
 unfolding places recordsFrom
@@ -25,7 +25,7 @@ places-records p zero at n h = refl
 places-records p (suc d) at n h =
     let z : at + 0 ≡ at = omega arith in
     let first : set? (n % 2) ≡ p at = sym (on-zero n) ∙ h 0 (omega arith) ∙ ap p z in
-    rw first (ap (kept (p at) at) (places-records p d (at + 1) (n / 2)
+    rw first (ap (consIf (p at) at) (places-records p d (at + 1) (n / 2)
     (λ i l. let s : at + suc i ≡ at + 1 + i = omega arith in sym (on-suc n i) ∙ h (suc i) (omega arith) ∙ ap p s)))
 
 pub marks-places : (w : ℕ) → marks w ≡ places 64 0 w

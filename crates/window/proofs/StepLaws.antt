@@ -18,14 +18,14 @@ use Rattle.window.specs.Flips.{odd, flips, before}
 use Rattle.window.proofs.FlipLaws.{stretches-past, flips-parity}
 use Rattle.window.proofs.MemberLaws.{records-held}
 use Rattle.window.proofs.SweepLaws.{part-turn, window-part, jump-part}
-use Rattle.window.specs.Steps.{Put, Constant, Stepped}
+use Rattle.window.specs.Steps.{PutCells, Constant, Stepped}
 
 -- ---- cells put behind those that are done
 
-pub put-wrote : (vs : List ℕ) (k : ℕ) (writing : Bool) (out out′ : List ℕ) (r : ℕ) → writing ≡ true → out′ ≡ sets out k vs → r ≡ k + length vs → Put vs k writing out out′ r
+pub put-wrote : (vs : List ℕ) (k : ℕ) (writing : Bool) (out out′ : List ℕ) (r : ℕ) → writing ≡ true → out′ ≡ sets out k vs → r ≡ k + length vs → PutCells vs k writing out out′ r
 put-wrote vs k writing out out′ r w e c = record { count = c; written = rw w e }
 
-pub put-counted : (vs : List ℕ) (k : ℕ) (writing : Bool) (out : List ℕ) (r : ℕ) → writing ≡ false → r ≡ k + length vs → Put vs k writing out out r
+pub put-counted : (vs : List ℕ) (k : ℕ) (writing : Bool) (out : List ℕ) (r : ℕ) → writing ≡ false → r ≡ k + length vs → PutCells vs k writing out out r
 put-counted vs k writing out r w c = record { count = c; written = rw w }
 
 -- ---- a jump and a window as steps
@@ -35,7 +35,7 @@ constant-records p x y true h g c = omega (arith, members-on p x y h (omega arit
 constant-records p x y false h g c = omega (arith, members-on p x y h (omega arith), members-none p x y h (omega arith) c)
 
 pub stepped-jump : (p : ℕ → Bool) (v : Bool) (x y k recs : ℕ) (writing : Bool) (out out′ : List ℕ) (k′ recs′ : ℕ) → 1 ≤ x → x < y → Constant p x y v →
-    Put (turned (odd k) v x []) k writing out out′ k′ → recs′ ≡ recs + cond v (y - x) 0 → Stepped p x (y - x) writing k recs out out′ k′ recs′
+    PutCells (turned (odd k) v x []) k writing out out′ k′ → recs′ ≡ recs + cond v (y - x) 0 → Stepped p x (y - x) writing k recs out out′ k′ recs′
 stepped-jump p v x y k recs writing out out′ k′ recs′ h g c put e =
     let j : turned (odd k) v x [] ≡ flips p (odd k) x (y - x) = jump-part p v x k (y - x) (omega arith) (λ i l. c (x + i) (omega arith) (omega arith)) in
     record {
@@ -45,7 +45,7 @@ stepped-jump p v x y k recs writing out out′ k′ recs′ h g c put e =
     }
 
 pub stepped-window : (p : ℕ → Bool) (x k recs : ℕ) (ws : List ℕ) (writing : Bool) (out out′ : List ℕ) (k′ recs′ : ℕ) → Holds p x ws →
-    Put (flips (member ws x) (odd k) x (64 * length ws)) k writing out out′ k′ → recs′ ≡ recs + length (recordsFrom (member ws x) x (64 * length ws)) →
+    PutCells (flips (member ws x) (odd k) x (64 * length ws)) k writing out out′ k′ → recs′ ≡ recs + length (recordsFrom (member ws x) x (64 * length ws)) →
     Stepped p x (64 * length ws) writing k recs out out′ k′ recs′
 stepped-window p x k recs ws writing out out′ k′ recs′ h put e =
     let j = window-part p x k (64 * length ws) ws refl h in
@@ -162,7 +162,7 @@ module _ {p : ℕ → Bool} {n : ℕ} {writing : Bool} {out₀ out : List ℕ} {
   pub close-room : writing ≡ true → length (cellsOf p n) ≤ length out₀ → k + length (turned (odd k) false (n + 1) []) ≤ length out
   close-room w h = more-room s last (stretches p false (n + 1) (n + 1 - (n + 1))) end-left w h
 
-  pub swept-close : {out′ : List ℕ} {r : ℕ} → Put (turned (odd k) false (n + 1) []) k writing out out′ r → Swept p n writing out₀ out′ false (n + 1) r recs
+  pub swept-close : {out′ : List ℕ} {r : ℕ} → PutCells (turned (odd k) false (n + 1) []) k writing out out′ r → Swept p n writing out₀ out′ false (n + 1) r recs
   swept-close put = record {
     done = s .done ++ last;
     count = more-length s last ∙ sym (put .count);

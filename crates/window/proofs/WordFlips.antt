@@ -12,7 +12,7 @@ use lib.ListN.{length, set, length-append}
 use lib.Pow.{pow-pos, shr-lt}
 use lib.Seq.{sets}
 use Rattle.laws.proofs.Lists.{sets-one, sets-append}
-use Rattle.list.specs.Stretches.{turned, kept}
+use Rattle.list.specs.Stretches.{turned, consIf}
 use Rattle.window.specs.Bit.{on, set?}
 use Rattle.window.specs.Flips.{odd, flips, before, marks, cellsAt}
 use Rattle.window.proofs.BitLaws.{differs, on-or, on-xor, on-suc, on-zero, on-low, on-up, on-below, on-high}
@@ -73,7 +73,7 @@ on-flipped p b x w h (suc i) l =
 
 -- one digit: whether it is set, by what is before and what is now
 turn : (x k at : ℕ) (b c : Bool) (ms : List ℕ) (r : List ℕ) → k % 2 ≡ digit b →
-    ((j : ℕ) → j % 2 ≡ digit c → cellsAt x j ms ≡ r) → cellsAt x k (kept (differs c b) at ms) ≡ turned b c (x + at) r
+    ((j : ℕ) → j % 2 ≡ digit c → cellsAt x j ms ≡ r) → cellsAt x k (consIf (differs c b) at ms) ≡ turned b c (x + at) r
 unfolding cellsAt
 turn x k at false false ms r e f = f k e
 turn x k at false true ms r e f = let z : x + at - 0 ≡ x + at = omega arith in rw (e, f (k + 1) (omega arith), z)

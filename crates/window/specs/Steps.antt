@@ -9,7 +9,7 @@ use Rattle.list.specs.Stretches.{recordsFrom}
 use Rattle.window.specs.Flips.{odd, flips}
 
 -- the cells vs behind the first k: they are counted, and where the list is written, written
-pub record Put (vs : List ℕ) (k : ℕ) (writing : Bool) (out out′ : List ℕ) (k′ : ℕ) : Type 0 where
+pub record PutCells (vs : List ℕ) (k : ℕ) (writing : Bool) (out out′ : List ℕ) (k′ : ℕ) : Type 0 where
   pub count : k′ ≡ k + length vs
   pub written : out′ ≡ cond writing (sets out k vs) out
 

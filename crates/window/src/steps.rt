@@ -8,7 +8,7 @@ ghost use lib.ListN.{length};
 ghost use Rattle.list.specs.Stretches.{turned};
 ghost use Rattle.window.specs.Window.{member};
 ghost use Rattle.window.specs.Flips.{odd, flips};
-ghost use Rattle.window.specs.Steps.{Put, Stepped, Constant};
+ghost use Rattle.window.specs.Steps.{PutCells, Stepped, Constant};
 use crate::flips::count_flips;
 use crate::flips::write_flips;
 use crate::flips::write_turn;
@@ -39,7 +39,7 @@ fn count_turn(inside: bool, k: usize) -> usize
 
 pub fn put_turn(inside: bool, x: u32, k: usize, writing: bool, out: &mut [u32]) -> usize
     requires { ⌜ (1 ≤ x) × (k < 4294967296) × (writing ≡ true → k + length (turned (odd k) inside x []) ≤ length (now out)) ⌝ }
-    ensures { λ r. ⌜ Put (turned (odd k) inside x []) k writing (now (out .entry)) (now (out .exit)) r ⌝ }
+    ensures { λ r. ⌜ PutCells (turned (odd k) inside x []) k writing (now (out .entry)) (now (out .exit)) r ⌝ }
 {
     if writing {
         return write_turn(inside, x, k, out);
@@ -49,7 +49,7 @@ pub fn put_turn(inside: bool, x: u32, k: usize, writing: bool, out: &mut [u32]) 
 
 pub fn put_flips(ws: &[u64], x: u32, k: usize, writing: bool, out: &mut [u32]) -> usize
     requires { ⌜ (1 ≤ x) × (x + 64 * length (now ws) < 2 ^ 32) × (k + 64 * length (now ws) < 2 ^ 64) × (writing ≡ true → k + length (flips (member (now ws) x) (odd k) x (64 * length (now ws))) ≤ length (now out)) ⌝ }
-    ensures { λ r. ⌜ Put (flips (member (now (ws .entry)) x) (odd k) x (64 * length (now (ws .entry)))) k writing (now (out .entry)) (now (out .exit)) r ⌝ }
+    ensures { λ r. ⌜ PutCells (flips (member (now (ws .entry)) x) (odd k) x (64 * length (now (ws .entry)))) k writing (now (out .entry)) (now (out .exit)) r ⌝ }
 {
     if writing {
         return write_flips(ws, x, k, out);

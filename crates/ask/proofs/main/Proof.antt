@@ -10,13 +10,13 @@ array-share-prefix-input : tie.Need-array-share-prefix-input
 array-share-prefix-input c =
     let told = c .before .before in
     let read = told .before .before .before in
-    omega (arith, ap readCount (told .size .given .1), read .read-whole .ensures .0)
+    omega (arith, ap readCount (told .size .given .1), read .read-file .ensures .0)
 
 slice-aggregate-answer-input-2 : tie.Need-slice-aggregate-answer-input-2
 slice-aggregate-answer-input-2 c =
     let told = c .before .before .before in
     let read = told .before .before .before in
-    rw (ap readCount (told .size .given .1)) at (read .read-whole .ensures .1)
+    rw (ap readCount (told .size .given .1)) at (read .read-file .ensures .1)
 
 pub main-spec : {M : Type 1} → statement M
 main-spec =

@@ -9,7 +9,7 @@ returns-2 : tie.Need-returns-2
 returns-2 c =
     let told = c .before in
     let read = told .before .before .before .before .before in
-    rw (ap readCount (told .reading .given .1)) at (read .read-whole .ensures)
+    rw (ap readCount (told .reading .given .1)) at (read .read-file .ensures)
 
 pub read-index-spec : {M : Type 1} → statement M
 read-index-spec =

@@ -4,7 +4,7 @@ use lib.ListN.{length}
 use denote.Ref.{now}
 use borrow.Author.Needs.{needs}
 use Rattle.refusal.specs.First.{first}
-use Rattle.build.specs.Lent.{wordsOf, wordTotal, badLent}
+use Rattle.build.specs.Lent.{lentWords, wordTotal, badLent}
 use Rattle.index.proofs.CheckLaws.{place-none}
 use Rattle.build.proofs.GoodLaws.{words-bad, words-counted, counts-many, fair-counts, refused-limit, refused-word, refused-count, refused-number, none-refused}
 use Rattle.build.proofs.build.check_lent.Statement.{statement}
@@ -31,7 +31,7 @@ returns-2 c =
     let words = now (start .words) in
     let counts = now (start .counts) in
     let numbers = now (start .numbers) in
-    let bad = words-bad (first (badLent (wordsOf words)) (wordTotal words)) (length (wordsOf words)) _ (sym (c .before .before .before .check-words .ensures) ∙ c .before .i .given .1) in
+    let bad = words-bad (first (badLent (lentWords words)) (wordTotal words)) (length (lentWords words)) _ (sym (c .before .before .before .check-words .ensures) ∙ c .before .i .given .1) in
     sym (refused-word (start .n) words counts numbers _ (c .before .before .before .before .if1 .left) bad)
 
 returns-3 : tie.Need-returns-3
@@ -41,7 +41,7 @@ returns-3 c =
     let counts = now (start .counts) in
     let numbers = now (start .numbers) in
     let few = c .before .before .before .before .before .before .before .before .if1 .left in
-    let good = words-counted (first (badLent (wordsOf words)) (wordTotal words)) (length (wordsOf words)) _ (sym (c .before .before .before .before .before .before .before .check-words .ensures) ∙ c .before .before .before .before .before .count .given .1) in
+    let good = words-counted (first (badLent (lentWords words)) (wordTotal words)) (length (lentWords words)) _ (sym (c .before .before .before .before .before .before .before .check-words .ensures) ∙ c .before .before .before .before .before .count .given .1) in
     sym (refused-count (start .n) words counts numbers _ few (good .0) (rw (good .1) (sym (c .before .before .before .check-counts .ensures) ∙ c .before .i2 .given .1)))
 
 returns-4 : tie.Need-returns-4
@@ -51,7 +51,7 @@ returns-4 c =
     let counts = now (start .counts) in
     let numbers = now (start .numbers) in
     let few = c .before .before .before .before .before .before .before .before .before .before .before .if1 .left in
-    let good = words-counted (first (badLent (wordsOf words)) (wordTotal words)) (length (wordsOf words)) _ (sym (c .before .before .before .before .before .before .before .before .before .before .check-words .ensures) ∙ c .before .before .before .before .before .before .before .before .count .given .1) in
+    let good = words-counted (first (badLent (lentWords words)) (wordTotal words)) (length (lentWords words)) _ (sym (c .before .before .before .before .before .before .before .before .before .before .check-words .ensures) ∙ c .before .before .before .before .before .before .before .before .count .given .1) in
     let fair = sym (c .before .before .before .before .before .before .check-counts .ensures) ∙ c .before .before .before .before .enum-told .given .1 in
     let each = place-none _ _ _ fair in
     let many = counts-many counts (length numbers) _ (each .0) (each .1) in
@@ -65,7 +65,7 @@ returns-5 c =
     let counts = now (start .counts) in
     let numbers = now (start .numbers) in
     let few = c .before .before .before .before .before .before .before .before .before .before .if1 .left in
-    let good = words-counted (first (badLent (wordsOf words)) (wordTotal words)) (length (wordsOf words)) _ (sym (c .before .before .before .before .before .before .before .before .before .check-words .ensures) ∙ c .before .before .before .before .before .before .before .count .given .1) in
+    let good = words-counted (first (badLent (lentWords words)) (wordTotal words)) (length (lentWords words)) _ (sym (c .before .before .before .before .before .before .before .before .before .check-words .ensures) ∙ c .before .before .before .before .before .before .before .count .given .1) in
     let fair = sym (c .before .before .before .before .before .check-counts .ensures) ∙ c .before .before .before .enum-told .given .1 in
     let each = place-none _ _ _ fair in
     let many = counts-many counts (length numbers) _ (each .0) (each .1) in

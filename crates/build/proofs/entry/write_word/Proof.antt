@@ -7,7 +7,7 @@ use denote.Ref.{now}
 use borrow.Author.Needs.{needs}
 use borrow.Rule.Slice.PartMut.{putMid}
 use Rattle.convert.specs.Convert.{intervalsOf}
-use Rattle.build.specs.Written.{keptBytes}
+use Rattle.build.specs.Layout.{keptBytes}
 use Rattle.build.proofs.KeptBytesLaws.{kept-length}
 use Rattle.build.proofs.WriteLaws.{tail-sets, word-entered, tail-length}
 use Rattle.build.proofs.entry.write_word.Statement.{statement}

@@ -6,7 +6,7 @@ use Prim.Native.Nat.{ℕ}
 use lib.Seq.{sets}
 use borrow.Author.Tests.{eq-eqb, ne-eqb}
 use borrow.Author.Needs.{needs}
-use Rattle.build.specs.Written.{cellBytes}
+use Rattle.build.specs.Layout.{cellBytes}
 use Rattle.build.proofs.kept.put_interval.Statement.{statement}
 use Rattle.build.proofs.kept.put_interval.Tie as tie
 

@@ -8,7 +8,7 @@ use denote.Ref.{now}
 use borrow.Author.Needs.{needs}
 use Rattle.convert.specs.Convert.{intervalsOf}
 use Rattle.convert.proofs.RunLaws.{intervals-none}
-use Rattle.build.specs.Written.{singlesIn, lowersIn}
+use Rattle.build.specs.Layout.{cellSingles, lowersIn}
 use Rattle.build.proofs.WriteLaws.{singles-next, pairs-next, kept-width, none-kept}
 use Rattle.build.proofs.size.count_kept.Statement.{statement}
 use Rattle.build.proofs.size.count_kept.Tie as tie
@@ -17,7 +17,7 @@ abbrev Inv-loop : tie.InvT-loop
 Inv-loop numbers singles₀ pairs₀ i₀ singles pairs i =
     (i ≤ length numbers)
     × (singles + 2 * pairs ≤ i)
-    × (length (singlesIn (intervalsOf numbers)) ≡ singles + length (singlesIn (intervalsOf (drop i numbers))))
+    × (length (cellSingles (intervalsOf numbers)) ≡ singles + length (cellSingles (intervalsOf (drop i numbers))))
     × (length (lowersIn (intervalsOf numbers)) ≡ pairs + length (lowersIn (intervalsOf (drop i numbers))))
 
 abbrev μ-loop : tie.MeasureT-loop
@@ -29,7 +29,7 @@ loop-again c =
     let run = c .before .next-run .result in
     let is = c .before .next-run .ensures in
     let rest = intervalsOf (drop (run .next) (now (c .before .before .before .before .before .args .numbers))) in
-    let s = at .inv .2 ∙ ap (λ (cells : List ℕ). at .singles + length (singlesIn cells)) (is .cells) in
+    let s = at .inv .2 ∙ ap (λ (cells : List ℕ). at .singles + length (cellSingles cells)) (is .cells) in
     let m = at .inv .3 ∙ ap (λ (cells : List ℕ). at .pairs + length (lowersIn cells)) (is .cells) in
     let width = kept-width (run .lower) (run .upper) (is .forward) in (
       is .within,
@@ -42,7 +42,7 @@ returns : tie.Need-returns Inv-loop μ-loop
 returns c =
     let at = c .before .loop in
     let none = intervals-none (now (c .before .before .before .args .numbers)) (at .i) (c .loop-test .left) in
-    let s = at .inv .2 ∙ ap (λ (cells : List ℕ). at .singles + length (singlesIn cells)) none in
+    let s = at .inv .2 ∙ ap (λ (cells : List ℕ). at .singles + length (cellSingles cells)) none in
     let m = at .inv .3 ∙ ap (λ (cells : List ℕ). at .pairs + length (lowersIn cells)) none in
     record { singles = omega (arith, none-kept .0); pairs = omega (arith, none-kept .1); most = omega arith }
 

@@ -9,7 +9,7 @@ use borrow.Author.Needs.{needs}
 use Rattle.list.specs.Interval.{top}
 use Rattle.convert.specs.Convert.{intervalsOf}
 use Rattle.build.specs.Lent.{sumTo, listsFrom}
-use Rattle.build.specs.Written.{listsBytes}
+use Rattle.build.specs.Layout.{listsBytes}
 use Rattle.build.proofs.KeptBytesLaws.{kept-length}
 use Rattle.build.proofs.CountLaws.{sum-next, sum-first-none}
 use Rattle.build.proofs.ListsLaws.{lists-next, list-good, list-long, list-within, lists-none, lists-bytes-next, lists-bytes-none}

@@ -7,7 +7,7 @@ use lib.ListN.{length, drop, getD, take}
 use denote.Ref.{now}
 use borrow.Author.Needs.{needs}
 use Rattle.convert.specs.Convert.{intervalsOf}
-use Rattle.build.specs.Lent.{wordsFrom, wordsOf, listsFrom}
+use Rattle.build.specs.Lent.{wordsFrom, lentWords, listsFrom}
 use Rattle.build.specs.Passes.{allEntered}
 use Rattle.build.proofs.ListsLaws.{list-good, list-within}
 use Rattle.build.proofs.EnterLaws.{Entering, enter-start, enter-end, word-ended, enter-within, enter-on, enter-left, entered-length}
@@ -18,13 +18,13 @@ abbrev Inv-loop : tie.InvT-loop
 Inv-loop out₀ words counts numbers at₀ start₀ first₀ i₀ out at start first i =
     (length out ≡ length out₀)
     × Entering words counts numbers (length out₀) at start first i
-    × (allEntered out₀ at₀ (wordsOf words) (listsFrom counts numbers) ≡ allEntered out at (wordsFrom [] (drop start words)) (listsFrom (drop i counts) (drop first numbers)))
+    × (allEntered out₀ at₀ (lentWords words) (listsFrom counts numbers) ≡ allEntered out at (wordsFrom [] (drop start words)) (listsFrom (drop i counts) (drop first numbers)))
 
 abbrev μ-loop : tie.MeasureT-loop
 μ-loop out₀ words counts numbers at₀ start₀ first₀ i₀ out at start first i = length counts - i
 
 loop-holds : tie.Need-loop-holds Inv-loop μ-loop
-unfolding wordsOf
+unfolding lentWords
 loop-holds c =
     let start = c .before .before .before .before in
     (refl, enter-start (now (start .args .words)) (now (start .args .counts)) (now (start .args .numbers)) (length (now (start .args .out))) (start .args .from) (start .pre .1) (start .pre .2), refl)

@@ -5,13 +5,13 @@ use native.Mathlib.Omega.{arith}
 use borrow.Author.Needs.{needs}
 use Rattle.word.specs.Word.{before}
 use Rattle.index.specs.Format.{wordCount}
-use Rattle.directory.specs.Has.{placeOf}
+use Rattle.directory.specs.Has.{wordPlace}
 use Rattle.directory.proofs.HasLaws.{place-splits, place-behind, place-not-behind}
 use Rattle.directory.proofs.find.find_place.Statement.{statement}
 use Rattle.directory.proofs.find.find_place.Tie as tie
 
 abbrev Inv-loop : tie.InvT-loop
-Inv-loop index word low₀ high₀ low high = (low ≤ placeOf index word) × (placeOf index word ≤ high) × (high ≤ wordCount index) × (high ≤ 65535)
+Inv-loop index word low₀ high₀ low high = (low ≤ wordPlace index word) × (wordPlace index word ≤ high) × (high ≤ wordCount index) × (high ≤ 65535)
 
 abbrev μ-loop : tie.MeasureT-loop
 μ-loop index word low₀ high₀ low high = high - low

@@ -4,8 +4,8 @@ use Rattle.index.proofs.FrameLaws.{framed}
 use Rattle.directory.proofs.parts.sound_entry.Statement.{statement}
 use Rattle.directory.proofs.parts.sound_entry.Tie as tie
 
-entry-at-requires : tie.Need-entry-at-requires
-entry-at-requires c κs =
+read-entry-requires : tie.Need-read-entry-requires
+read-entry-requires c κs =
     let index = c .before .before .args .index .now in
     let s = c .before .before .pre .0 in
     let is = c .read-trailer .ensures in
@@ -15,7 +15,7 @@ returns : tie.Need-returns
 returns c =
     let start = c .before .before .before in
     let index = start .args .index .now in
-    let e = c .entry-at .ensures in (
+    let e = c .read-entry .ensures in (
       e,
       (
         rw (e .word-start, e .word-length) (sound-word-room index (start .pre .0) (start .args .i) (start .pre .1)),
@@ -24,4 +24,4 @@ returns c =
     )
 
 pub sound-entry-spec : {M : Type 1} → statement M
-sound-entry-spec = tie.close (tie.spec (λ c κs. sound-length (c .before .args .index .now) (c .before .pre .0) .0) entry-at-requires returns)
+sound-entry-spec = tie.close (tie.spec (λ c κs. sound-length (c .before .args .index .now) (c .before .pre .0) .0) read-entry-requires returns)

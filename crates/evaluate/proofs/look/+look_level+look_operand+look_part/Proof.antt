@@ -9,7 +9,7 @@ use Rattle.codes.specs.Code.{opCode, opOf}
 use Rattle.evaluate.specs.Look.{Tells}
 use Rattle.codes.proofs.CodeLaws.{op-range, operator-code, operator-none}
 use Rattle.codes.proofs.ReadsLaws.{code-within, operand-none, operand-word, operand-many, operand-deep, operand-part, operand-unclosed, Level, level-start, level-step, level-end}
-use Rattle.evaluate.proofs.SenseLaws.{tells-word, tells-part, tells-pair}
+use Rattle.evaluate.proofs.PairedSenses.{tells-word, tells-part, tells-pair}
 use borrow.Fn.Kinds.{In}
 use borrow.Fn.PlainCycle.{Measures, is, falls, and}
 use Rattle.evaluate.proofs.look.look_level.Reads as look-level

@@ -1,5 +1,5 @@
 -- The law of the opposite.
-use Rattle.evaluate.proofs.SenseLaws.{steady-not}
+use Rattle.evaluate.proofs.PairedSenses.{steady-not}
 use Rattle.evaluate.proofs.sense_pair.opposite.Statement.{statement}
 use Rattle.evaluate.proofs.sense_pair.opposite.Tie as tie
 

@@ -1,7 +1,7 @@
 -- `or` by `and` of the opposites, `not` by `and` with the opposite of the right side.
 use mathlib.Core.Path.{sym, _∙_}
 use mathlib.Core.Bool.{not, _&&_}
-use Rattle.evaluate.proofs.SenseLaws.{paired-and, paired-or, paired-not}
+use Rattle.evaluate.proofs.PairedSenses.{paired-and, paired-or, paired-not}
 use borrow.Author.Needs.{needs}
 use Rattle.evaluate.proofs.sense_pair.pair_senses.Statement.{statement}
 use Rattle.evaluate.proofs.sense_pair.pair_senses.Tie as tie

@@ -7,7 +7,7 @@ use Rattle.list.specs.Interval.{top}
 use Rattle.list.proofs.KeptLaws.{kept-facts}
 use Rattle.index.specs.Format.{singlesOf, lowerOf, upperOf}
 use Rattle.directory.proofs.AnswerLaws.{list-kept}
-use Rattle.evaluate.proofs.SenseLaws.{slot-in, slot-out}
+use Rattle.evaluate.proofs.PairedSenses.{slot-in, slot-out}
 use borrow.Author.Needs.{needs}
 use Rattle.evaluate.proofs.senses.look_slot.Statement.{statement}
 use Rattle.evaluate.proofs.senses.look_slot.Tie as tie
@@ -17,8 +17,8 @@ returns c =
     let start = c .before .before .before .before .before .before in
     (refl, slot-out (start .args .index .now) (start .args .entries .now) (start .args .k) (start .args .x) (omega (arith, c .before .word-count .ensures .0)) (start .pre .2))
 
-place-of-requires : tie.Need-place-of-requires
-place-of-requires c κs =
+reading-place-requires : tie.Need-reading-place-requires
+reading-place-requires c κs =
     let found = c .before .before .before .before .before in
     let start = found .before .before .before .before .before .before in
     let index = start .args .index .now in
@@ -34,7 +34,7 @@ sense-at-requires c κs =
     let i = getD (start .args .entries .now) (start .args .k) 0 in (
       rw (c .before .before .before .before .before .before .before .before .before .singles-of .ensures, c .before .before .before .before .before .before .before .before .lower-of .ensures, c .before .before .before .before .before .before .before .upper-of .ensures)
           (list-kept index (start .pre .0 .sound) i (omega (arith, found .before .word-count .ensures .0))),
-      c .before .before .before .before .place-of .ensures,
+      c .before .before .before .before .reading-place .ensures,
       start .pre .2,
     )
 
@@ -61,5 +61,5 @@ look-slot-spec =
     tie.close
     (tie.spec
     (λ c. search needs) (λ c. search needs) (λ c κs. search needs) returns (λ c κs. search needs) (λ c κs. search needs)
-    (λ c κs. search needs) (λ c κs. search needs) place-of-requires (λ c κs. search needs) sense-at-requires same-length
+    (λ c κs. search needs) (λ c κs. search needs) reading-place-requires (λ c κs. search needs) sense-at-requires same-length
     returns-2)

@@ -1,7 +1,7 @@
 -- A sense that holds is kept; else the slot is looked at.
 use native.Mathlib.Omega.{arith}
 use Rattle.slots.specs.Slots.{slotHas}
-use Rattle.evaluate.proofs.SensedLaws.{renewed-set}
+use Rattle.evaluate.proofs.KeptSenses.{renewed-set}
 use borrow.Author.Needs.{needs}
 use Rattle.evaluate.proofs.senses.renew_sense.Statement.{statement}
 use Rattle.evaluate.proofs.senses.renew_sense.Tie as tie

@@ -5,7 +5,7 @@ use mathlib.Core.Path.{_≡_, sym, _∙_}
 use lib.ListN.{length}
 use Rattle.slots.specs.Slots.{slotHas}
 use Rattle.evaluate.specs.Senses.{untilOf, Sensed}
-use Rattle.evaluate.proofs.SensedLaws.{sensed-known, renewed-next}
+use Rattle.evaluate.proofs.KeptSenses.{sensed-known, renewed-next}
 use borrow.Author.Needs.{needs}
 use Rattle.evaluate.proofs.senses.renew_senses.Statement.{statement}
 use Rattle.evaluate.proofs.senses.renew_senses.Tie as tie

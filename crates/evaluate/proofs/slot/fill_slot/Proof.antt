@@ -16,8 +16,8 @@ use borrow.Author.Needs.{needs}
 use Rattle.evaluate.proofs.slot.fill_slot.Statement.{statement}
 use Rattle.evaluate.proofs.slot.fill_slot.Tie as tie
 
-place-of-requires : tie.Need-place-of-requires
-place-of-requires c κs =
+reading-place-requires : tie.Need-reading-place-requires
+reading-place-requires c κs =
     let st = c .before .before .before .before .before .before .before .before .before .before .before .before in
     let a = st .args in
     let index = a .index .now in
@@ -34,7 +34,7 @@ fill-list-requires c κs =
     let i = getD (a .entries .now) (a .k) 0 in
     let h : i < wordCount index = omega (arith, c .before .before .before .before .before .before .before .if1 .taken, c .before .before .before .before .before .before .before .before .word-count .ensures .0) in
     let k = list-kept index (st .pre .0 .sound) i h in
-    (rw (c .before .before .before .before .before .before .singles-of .ensures, c .before .before .before .before .before .lower-of .ensures, c .before .before .before .before .upper-of .ensures) k, c .before .place-of .ensures, st .pre .2, st .pre .3)
+    (rw (c .before .before .before .before .before .before .singles-of .ensures, c .before .before .before .before .before .lower-of .ensures, c .before .before .before .before .upper-of .ensures) k, c .before .reading-place .ensures, st .pre .2, st .pre .3)
 
 keep-hint-requires : tie.Need-keep-hint-requires
 keep-hint-requires c κs = let st = c .before .before .before .before .before .before .before .before .before .before .before .before .before .before .before .before .before .before in (st .pre .1, st .pre .0 .hints-long)
@@ -67,5 +67,5 @@ fill-slot-spec =
     tie.close
     (tie.spec
     (λ c. search needs) (λ c. search needs) (λ c κs. search needs) (λ c κs. search needs) (λ c κs. search needs)
-    (λ c κs. search needs) (λ c κs. search needs) place-of-requires fill-list-requires keep-hint-requires same-length
+    (λ c κs. search needs) (λ c κs. search needs) reading-place-requires fill-list-requires keep-hint-requires same-length
     (λ c. search needs) returns returns-2)

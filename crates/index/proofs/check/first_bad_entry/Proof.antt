@@ -36,7 +36,7 @@ returns c =
     let start = c .before .before .before .before .before .before .before in
     let at = c .before .before .before .before .before .loop in
     let index = now (start .args .index) in
-    let entry = c .before .before .entry-at in
+    let entry = c .before .before .read-entry in
     let rule = c .before .directory-good .ensures index (at .i) (start .pre .is) (entry .ensures) (at .inv .words-sum) (at .inv .lists-sum) in
     rw (going-hit index (entry .result) (at .prior) (at .words) (at .lists) (at .i) (at .inv) (omega arith) (entry-misplaced index (at .i) (told-bad _ _ rule (c .if2 .taken))))
 
@@ -45,7 +45,7 @@ part-word-good-end-2 c =
     let start = c .before .before .before .before .before .before .before .before .before in
     let at = c .before .before .before .before .before .before .before .loop in
     let index = now (start .args .index) in
-    let entry = c .before .before .before .before .entry-at in
+    let entry = c .before .before .before .before .read-entry in
     let rule = c .before .before .before .directory-good .ensures index (at .i) (start .pre .is) (entry .ensures) (at .inv .words-sum) (at .inv .lists-sum) in
     let room = next-within index (at .i) (told-good _ _ rule (c .before .before .if2 .left)) in
     search needs
@@ -55,7 +55,7 @@ returns-2 c =
     let start = c .before .before .before .before .before .before .before .before .before .before .before .before in
     let at = c .before .before .before .before .before .before .before .before .before .before .loop in
     let index = now (start .args .index) in
-    let entry = c .before .before .before .before .before .before .before .entry-at in
+    let entry = c .before .before .before .before .before .before .before .read-entry in
     let rule = c .before .before .before .before .before .before .directory-good .ensures index (at .i) (start .pre .is) (entry .ensures) (at .inv .words-sum) (at .inv .lists-sum) in
     let placed = told-good _ _ rule (c .before .before .before .before .before .if2 .left) in
     let word = c .before .word-good .ensures ∙ going-word index (entry .result) (at .prior) (at .words) (at .lists) (at .i) (at .inv) (omega arith) (entry .ensures) placed in
@@ -66,7 +66,7 @@ loop-again c =
     let start = c .before .before .before .before .before .before .before .before .before .before .before .before .before in
     let at = c .before .before .before .before .before .before .before .before .before .before .before .loop in
     let index = now (start .args .index) in
-    let entry = c .before .before .before .before .before .before .before .before .entry-at in
+    let entry = c .before .before .before .before .before .before .before .before .read-entry in
     let rule = c .before .before .before .before .before .before .before .directory-good .ensures index (at .i) (start .pre .is) (entry .ensures) (at .inv .words-sum) (at .inv .lists-sum) in
     let placed = told-good _ _ rule (c .before .before .before .before .before .before .if2 .left) in
     let word = c .before .before .word-good .ensures ∙ going-word index (entry .result) (at .prior) (at .words) (at .lists) (at .i) (at .inv) (omega arith) (entry .ensures) placed in

@@ -27,7 +27,7 @@ list-good-requires c κs =
     let start = c .before .before .before .before .before in
     let at = c .before .before .before .loop in
     let index = now (start .args .index) in
-    let room = list-room index (start .args .trailer) (at .k) (c .entry-at .result) (start .pre .0) (c .entry-at .ensures) (start .pre .1 (at .k) (omega arith)) in
+    let room = list-room index (start .args .trailer) (at .k) (c .read-entry .result) (start .pre .0) (c .read-entry .ensures) (start .pre .1 (at .k) (omega arith)) in
     search needs
 
 returns : tie.Need-returns Inv-loop μ-loop
@@ -35,7 +35,7 @@ returns c =
     let start = c .before .before .before .before .before .before .before in
     let at = c .before .before .before .before .before .loop in
     let index = now (start .args .index) in
-    let rule = c .before .list-good .ensures (at .k) (c .before .before .entry-at .ensures) (start .pre .0 .is .highest) in
+    let rule = c .before .list-good .ensures (at .k) (c .before .before .read-entry .ensures) (start .pre .0 .is .highest) in
     sym (at .inv .1 ∙ first-hit (badList index) (at .k) (wordCount index) (omega arith) (told-bad _ _ rule (c .if2 .taken)))
 
 loop-again : tie.Need-loop-again Inv-loop μ-loop
@@ -43,7 +43,7 @@ loop-again c =
     let start = c .before .before .before .before .before .before .before in
     let at = c .before .before .before .before .before .loop in
     let index = now (start .args .index) in
-    let rule = c .before .list-good .ensures (at .k) (c .before .before .entry-at .ensures) (start .pre .0 .is .highest) in
+    let rule = c .before .list-good .ensures (at .k) (c .before .before .read-entry .ensures) (start .pre .0 .is .highest) in
     (omega arith, at .inv .1 ∙ first-miss (badList index) (at .k) (wordCount index) (omega arith) (told-good _ _ rule (c .if2 .left)))
 
 returns-2 : tie.Need-returns-2 Inv-loop μ-loop

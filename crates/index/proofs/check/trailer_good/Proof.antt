@@ -23,7 +23,7 @@ returns-3 c =
 returns-4 : tie.Need-returns-4
 returns-4 c =
     let index = now (c .before .before .before .before .before .before .before .before .args .index) in
-    let e : c .place-of .result + 20 ≡ directoryStart index + entrySize (edition index) * wordCount index + 20 = omega arith in
+    let e : c .entry-place .result + 20 ≡ directoryStart index + entrySize (edition index) * wordCount index + 20 = omega arith in
     ap (λ n. eqb n (length index)) e ∙ sym (ap not (trailer-else index (omega arith) (omega arith) (omega arith)) ∙ Bool·not-not (eqb (directoryStart index + entrySize (edition index) * wordCount index + 20) (length index)))
 
 pub trailer-good-spec : {M : Type 1} → statement M

@@ -5,8 +5,8 @@ use borrow.Author.Needs.{needs}
 use Rattle.intersection.proofs.probing.sense_in.Statement.{statement}
 use Rattle.intersection.proofs.probing.sense_in.Tie as tie
 
-place-of-requires : tie.Need-place-of-requires
-place-of-requires c κs =
+reading-place-requires : tie.Need-reading-place-requires
+reading-place-requires c κs =
     let start = c .before .before .before .before in
     let pre = start .pre .0 in
     rw (c .before .before .singles-of .ensures, c .upper-of .ensures) (entry-ascends (start .args .index .now) (pre .0) (start .args .entry) (pre .1))
@@ -17,7 +17,7 @@ sense-at-requires c κs =
     let pre = start .pre in (
       rw (c .before .before .before .singles-of .ensures, c .before .before .lower-of .ensures, c .before .upper-of .ensures)
           (list-kept (start .args .index .now) (pre .0 .0) (start .args .entry) (pre .0 .1)),
-      c .place-of .ensures,
+      c .reading-place .ensures,
       pre .1,
     )
 
@@ -32,4 +32,4 @@ pub sense-in-spec : {M : Type 1} → statement M
 sense-in-spec =
     tie.close
     (tie.spec
-    (λ c κs. search needs) (λ c κs. search needs) (λ c κs. search needs) place-of-requires sense-at-requires returns)
+    (λ c κs. search needs) (λ c κs. search needs) (λ c κs. search needs) reading-place-requires sense-at-requires returns)

@@ -10,7 +10,7 @@ use Rattle.list.proofs.SweepLaws.{swept-length}
 use Rattle.directory.proofs.EntryIntervals.{entry-walked, entry-intervals}
 use Rattle.index.specs.Format.{wordCount}
 use Rattle.index.specs.Sound.{Sound}
-use Rattle.merge.specs.Places.{singlesIn, lowerIn}
+use Rattle.merge.specs.Places.{entrySingles, entryLowers}
 use Rattle.merge.proofs.ListsLaws.{entry-regions}
 use Rattle.intersection.proofs.GoingLaws.{Going, going-start, going-goes, going-end, going-within, going-ordered, going-fits, going-next}
 use Rattle.intersection.proofs.probing.sweep_probing.Statement.{statement}
@@ -18,7 +18,7 @@ use Rattle.intersection.proofs.probing.sweep_probing.Tie as tie
 
 abbrev Inv-loop : tie.InvT-loop
 Inv-loop index entries writing out₀ j entry singles lower upper count at₀ tally₀ i₀ out at tally i =
-    (count ≡ length (singlesIn index (getD entries j 0)) + length (lowerIn index (getD entries j 0)))
+    (count ≡ length (entrySingles index (getD entries j 0)) + length (entryLowers index (getD entries j 0)))
     × Going index entries (getD entries j 0) writing out₀ out tally at i
 
 abbrev μ-loop : tie.MeasureT-loop
@@ -55,7 +55,7 @@ first c = c .before .before .before .before .before .before
 
 -- where the loop goes on, an interval is left
 left : (c : Turn) →
-    Goes (singlesIn (now (begin (first c) .args .index)) (entry (first c))) (lowerIn (now (begin (first c) .args .index)) (entry (first c))) (c .before .loop .at)
+    Goes (entrySingles (now (begin (first c) .args .index)) (entry (first c))) (entryLowers (now (begin (first c) .args .index)) (entry (first c))) (c .before .loop .at)
 left c =
     let n = c .before .loop .inv .0 in
     let m = c .loop-test .taken in

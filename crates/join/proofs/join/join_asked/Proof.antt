@@ -3,7 +3,7 @@ use mathlib.Core.Path.{sym}
 use native.Mathlib.Omega.{arith}
 use denote.Ref.{now}
 use Rattle.laws.proofs.Tests.{true-false}
-use Rattle.merge.specs.Asked.{listsOf}
+use Rattle.merge.specs.Request.{listsOf}
 use Rattle.join.specs.Method.{joinOf}
 use Rattle.join.proofs.AnswerLaws.{join-bound, join-whole, room-cells, listed, counted-none, counted-room, counted-listed}
 use borrow.Author.Needs.{needs}

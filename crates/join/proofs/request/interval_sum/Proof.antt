@@ -5,7 +5,7 @@ use native.Mathlib.Omega.{arith}
 use denote.Ref.{now}
 use lib.ListN.{length, drop}
 use borrow.Author.Needs.{needs}
-use Rattle.merge.specs.Asked.{listsOf}
+use Rattle.merge.specs.Request.{listsOf}
 use Rattle.join.specs.Bound.{intervalSum}
 use Rattle.join.proofs.JoinBound.{sum-next, sum-end}
 use Rattle.join.proofs.request.interval_sum.Statement.{statement}

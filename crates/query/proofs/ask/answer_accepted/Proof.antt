@@ -1,7 +1,7 @@
 -- The codes are those of the question's tokens, and the slots have what the index has of its words.
 use native.Mathlib.Omega.{arith}
 use Rattle.question.specs.Grammar.{fromLeft}
-use Rattle.question.proofs.AskedLaws.{asked-accepts}
+use Rattle.question.proofs.ParsedLaws.{asked-accepts}
 use Rattle.query.proofs.AskLaws.{part-codes, asked-prepared, listing-answers}
 use borrow.Author.Needs.{needs}
 use Rattle.query.proofs.ask.answer_accepted.Statement.{statement}

@@ -5,7 +5,7 @@ use native.Mathlib.Omega.{arith}
 use borrow.Author.Needs.{needs}
 use Rattle.slots.specs.Slots.{slotHas}
 use Rattle.query.specs.Drive.{testOf}
-use Rattle.evaluate.proofs.SensedLaws.{sensed-later}
+use Rattle.evaluate.proofs.KeptSenses.{sensed-later}
 use Rattle.query.proofs.DriveLaws.{steady-constant, jump-room, part-words}
 use Rattle.query.proofs.drive.step.Statement.{statement}
 use Rattle.query.proofs.drive.step.Tie as tie

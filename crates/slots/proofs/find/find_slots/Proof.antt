@@ -19,8 +19,8 @@ abbrev μ-loop : tie.MeasureT-loop
 loop-holds : tie.Need-loop-holds Inv-loop μ-loop
 loop-holds c = (search needs, refl, λ j h. absurd (omega arith))
 
-sub-entry-of : tie.Need-sub-entry-of Inv-loop μ-loop
-sub-entry-of c =
+sub-entry-for : tie.Need-sub-entry-for Inv-loop μ-loop
+sub-entry-for c =
     let r = c .before .before .before .before in
     let start = r .before .before .before .before in
     let a = start .pre .1 in
@@ -29,8 +29,8 @@ sub-entry-of c =
     let lt : k < a .words = omega (arith, st .count) in
     omega (arith, st .order k lt, st .inside k lt)
 
-part-entry-of-start : tie.Need-part-entry-of-start Inv-loop μ-loop
-part-entry-of-start c =
+part-entry-for-start : tie.Need-part-entry-for-start Inv-loop μ-loop
+part-entry-for-start c =
     let r = c .before .before .before .before in
     let start = r .before .before .before .before in
     let a = start .pre .1 in
@@ -39,8 +39,8 @@ part-entry-of-start c =
     let lt : k < a .words = omega (arith, st .count) in
     omega (arith, st .order k lt, st .inside k lt)
 
-part-entry-of-end : tie.Need-part-entry-of-end Inv-loop μ-loop
-part-entry-of-end c =
+part-entry-for-end : tie.Need-part-entry-for-end Inv-loop μ-loop
+part-entry-for-end c =
     let r = c .before .before .before .before in
     let start = r .before .before .before .before in
     let a = start .pre .1 in
@@ -55,7 +55,7 @@ loop-again c =
     let r = c .before .before .before .before .before .before in
     let start = r .before .before .before .before in
     let p = r .word-places .result in
-    (omega arith, simp length-set (at .inv .1), filled-next (start .args .index .now) (λ j. cut (start .args .question .now) (getD (p .starts) j 0) (getD (p .ends) j 0)) (at .entries) (at .k) (c .entry-of .result) (omega arith) (at .inv .2) (c .entry-of .ensures))
+    (omega arith, simp length-set (at .inv .1), filled-next (start .args .index .now) (λ j. cut (start .args .question .now) (getD (p .starts) j 0) (getD (p .ends) j 0)) (at .entries) (at .k) (c .entry-for .result) (omega arith) (at .inv .2) (c .entry-for .ensures))
 
 returns : tie.Need-returns Inv-loop μ-loop
 returns c =
@@ -70,5 +70,5 @@ find-slots-spec =
     tie.close
     (tie.spec
     Inv-loop μ-loop (λ c κs. search needs) loop-holds (λ c. search needs) (λ c. search needs) (λ c. search needs)
-    (λ c. search needs) sub-entry-of part-entry-of-start part-entry-of-end (λ c κs. search needs) (λ c. search needs)
+    (λ c. search needs) sub-entry-for part-entry-for-start part-entry-for-end (λ c κs. search needs) (λ c. search needs)
     (λ c. search needs) (λ c. search needs) (λ c. search needs) loop-again (λ c. search needs) returns)

@@ -16,10 +16,10 @@ cellsBytes [] = []
 cellsBytes (x ∷ xs) = cellBytes x ++ cellsBytes xs
 
 -- Reference 3.4: S, L and U of a list that is given as cells
-unfoldable pub singlesIn : List ℕ → List ℕ
-singlesIn [] = []
-singlesIn (l ∷ []) = []
-singlesIn (l ∷ u ∷ r) = cond (eqb l u) (l ∷ singlesIn r) (singlesIn r)
+unfoldable pub cellSingles : List ℕ → List ℕ
+cellSingles [] = []
+cellSingles (l ∷ []) = []
+cellSingles (l ∷ u ∷ r) = cond (eqb l u) (l ∷ cellSingles r) (cellSingles r)
 
 unfoldable pub lowersIn : List ℕ → List ℕ
 lowersIn [] = []
@@ -33,7 +33,7 @@ uppersIn (l ∷ u ∷ r) = cond (eqb l u) (uppersIn r) (u ∷ uppersIn r)
 
 -- Reference 3.4: one list, as it is kept
 unfoldable pub keptBytes : List ℕ → List ℕ
-keptBytes c = cellsBytes (singlesIn c) ++ cellsBytes (lowersIn c) ++ cellsBytes (uppersIn c)
+keptBytes c = cellsBytes (cellSingles c) ++ cellsBytes (lowersIn c) ++ cellsBytes (uppersIn c)
 
 -- Reference 3.2: the intervals of a word's records
 abbrev pub cellsIn : ℕ → List ℕ → List ℕ
@@ -51,7 +51,7 @@ wordsBytes (w ∷ ws) = w ++ wordsBytes ws
 
 -- Reference 4.3: an entry
 abbrev pub entryBytes : ℕ → List ℕ → ℕ → List ℕ → List ℕ
-entryBytes wordAt w listAt c = cellsBytes (wordAt ∷ length w ∷ listAt ∷ length (singlesIn c) ∷ length (lowersIn c) ∷ [])
+entryBytes wordAt w listAt c = cellsBytes (wordAt ∷ length w ∷ listAt ∷ length (cellSingles c) ∷ length (lowersIn c) ∷ [])
 
 -- Reference 4.3: the directory of words and lists, of which the first start at wordAt and listAt
 unfoldable pub directoryBytes : ℕ → ℕ → ℕ → List (List ℕ) → List (List ℕ) → List ℕ

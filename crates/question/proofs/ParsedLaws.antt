@@ -25,7 +25,7 @@ use Rattle.question.specs.declared.reader.Reading.the-variants.{Accepted
 use Rattle.question.specs.Token.{choose, Tok, tokensAt, tokens}
 use Rattle.question.specs.Grammar.{Tree, Rule, fromLeft, Out, good, bad, bind, question, ended, whole}
 use Rattle.question.specs.Limits.{WithinLimits}
-use Rattle.question.specs.Reading.{Asked, asks, refuses, foreignAt, longAt, placeOf, refusalOf, outcome, unless, asked, answer, readingOf}
+use Rattle.question.specs.Reading.{Parsed, parses, refuses, foreignAt, longAt, tokenPlace, refusalOf, outcome, unless, parsed, answer, readingOf}
 use Rattle.question.specs.Walk.{operatorNext, Walked, reached, stopped, walk, walkAll, fresh, verdict}
 use Rattle.question.specs.Stops.{StopNumber, Misplaced, WordTooMany, BracketTooMany, Faultless, StopsAt, Exactly}
 use Rattle.question.specs.Exchange.{AcceptedBy}
@@ -37,11 +37,11 @@ use Rattle.question.proofs.StopLaws.{ends-number, walk-ends, whole-stop
 -- ---- the refusals in their order
 
 -- one of 6, 7 and 8 holds; or none of them, and the answer is the reading's
-data Call (s : List ℕ) (o a : Asked) : Type 0 where
+data Call (s : List ℕ) (o a : Parsed) : Type 0 where
   early : (x : Refusal) → numberOf x < 9 → a ≡ refuses x → Call s o a
   late : Faultless s → a ≡ o → Call s o a
 
-module _ (s : List ℕ) (o : Asked) where
+module _ (s : List ℕ) (o : Parsed) where
   call-step : (b : Bool) (f g : Found) → ltb 256 (length s) ≡ b → first (foreignAt s) (length s) ≡ f → first (longAt s) (length s) ≡ g →
       Call s o (choose b (λ _. refuses (QuestionLength (length s))) (λ _. unless f QuestionByte (λ _. unless g LongWord (λ _. o))))
   call-step true f g eb ef eg = early (QuestionLength (length s)) (omega arith) refl
@@ -50,12 +50,12 @@ module _ (s : List ℕ) (o : Asked) where
   call-step false Nowhere Nowhere eb ef eg = late (record { bytes = ltb-false 256 (length s) eb; proper = ef; short = eg }) refl
 
 module _ (rule : Rule) (s : List ℕ) where
-  call : Call s (outcome (length s) (whole rule s)) (asked rule s)
-  unfolding asked
+  call : Call s (outcome (length s) (whole rule s)) (parsed rule s)
+  unfolding parsed
   call = call-step s (outcome (length s) (whole rule s)) (ltb 256 (length s)) (first (foreignAt s) (length s)) (first (longAt s) (length s)) refl refl refl
 
-  faultless-asked : Faultless s → asked rule s ≡ outcome (length s) (whole rule s)
-  unfolding asked
+  faultless-asked : Faultless s → parsed rule s ≡ outcome (length s) (whole rule s)
+  unfolding parsed
   faultless-asked f = rw (le-ltb 256 (length s) (f .bytes), f .proper, f .short)
 
 -- ---- accepted
@@ -65,36 +65,36 @@ pub record Accepts (rule : Rule) (s : List ℕ) (t : Tree) (n : ℕ) : Type 0 wh
   pub faultless : Faultless s
   pub reads : question rule (2 * length s + 2) 8 0 (tokens s) ≡ good t [] n
 
-outcome-good : (o : Out Tree) (len : ℕ) (t : Tree) (n : ℕ) → outcome len (bind o ended) ≡ asks t n → o ≡ good t [] n
+outcome-good : (o : Out Tree) (len : ℕ) (t : Tree) (n : ℕ) → outcome len (bind o ended) ≡ parses t n → o ≡ good t [] n
 outcome-good (good a [] j) len t n h = let p : a ≡ t = cc in let q : j ≡ n = cc in rw (p, q)
 outcome-good (good a (u ∷ s) j) len t n h = zero-one (cc)
 outcome-good (bad c s) len t n h = zero-one (cc)
 
 module _ (rule : Rule) (s : List ℕ) (t : Tree) (n : ℕ) where
-  accepts-step : (a : Asked) → a ≡ asks t n → Call s (outcome (length s) (whole rule s)) a → Accepts rule s t n
+  accepts-step : (a : Parsed) → a ≡ parses t n → Call s (outcome (length s) (whole rule s)) a → Accepts rule s t n
   unfolding whole
   accepts-step a h (early x l e) = zero-one (cc)
   accepts-step a h (late f e) = record { faultless = f; reads = outcome-good (question rule (2 * length s + 2) 8 0 (tokens s)) (length s) t n (sym e ∙ h) }
 
-  pub asked-accepts : asked rule s ≡ asks t n → Accepts rule s t n
-  asked-accepts h = accepts-step (asked rule s) h (call rule s)
+  pub asked-accepts : parsed rule s ≡ parses t n → Accepts rule s t n
+  asked-accepts h = accepts-step (parsed rule s) h (call rule s)
 
-  pub accepts-asked : Accepts rule s t n → asked rule s ≡ asks t n
+  pub accepts-asked : Accepts rule s t n → parsed rule s ≡ parses t n
   unfolding whole
   accepts-asked a = faultless-asked rule s (a .faultless) ∙ rw (a .reads)
 
   -- the level that whoever walks the question starts from
-  pub accepts-level : asked rule s ≡ asks t n → question rule (2 * length s + 2) 8 0 (tokensAt s 0) ≡ good t [] n
+  pub accepts-level : parsed rule s ≡ parses t n → question rule (2 * length s + 2) 8 0 (tokensAt s 0) ≡ good t [] n
   unfolding tokens
   accepts-level h = asked-accepts h .reads
 
   -- the walk takes all its words, and closes all its brackets
-  pub accepted-walk : asked rule s ≡ asks t n → walk fresh (tokens s) ≡ reached (operatorNext 0 n)
+  pub accepted-walk : parsed rule s ≡ parses t n → walk fresh (tokens s) ≡ reached (operatorNext 0 n)
   unfolding whole
   accepted-walk h =
       let e : whole rule s ≡ good t [] n = rw (asked-accepts h .reads) in walk-accepts (tokens s) n (sym (whole-walked rule s) ∙ ap verdict e)
 
-  pub accepted-within : asked rule s ≡ asks t n → WithinLimits s
+  pub accepted-within : parsed rule s ≡ parses t n → WithinLimits s
   accepted-within h =
       let kept = walk-kept fresh (tokens s) (operatorNext 0 n) (accepted-walk h) in
       record { bytes = asked-accepts h .faultless .bytes; words = omega (arith, kept .words, kept .full (omega arith)); brackets = kept .deep (omega arith) }
@@ -124,8 +124,8 @@ module _ (rule : Rule) (s : List ℕ) (x : Refusal) where
   outcome-stops : (o : Out Tree) → verdict o ≡ walkAll fresh (tokens s) → Faultless s → outcome (length s) o ≡ refuses x → StopsAt (By x) s (valueOf x)
   outcome-stops (good t r k) v f h = zero-one (cc)
   outcome-stops (bad c r) v f h =
-      let e : refusalOf c (placeOf (length s) r) ≡ x = cc in
-      let n = refusal-number c (placeOf (length s) r) (ends-number (tokens s) c r (walk-ends (tokens s) c r (sym v))) in
+      let e : refusalOf c (tokenPlace (length s) r) ≡ x = cc in
+      let n = refusal-number c (tokenPlace (length s) r) (ends-number (tokens s) c r (walk-ends (tokens s) c r (sym v))) in
       record {
         faultless = f;
         left = r;
@@ -133,19 +133,19 @@ module _ (rule : Rule) (s : List ℕ) (x : Refusal) where
         place = sym (ap valueOf e) ∙ n .1;
       }
 
-  stops-step : (a : Asked) → a ≡ refuses x → 9 ≤ numberOf x → Call s (outcome (length s) (whole rule s)) a → StopsAt (By x) s (valueOf x)
+  stops-step : (a : Parsed) → a ≡ refuses x → 9 ≤ numberOf x → Call s (outcome (length s) (whole rule s)) a → StopsAt (By x) s (valueOf x)
   stops-step a h l (early y m e) = let q : y ≡ x = cc in let z = ap numberOf q in absurd (omega arith)
   stops-step a h l (late f e) = outcome-stops (whole rule s) (whole-walked rule s) f (sym e ∙ h)
 
-  asked-stops : 9 ≤ numberOf x → asked rule s ≡ refuses x → StopsAt (By x) s (valueOf x)
-  asked-stops l h = stops-step (asked rule s) h l (call rule s)
+  asked-stops : 9 ≤ numberOf x → parsed rule s ≡ refuses x → StopsAt (By x) s (valueOf x)
+  asked-stops l h = stops-step (parsed rule s) h l (call rule s)
 
-stops-asked : (rule : Rule) (s : List ℕ) (c : ℕ) (r : List Tok) → Faultless s → walkAll fresh (tokens s) ≡ stopped c r → asked rule s ≡ refuses (refusalOf c (placeOf (length s) r))
+stops-asked : (rule : Rule) (s : List ℕ) (c : ℕ) (r : List Tok) → Faultless s → walkAll fresh (tokens s) ≡ stopped c r → parsed rule s ≡ refuses (refusalOf c (tokenPlace (length s) r))
 stops-asked rule s c r f h = faultless-asked rule s f ∙ ap (outcome (length s)) (whole-stops rule s c r .1 h)
 
 -- refused so exactly where the walk stops so
 exactly-asked : (rule : Rule) (s : List ℕ) (x : Refusal) (Stop : List Tok → List Tok → Type 0) → 9 ≤ numberOf x → refusalOf (numberOf x) (valueOf x) ≡ x →
-    ((r : List Tok) → Exactly (By x (tokens s) r) (Stop (tokens s) r)) → Exactly (asked rule s ≡ refuses x) (StopsAt Stop s (valueOf x))
+    ((r : List Tok) → Exactly (By x (tokens s) r) (Stop (tokens s) r)) → Exactly (parsed rule s ≡ refuses x) (StopsAt Stop s (valueOf x))
 exactly-asked rule s x Stop l is exact = (
   λ h. let w = asked-stops rule s x l h in record { faultless = w .faultless; left = w .left; stop = exact (w .left) .0 (w .stop); place = w .place },
   λ w.
@@ -154,15 +154,15 @@ exactly-asked rule s x Stop l is exact = (
 )
 
 module _ (rule : Rule) (s : List ℕ) (p : ℕ) where
-  pub grammar-asked : Exactly (asked rule s ≡ refuses (Grammar p)) (StopsAt Misplaced s p)
+  pub grammar-asked : Exactly (parsed rule s ≡ refuses (Grammar p)) (StopsAt Misplaced s p)
   unfolding refusalOf
   grammar-asked = exactly-asked rule s (Grammar p) Misplaced (omega arith) refl (λ r. (λ h. h, λ h. h))
 
-  pub word-limit-asked : Exactly (asked rule s ≡ refuses (WordLimit p)) (StopsAt WordTooMany s p)
+  pub word-limit-asked : Exactly (parsed rule s ≡ refuses (WordLimit p)) (StopsAt WordTooMany s p)
   unfolding refusalOf
   word-limit-asked = exactly-asked rule s (WordLimit p) WordTooMany (omega arith) refl (word-limit-walk (tokens s))
 
-  pub bracket-limit-asked : Exactly (asked rule s ≡ refuses (BracketLimit p)) (StopsAt BracketTooMany s p)
+  pub bracket-limit-asked : Exactly (parsed rule s ≡ refuses (BracketLimit p)) (StopsAt BracketTooMany s p)
   unfolding refusalOf
   bracket-limit-asked = exactly-asked rule s (BracketLimit p) BracketTooMany (omega arith) refl (bracket-limit-walk (tokens s))
 
@@ -171,7 +171,7 @@ module _ (rule : Rule) (s : List ℕ) (p : ℕ) where
 -- what is answered, by the walk
 abbrev said : ℕ → Walked ℕ → Reading
 said len (reached k) = Accepted k
-said len (stopped c r) = Refused (refusalOf c (placeOf len r))
+said len (stopped c r) = Refused (refusalOf c (tokenPlace len r))
 
 outcome-said : (len : ℕ) (o : Out Tree) → answer (outcome len o) ≡ said len (verdict o)
 outcome-said len (good t r k) = refl
@@ -180,8 +180,8 @@ outcome-said len (bad c r) = refl
 whole-said : (rule : Rule) (s : List ℕ) → answer (outcome (length s) (whole rule s)) ≡ said (length s) (walkAll fresh (tokens s))
 whole-said rule s = outcome-said (length s) (whole rule s) ∙ ap (said (length s)) (whole-walked rule s)
 
-pub answer-any-rule : (rule rule′ : Rule) (s : List ℕ) → answer (asked rule s) ≡ answer (asked rule′ s)
-unfolding asked
+pub answer-any-rule : (rule rule′ : Rule) (s : List ℕ) → answer (parsed rule s) ≡ answer (parsed rule′ s)
+unfolding parsed
 answer-any-rule rule rule′ s = go (ltb 256 (length s)) (first (foreignAt s) (length s)) (first (longAt s) (length s))
   where
     go : (b : Bool) (f g : Found) →
@@ -194,20 +194,20 @@ answer-any-rule rule rule′ s = go (ltb 256 (length s)) (first (foreignAt s) (l
 
 -- ---- from what the call answers
 
-accepted-step : (rule : Rule) (s : List ℕ) (n : ℕ) (a : Asked) → asked rule s ≡ a → answer a ≡ Accepted n → AcceptedBy rule s n
-accepted-step rule s n (asks t k) e h = let q : k ≡ n = cc in record { tree = t; accepted = e ∙ rw q }
+accepted-step : (rule : Rule) (s : List ℕ) (n : ℕ) (a : Parsed) → parsed rule s ≡ a → answer a ≡ Accepted n → AcceptedBy rule s n
+accepted-step rule s n (parses t k) e h = let q : k ≡ n = cc in record { tree = t; accepted = e ∙ rw q }
 accepted-step rule s n (refuses r) e h = zero-one (cc)
 
-refused-step : (rule : Rule) (s : List ℕ) (r : Refusal) (a : Asked) → asked rule s ≡ a → answer a ≡ Refused r → asked rule s ≡ refuses r
-refused-step rule s r (asks t k) e h = zero-one (cc)
+refused-step : (rule : Rule) (s : List ℕ) (r : Refusal) (a : Parsed) → parsed rule s ≡ a → answer a ≡ Refused r → parsed rule s ≡ refuses r
+refused-step rule s r (parses t k) e h = zero-one (cc)
 refused-step rule s r (refuses q) e h = let w : q ≡ r = cc in e ∙ rw w
 
 -- accepted, by every rule
 pub reading-accepted : (rule : Rule) (s : List ℕ) (n : ℕ) → readingOf s ≡ Accepted n → AcceptedBy rule s n
 unfolding readingOf
-reading-accepted rule s n h = accepted-step rule s n (asked rule s) refl (answer-any-rule rule fromLeft s ∙ h)
+reading-accepted rule s n h = accepted-step rule s n (parsed rule s) refl (answer-any-rule rule fromLeft s ∙ h)
 
 -- refused, by every rule
-pub reading-refused : (rule : Rule) (s : List ℕ) (r : Refusal) → readingOf s ≡ Refused r → asked rule s ≡ refuses r
+pub reading-refused : (rule : Rule) (s : List ℕ) (r : Refusal) → readingOf s ≡ Refused r → parsed rule s ≡ refuses r
 unfolding readingOf
-reading-refused rule s r h = refused-step rule s r (asked rule s) refl (answer-any-rule rule fromLeft s ∙ h)
+reading-refused rule s r h = refused-step rule s r (parsed rule s) refl (answer-any-rule rule fromLeft s ∙ h)

@@ -6,7 +6,7 @@ use Rattle.index.specs.Format.{wordCount, listOf}
 use Rattle.index.specs.Sound.{Sound}
 
 -- Reference 8.5: what a request that is not refused has, 1 to 16 entries of a sound index
-pub record Asked (index entries : List ℕ) : Type 0 where
+pub record SoundRequest (index entries : List ℕ) : Type 0 where
   pub sound : Sound index
   pub some : 1 ≤ length entries
   pub few : length entries ≤ 16

@@ -6,8 +6,8 @@ use borrow.Author.Needs.{needs}
 use lib.ListN.{length}
 use Rattle.ask.specs.Transfer.{readCount}
 use Rattle.ask.proofs.TransferLaws.{within-counts}
-use Rattle.ask.proofs.transfer.read_whole.Statement.{statement}
-use Rattle.ask.proofs.transfer.read_whole.Tie as tie
+use Rattle.ask.proofs.transfer.read_file.Statement.{statement}
+use Rattle.ask.proofs.transfer.read_file.Tie as tie
 
 abbrev Inv-loop : tie.InvT-loop
 Inv-loop fd bytes₀ done₀ bytes done = (length bytes ≡ length bytes₀) × (done ≤ length bytes)
@@ -39,8 +39,8 @@ loop-again c =
 returns-3 : tie.Need-returns-3 Inv-loop μ-loop
 returns-3 c = within-counts _ _ (omega arith)
 
-pub read-whole-spec : {M : Type 1} → statement M
-read-whole-spec =
+pub read-file-spec : {M : Type 1} → statement M
+read-file-spec =
     tie.close
     (tie.spec
     Inv-loop μ-loop (λ c. search needs) (λ c κs. search needs) (λ c. search needs) (λ c. search needs)

@@ -6,8 +6,8 @@ use denote.Ref.{now}
 use Rattle.index.specs.Format.{directoryStart, edition, entrySize}
 use Rattle.index.proofs.EntryLaws.{entry-word-start, entry-word-length, entry-list-start, entry-singles, entry-pairs}
 use borrow.Author.Needs.{needs}
-use Rattle.index.proofs.entry.entry_at.Statement.{statement}
-use Rattle.index.proofs.entry.entry_at.Tie as tie
+use Rattle.index.proofs.entry.read_entry.Statement.{statement}
+use Rattle.index.proofs.entry.read_entry.Tie as tie
 
 returns : tie.Need-returns
 returns c =
@@ -15,7 +15,7 @@ returns c =
     let framed = start .pre .0 in
     let index = now (start .args .index) in
     let i = start .args .i in
-    let at = c .before .before .before .before .before .place-of .result in
+    let at = c .before .before .before .before .before .entry-place .result in
     let e : at ≡ directoryStart index + entrySize (edition index) * i = omega arith in
     record {
       word-start = c .before .before .before .before .cell-at .ensures ∙ entry-word-start index i at e;
@@ -30,8 +30,8 @@ returns c =
       };
     }
 
-pub entry-at-spec : {M : Type 1} → statement M
-entry-at-spec =
+pub read-entry-spec : {M : Type 1} → statement M
+read-entry-spec =
     tie.close
     (tie.spec
     (λ c κs. search needs) (λ c κs. search needs) (λ c. search needs) (λ c. search needs) (λ c κs. search needs)

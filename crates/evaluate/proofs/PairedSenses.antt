@@ -11,7 +11,7 @@ use Rattle.list.specs.Sense.{Steady}
 use Rattle.index.specs.Format.{wordCount, singlesOf, lowerOf, upperOf}
 use Rattle.question.specs.declared.token.Op.{Op}
 use Rattle.question.specs.declared.token.Op.the-variants.{And, Or, Not}
-use Rattle.question.specs.Grammar.{Tree, word, pair, part, wordsOf}
+use Rattle.question.specs.Grammar.{Tree, word, pair, part, treeWords}
 use Rattle.question.specs.Meaning.{combine}
 use Rattle.codes.specs.Code.{opCode}
 use Rattle.slots.specs.Slots.{slotHas, slotFits}
@@ -88,7 +88,7 @@ module _ (v : ℕ → ℕ → Bool) (k x : ℕ) (a : Bool) (u : ℕ) where
   pub tree-part : (t : Tree) → Steady (slotFits v t k) x a u → Steady (slotFits v (part t) k) x a u
   tree-part t s = steady-same (slotFits v t k) (slotFits v (part t) k) x a u (λ y. sym (slot-part v k y t)) s
 
-  pub tree-pair : (o : Op) (left right : Tree) (j : ℕ) → j ≡ k + length (wordsOf left) →
+  pub tree-pair : (o : Op) (left right : Tree) (j : ℕ) → j ≡ k + length (treeWords left) →
       Steady (λ y. combine o (slotFits v left k y) (slotFits v right j y)) x a u → Steady (slotFits v (pair o left right) k) x a u
   tree-pair o left right j e s =
       steady-same (λ y. combine o (slotFits v left k y) (slotFits v right j y)) (slotFits v (pair o left right) k) x a u
@@ -98,18 +98,18 @@ module _ (v : ℕ → ℕ → Bool) (k x : ℕ) (a : Bool) (u : ℕ) where
 
 module _ (senses : List ℕ) (k : ℕ) (a : Bool) (u : ℕ) where
   pub tells-word : u ≡ untilOf senses k → a ≡ insideOf senses k → (w : List ℕ) → Tells senses k a u (word w)
-  unfolding wordsOf
+  unfolding treeWords
   tells-word e f w v slots x h known = tree-word v k x a u w (rw (e, f) (known k (omega arith)))
 
   pub tells-part : (t : Tree) → Tells senses k a u t → Tells senses k a u (part t)
-  unfolding wordsOf
+  unfolding treeWords
   tells-part t s v slots x h known = tree-part v k x a u t (s v slots x h known)
 
-  pub tells-pair : (o : Op) (left right : Tree) (j : ℕ) → j ≡ k + length (wordsOf left) → (b c : Bool) (m n : ℕ) →
+  pub tells-pair : (o : Op) (left right : Tree) (j : ℕ) → j ≡ k + length (treeWords left) → (b c : Bool) (m n : ℕ) →
       ((p q : ℕ → Bool) (x : ℕ) → Steady p x b m → Steady q x c n → Steady (λ y. combine o (p y) (q y)) x a u) →
       Tells senses k b m left → Tells senses j c n right → Tells senses k a u (pair o left right)
-  unfolding wordsOf
+  unfolding treeWords
   tells-pair o left right j e b c m n paired s t v slots x h known =
-      let l = length-append (wordsOf left) (wordsOf right) in
+      let l = length-append (treeWords left) (treeWords right) in
       tree-pair v k x a u o left right j e
       (paired (slotFits v left k) (slotFits v right j) x (s v slots x (omega arith) known) (t v slots x (omega arith) known))

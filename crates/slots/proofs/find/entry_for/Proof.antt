@@ -1,7 +1,7 @@
 -- The entry that a search finds has what the index has of the word; without one the index has nothing of it.
 use Rattle.slots.proofs.FindLaws.{entry-at, entry-nowhere}
-use Rattle.slots.proofs.find.entry_of.Statement.{statement}
-use Rattle.slots.proofs.find.entry_of.Tie as tie
+use Rattle.slots.proofs.find.entry_for.Statement.{statement}
+use Rattle.slots.proofs.find.entry_for.Tie as tie
 use mathlib.Core.Path.{sym, _∙_}
 use borrow.Author.Needs.{needs}
 
@@ -15,8 +15,8 @@ returns-2 c =
     let start = c .before .before .before .before .before .before in
     entry-nowhere (start .args .index .now) (start .pre) (start .args .word .now) (c .word-count .result) (sym (c .before .before .before .find-word .ensures) ∙ c .before .enum-told .given .1) (c .word-count .ensures .0)
 
-pub entry-of-spec : {M : Type 1} → statement M
-entry-of-spec =
+pub entry-for-spec : {M : Type 1} → statement M
+entry-for-spec =
     tie.close
     (tie.spec
     (λ c κs. search needs) (λ c. search needs) (λ c. search needs) (λ c κs. search needs) returns returns-2)
