@@ -9,7 +9,7 @@ use Rattle.question.specs.Token.{tokensAt, tokens}
 use Rattle.question.specs.Next.{endOf}
 use Rattle.codes.specs.Code.{codesOf}
 use Rattle.codes.specs.Coded.{tokenCode}
-use Rattle.codes.proofs.CodedLaws.{code-next, code-none, write-next, write-end}
+use Rattle.codes.proofs.CodedLaws.{Passed, code-next, code-none, write-next, write-end}
 use Rattle.codes.proofs.write.write_codes.Statement.{statement}
 use Rattle.codes.proofs.write.write_codes.Tie as tie
 
@@ -34,41 +34,24 @@ returns c =
     let none = code-none s (at .at) (c .before .before .next-token .result) (c .before .before .next-token .ensures) (c .before .match .keys1) in
     record { long = at .inv .2; within = omega arith; are = write-end (at .codes) (codesOf (tokensAt s (at .at))) (codesOf (tokens s)) (at .count) none (at .inv .3) }
 
-slice-write-codes : tie.Need-slice-write-codes Inv-loop μ-loop
-slice-write-codes c =
-    let at = c .before .before .before .loop in
-    let next = code-next (c .before .before .before .before .before .before .args .question .now) (at .at) (c .before .before .next-token .result) (c .before .before .next-token .ensures) (c .before .match .keys2) in
-    omega (arith, next .0, next .1)
-
-add-count : tie.Need-add-count Inv-loop μ-loop
-add-count c =
-    let at = c .before .before .before .loop in
-    let next = code-next (c .before .before .before .before .before .before .args .question .now) (at .at) (c .before .before .next-token .result) (c .before .before .next-token .ensures) (c .before .match .keys2) in
-    omega (arith, next .0, next .1)
-
-token-end-requires : tie.Need-token-end-requires Inv-loop μ-loop
-token-end-requires c κs =
-    let at = c .before .before .before .loop in
-    let next = code-next (c .before .before .before .before .before .before .args .question .now) (at .at) (c .before .before .next-token .result) (c .before .before .next-token .ensures) (c .before .match .keys2) in
-    omega (arith, next .0, next .1)
+-- the token of a turn, which is not the end
+next : (c : tie.At-match-keys2 Inv-loop μ-loop) → Passed (c .before .before .before .before .before .args .question .now) (c .before .before .loop .at) (c .before .next-token .result)
+next c = code-next (c .before .before .before .before .before .args .question .now) (c .before .before .loop .at) (c .before .next-token .result) (c .before .next-token .ensures) (c .match .keys2)
 
 loop-less : tie.Need-loop-less Inv-loop μ-loop
-loop-less c =
-    let at = c .before .before .before .before .loop in
-    let next = code-next (c .before .before .before .before .before .before .before .args .question .now) (at .at) (c .before .before .before .next-token .result) (c .before .before .before .next-token .ensures) (c .before .before .match .keys2) in
-    omega (arith, next .0, next .1, c .token-end .ensures)
+loop-less c = let token = next (c .before .before) in omega (arith, token .0, token .1, c .token-end .ensures)
 
 loop-again : tie.Need-loop-again Inv-loop μ-loop
 loop-again c =
     let at = c .before .before .before .before .loop in
     let s = c .before .before .before .before .before .before .before .args .question .now in
     let t = c .before .before .before .next-token .result in
-    let next = code-next s (at .at) t (c .before .before .before .next-token .ensures) (c .before .before .match .keys2) in
+    let token = next (c .before .before) in
     rw (c .token-end .ensures, c .before .token-code .ensures) (
-      omega (arith, next .0),
-      next .1,
+      omega (arith, token .0),
+      token .1,
       length-set (at .codes) (at .count) (tokenCode t) ∙ at .inv .2,
-      write-next (at .codes) (codesOf (tokensAt s (at .at))) (codesOf (tokensAt s (endOf t))) (codesOf (tokens s)) (at .count) (tokenCode t) (omega (arith, next .0, next .1)) (next .2) (at .inv .3),
+      write-next (at .codes) (codesOf (tokensAt s (at .at))) (codesOf (tokensAt s (endOf t))) (codesOf (tokens s)) (at .count) (tokenCode t) (omega (arith, token .0, token .1)) (token .2) (at .inv .3),
     )
 
 pub write-codes-spec : {M : Type 1} → statement M
@@ -76,4 +59,6 @@ write-codes-spec =
     tie.close
     (tie.spec
     Inv-loop μ-loop loop-holds (λ c κs. search needs) (λ c. search needs) (λ c. search needs) returns
-    (λ c κs. search needs) slice-write-codes add-count token-end-requires loop-less loop-again)
+    (λ c κs. search needs) (λ c. let token = next (c .before) in omega (arith, token .0, token .1))
+    (λ c. let token = next (c .before) in omega (arith, token .0, token .1))
+    (λ c κs. let token = next (c .before) in omega (arith, token .0, token .1)) loop-less loop-again)

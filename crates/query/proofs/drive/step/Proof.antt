@@ -4,23 +4,21 @@ use Prim.Native.Nat.{_-_, _*_}
 use native.Mathlib.Omega.{arith}
 use borrow.Author.Needs.{needs}
 use Rattle.slots.specs.Slots.{slotHas}
-use Rattle.query.specs.Drive.{testOf}
+use Rattle.query.specs.Drive.{testOf, Stands}
 use Rattle.evaluate.proofs.KeptSenses.{sensed-later}
 use Rattle.query.proofs.DriveLaws.{steady-constant, jump-room, part-words}
 use Rattle.query.proofs.drive.step.Statement.{statement}
 use Rattle.query.proofs.drive.step.Tie as tie
+
+-- where the driver stood when it looked
+stood : (c : tie.After-look-at) → let a = c .before .before .before .before .before .before .before .before .before .before .args in Stands (a .n) (a .at)
+stood c = c .before .before .before .before .before .before .before .before .before .before .pre .1 .1 .0
 
 look-at-requires : tie.Need-look-at-requires
 look-at-requires c κs =
     let start = c .before .before .before .before .before .before .before .before .before in
     let stands = start .pre .1 .1 .0 in
     ((start .pre .0 .0, omega arith), start .pre .1 .0)
-
-add-smaller : tie.Need-add-smaller
-add-smaller c = let stands = c .before .before .before .before .before .before .before .before .before .before .before .before .before .before .pre .1 .1 .0 in omega arith
-
-add-if1 : tie.Need-add-if1
-add-if1 c = let stands = c .before .before .before .before .before .before .before .before .before .before .before .before .before .before .before .pre .1 .1 .0 in omega arith
 
 take-jump-requires : tie.Need-take-jump-requires
 take-jump-requires c κs =
@@ -85,18 +83,6 @@ take-window-requires c κs =
       ((omega arith, omega arith, omega arith, omega arith, omega arith, omega arith), start .pre .1 .1 .1),
     )
 
-cast-smaller : tie.Need-cast-smaller
-cast-smaller c = let stands = c .before .before .before .before .before .before .before .before .before .before .before .before .before .before .before .before .before .before .before .before .before .before .before .before .before .before .pre .1 .1 .0 in omega arith
-
-mul-smaller : tie.Need-mul-smaller
-mul-smaller c = let stands = c .before .before .before .before .before .before .before .before .before .before .before .before .before .before .before .before .before .before .before .before .before .before .before .before .before .before .pre .1 .1 .0 in omega arith
-
-add-smaller-2 : tie.Need-add-smaller-2
-add-smaller-2 c = let stands = c .before .before .before .before .before .before .before .before .before .before .before .before .before .before .before .before .before .before .before .before .before .before .before .before .before .before .pre .1 .1 .0 in omega arith
-
-add-smaller-3 : tie.Need-add-smaller-3
-add-smaller-3 c = let stands = c .before .before .before .before .before .before .before .before .before .before .before .before .before .before .before .before .before .before .before .before .before .before .before .before .before .before .pre .1 .1 .0 in omega arith
-
 same-length-4 : tie.Need-same-length-4
 same-length-4 c = c .before .before .before .before .before .before .before .before .take-window .ensures .0 .hints-long ∙ c .before .before .before .before .before .before .before .before .before .before .before .before .before .before .before .before .before .before .look-at .ensures .0 .0
 
@@ -131,7 +117,13 @@ pub step-spec : {M : Type 1} → statement M
 step-spec =
     tie.close
     (tie.spec
-    look-at-requires add-smaller (λ c κs. search needs) add-if1 take-jump-requires (λ c. search needs)
-    (λ c. search needs) (λ c. search needs) returns (λ c. search needs) (λ c. search needs) part-take-window-end
-    take-window-requires cast-smaller mul-smaller add-smaller-2 add-smaller-3 (λ c κs. search needs)
-    (λ c κs. search needs) same-length-4 (λ c. search needs) same-length-6 (λ c. search needs) returns-2)
+    look-at-requires (λ c. let stands = stood (c .before .before .before .before) in omega arith)
+    (λ c κs. search needs) (λ c. let stands = stood (c .before .before .before .before .before) in omega arith)
+    take-jump-requires (λ c. search needs) (λ c. search needs) (λ c. search needs) returns (λ c. search needs)
+    (λ c. search needs) part-take-window-end take-window-requires
+    (λ c. let stands = stood (c .before .before .before .before .before .before .before .before .before .before .before .before .before .before .before .before) in omega arith)
+    (λ c. let stands = stood (c .before .before .before .before .before .before .before .before .before .before .before .before .before .before .before .before) in omega arith)
+    (λ c. let stands = stood (c .before .before .before .before .before .before .before .before .before .before .before .before .before .before .before .before) in omega arith)
+    (λ c. let stands = stood (c .before .before .before .before .before .before .before .before .before .before .before .before .before .before .before .before) in omega arith)
+    (λ c κs. search needs) (λ c κs. search needs) same-length-4 (λ c. search needs) same-length-6 (λ c. search needs)
+    returns-2)

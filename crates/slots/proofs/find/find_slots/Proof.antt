@@ -19,35 +19,16 @@ abbrev μ-loop : tie.MeasureT-loop
 loop-holds : tie.Need-loop-holds Inv-loop μ-loop
 loop-holds c = (search needs, refl, λ j h. absurd (omega arith))
 
-sub-entry-for : tie.Need-sub-entry-for Inv-loop μ-loop
-sub-entry-for c =
-    let r = c .before .before .before .before in
+-- the word of a turn stands within the question
+within : (c : tie.At-loop Inv-loop μ-loop) → let p = c .before .before .before .word-places .result in let k = c .loop .k in
+    k < p .count → (getD (p .starts) k 0 ≤ getD (p .ends) k 0) × (getD (p .ends) k 0 ≤ length (c .before .before .before .before .before .before .before .args .question .now))
+within c h =
+    let r = c .before .before .before in
     let start = r .before .before .before .before in
     let a = start .pre .1 in
     let st = places-stand (start .args .question .now) (r .word-places .result) (r .word-places .ensures) (a .tree) (a .words) (a .is) in
-    let k = c .before .loop .k in
-    let lt : k < a .words = omega (arith, st .count) in
-    omega (arith, st .order k lt, st .inside k lt)
-
-part-entry-for-start : tie.Need-part-entry-for-start Inv-loop μ-loop
-part-entry-for-start c =
-    let r = c .before .before .before .before in
-    let start = r .before .before .before .before in
-    let a = start .pre .1 in
-    let st = places-stand (start .args .question .now) (r .word-places .result) (r .word-places .ensures) (a .tree) (a .words) (a .is) in
-    let k = c .before .loop .k in
-    let lt : k < a .words = omega (arith, st .count) in
-    omega (arith, st .order k lt, st .inside k lt)
-
-part-entry-for-end : tie.Need-part-entry-for-end Inv-loop μ-loop
-part-entry-for-end c =
-    let r = c .before .before .before .before in
-    let start = r .before .before .before .before in
-    let a = start .pre .1 in
-    let st = places-stand (start .args .question .now) (r .word-places .result) (r .word-places .ensures) (a .tree) (a .words) (a .is) in
-    let k = c .before .loop .k in
-    let lt : k < a .words = omega (arith, st .count) in
-    omega (arith, st .order k lt, st .inside k lt)
+    let lt : c .loop .k < a .words = omega (arith, st .count) in
+    (st .order (c .loop .k) lt, st .inside (c .loop .k) lt)
 
 loop-again : tie.Need-loop-again Inv-loop μ-loop
 loop-again c =
@@ -70,5 +51,7 @@ find-slots-spec =
     tie.close
     (tie.spec
     Inv-loop μ-loop (λ c κs. search needs) loop-holds (λ c. search needs) (λ c. search needs) (λ c. search needs)
-    (λ c. search needs) sub-entry-for part-entry-for-start part-entry-for-end (λ c κs. search needs) (λ c. search needs)
+    (λ c. search needs) (λ c. let word = within (c .before) (omega arith) in omega arith)
+    (λ c. let word = within (c .before) (omega arith) in omega arith)
+    (λ c. let word = within (c .before) (omega arith) in omega arith) (λ c κs. search needs) (λ c. search needs)
     (λ c. search needs) (λ c. search needs) (λ c. search needs) loop-again (λ c. search needs) returns)
