@@ -209,7 +209,7 @@ cut-start p a b w out t l h =
       left = record { intervals-left = refl; records-left = refl; cells-left = refl };
     }
 
-module _ (p : ℕ → Bool) (a b : ℕ) (writing : Bool) (out₀ : List ℕ) (t₀ : Tally) (out : List ℕ) (t : Tally) (o : Bool) (l x : ℕ)
+module _ {p : ℕ → Bool} {a b : ℕ} {writing : Bool} {out₀ : List ℕ} {t₀ : Tally} {out : List ℕ} {t : Tally} {o : Bool} {l x : ℕ}
     (c : Cut p a b writing out₀ t₀ out t o l x) where
   part-fits : (v : Bool) (r : List ℕ) → b ≤ top → CellsFit writing out₀ t₀ (between p a b) → pending p b o l x ≡ closed (closes o v) l x r → closes o v ≡ true →
       Fitting writing out t (upTo l x)
@@ -218,8 +218,8 @@ module _ (p : ℕ → Bool) (a b : ℕ) (writing : Bool) (out₀ : List ℕ) (t�
       let g = c .begun (and-both o (not v) k .0) in
       left-fits writing out₀ t₀ (between p a b) out t l (x - 1) r (omega arith) (omega arith) (rw (e, k) at (c .left)) f
 
-  pub cut-fits : (v : Bool) (u : ℕ) → b ≤ top → CellsFit writing out₀ t₀ (between p a b) → Steady p x v u → u ≤ b + 1 → closes o v ≡ true → Fitting writing out t (upTo l x)
-  cut-fits v u m f s h = part-fits v (pending p b v (lowerOn o l x) u) m f (pending-next p b o v l x u s h)
+  pub cut-fits : {v : Bool} {u : ℕ} → b ≤ top → CellsFit writing out₀ t₀ (between p a b) → Steady p x v u → u ≤ b + 1 → closes o v ≡ true → Fitting writing out t (upTo l x)
+  cut-fits {v} {u} m f s h = part-fits v (pending p b v (lowerOn o l x) u) m f (pending-next p b o v l x u s h)
 
   pub cut-end-fits : b ≤ top → CellsFit writing out₀ t₀ (between p a b) → b < x → closes o false ≡ true → Fitting writing out t (upTo l x)
   cut-end-fits m f h = part-fits false [] m f (pending-end p b o l x h)
@@ -235,9 +235,9 @@ module _ (p : ℕ → Bool) (a b : ℕ) (writing : Bool) (out₀ : List ℕ) (t�
       (λ k. left-put writing out₀ t₀ (between p a b) out t l (x - 1) r out′ t′ (rw (e, k) at (c .left)) (q .0 k))
       (λ k. rw (q .1 k .0, q .1 k .1) (rw (e, k) at (c .left)))
 
-  pub cut-next : (v : Bool) (u : ℕ) (out′ : List ℕ) (t′ : Tally) → Steady p x v u → u ≤ b + 1 → PutWhere (closes o v) writing out out′ t (upTo l x) t′ →
+  pub cut-next : {v : Bool} {u : ℕ} {out′ : List ℕ} {t′ : Tally} → Steady p x v u → u ≤ b + 1 → PutWhere (closes o v) writing out out′ t (upTo l x) t′ →
       Cut p a b writing out₀ t₀ out′ t′ v (lowerOn o l x) u
-  cut-next v u out′ t′ s h q =
+  cut-next {v} {u} {out′} {t′} s h q =
       let n = c .near in
       let m = s .later in
       record {
@@ -246,5 +246,5 @@ module _ (p : ℕ → Bool) (a b : ℕ) (writing : Bool) (out₀ : List ℕ) (t�
         left = left-next v (pending p b v (lowerOn o l x) u) out′ t′ (pending-next p b o v l x u s h) q;
       }
 
-  pub cut-end : (out′ : List ℕ) (t′ : Tally) → b < x → PutWhere (closes o false) writing out out′ t (upTo l x) t′ → CellsPut writing out₀ out′ t₀ (between p a b) t′
-  cut-end out′ t′ h q = left-end writing out₀ t₀ (between p a b) out′ t′ (left-next false [] out′ t′ (pending-end p b o l x h) q)
+  pub cut-end : {out′ : List ℕ} {t′ : Tally} → b < x → PutWhere (closes o false) writing out out′ t (upTo l x) t′ → CellsPut writing out₀ out′ t₀ (between p a b) t′
+  cut-end {out′} {t′} h q = left-end writing out₀ t₀ (between p a b) out′ t′ (left-next false [] out′ t′ (pending-end p b o l x h) q)

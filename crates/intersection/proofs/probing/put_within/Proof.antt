@@ -29,11 +29,10 @@ probe-requires c κs =
 
 close-piece-requires : tie.Need-close-piece-requires Inv-loop μ-loop
 close-piece-requires c κs =
-    let at = c .before .before .before .loop in
+    let inv = c .before .before .before .loop .inv in
     let start = c .before .before .before .before .before .before .before in
-    let a = start .args in
-    let s = c .before .probe in
-    (at .inv .begun, cut-fits (inAll (now (a .index)) (now (a .entries))) (a .within .lower) (a .within .upper) (a .writing) (now (a .out)) (a .before) (at .out) (at .tally) (at .piece .«open») (at .piece .lower) (at .x) (at .inv) (s .result .inside) (s .result .until) (start .pre .0 .high) (start .pre .2) (s .ensures .0) (s .ensures .1))
+    let s = c .before .probe .ensures in
+    (inv .begun, cut-fits inv (start .pre .0 .high) (start .pre .2) (s .0) (s .1))
 
 loop-less : tie.Need-loop-less Inv-loop μ-loop
 loop-less c =
@@ -43,27 +42,19 @@ loop-less c =
 
 loop-again : tie.Need-loop-again Inv-loop μ-loop
 loop-again c =
-    let s = c .before .before .before .before .before .probe in
-    let at = c .before .before .before .before .before .before .before .loop in
-    let start = c .before .before .before .before .before .before .before .before .before .before .before in
-    let a = start .args in
-    rw (c .next-piece .ensures .0, c .next-piece .ensures .1)
-    (cut-next (inAll (now (a .index)) (now (a .entries))) (a .within .lower) (a .within .upper) (a .writing) (now (a .out)) (a .before) (at .out) (at .tally) (at .piece .«open») (at .piece .lower) (at .x) (at .inv) (s .result .inside) (s .result .until) _ (c .before .before .before .close-piece .result) (s .ensures .0) (s .ensures .1) (c .before .before .before .close-piece .ensures))
+    let s = c .before .before .before .before .before .probe .ensures in
+    rw (c .next-piece .ensures .0, c .next-piece .ensures .1) (cut-next (c .before .before .before .before .before .before .before .loop .inv) (s .0) (s .1) (c .before .before .before .close-piece .ensures))
 
 close-piece-requires-2 : tie.Need-close-piece-requires-2 Inv-loop μ-loop
 close-piece-requires-2 c κs =
-    let at = c .before .before .loop in
+    let inv = c .before .before .loop .inv in
     let start = c .before .before .before .before .before .before in
-    let a = start .args in
-    (at .inv .begun, cut-end-fits (inAll (now (a .index)) (now (a .entries))) (a .within .lower) (a .within .upper) (a .writing) (now (a .out)) (a .before) (at .out) (at .tally) (at .piece .«open») (at .piece .lower) (at .x) (at .inv) (start .pre .0 .high) (start .pre .2) (c .before .loop-test .left))
+    (inv .begun, cut-end-fits inv (start .pre .0 .high) (start .pre .2) (c .before .loop-test .left))
 
 returns : tie.Need-returns Inv-loop μ-loop
 returns c =
     let put = c .before .before in
-    let at = put .before .before .before .loop in
-    let start = put .before .before .before .before .before .before .before in
-    let a = start .args in
-    cut-end (inAll (now (a .index)) (now (a .entries))) (a .within .lower) (a .within .upper) (a .writing) (now (a .out)) (a .before) (at .out) (at .tally) (at .piece .«open») (at .piece .lower) (at .x) (at .inv) _ (put .close-piece2 .result) (put .before .before .loop-test .left) (put .close-piece2 .ensures)
+    cut-end (put .before .before .before .loop .inv) (put .before .before .loop-test .left) (put .close-piece2 .ensures)
 
 pub put-within-spec : {M : Type 1} → statement M
 put-within-spec =
