@@ -30,80 +30,61 @@ abbrev μ-loop : tie.MeasureT-loop
 loop-holds : tie.Need-loop-holds Inv-loop μ-loop
 loop-holds c = (search needs, sum-first-none (now (c .before .before .args .counts)), search needs, search needs, omega arith)
 
+-- ---- the next list
+
+abbrev counts : tie.In-loop Inv-loop μ-loop → List ℕ
+counts c = now (c .before .before .before .before .args .counts)
+
+abbrev numbers : tie.In-loop Inv-loop μ-loop → List ℕ
+numbers c = now (c .before .before .before .before .args .numbers)
+
+abbrev end : tie.In-loop Inv-loop μ-loop → ℕ
+end c = c .before .loop .start + getD (counts c) (c .before .loop .i) 0
+
+abbrev list : tie.In-loop Inv-loop μ-loop → List ℕ
+list c = take (end c - c .before .loop .start) (drop (c .before .loop .start) (numbers c))
+
+within : (c : tie.In-loop Inv-loop μ-loop) → end c ≤ length (numbers c)
+within c =
+    let at = c .before .loop in
+    list-within (counts c) (numbers c) (at .i) (at .start) (end c) (omega arith) (at .inv .1) refl (c .before .before .before .before .pre)
+
+long : (c : tie.In-loop Inv-loop μ-loop) → length (list c) ≡ getD (counts c) (c .before .loop .i) 0
+long c =
+    let at = c .before .loop in
+    list-long (counts c) (numbers c) (at .i) (at .start) (end c) (omega arith) (at .inv .1) refl (c .before .before .before .before .pre)
+
 cast-end : tie.Need-cast-end Inv-loop μ-loop
 cast-end c = omega (arith, c .shared-slice-known3 .given (c .before .before .loop .i))
 
-add-end : tie.Need-add-end Inv-loop μ-loop
-add-end c =
-    let at = c .before .before .loop in
-    let start = c .before .before .before .before .before in
-    let counts = now (start .args .counts) in
-    let numbers = now (start .args .numbers) in
-    let end = at .start + getD counts (at .i) 0 in
-    let within = list-within counts numbers (at .i) (at .start) end (omega arith) (at .inv .1) refl (start .pre) in
-    omega arith
-
-part-count-kept-end : tie.Need-part-count-kept-end Inv-loop μ-loop
-part-count-kept-end c =
-    let at = c .before .before .loop in
-    let start = c .before .before .before .before .before in
-    let counts = now (start .args .counts) in
-    let numbers = now (start .args .numbers) in
-    let end = at .start + getD counts (at .i) 0 in
-    let within = list-within counts numbers (at .i) (at .start) end (omega arith) (at .inv .1) refl (start .pre) in
-    omega arith
-
 count-kept-requires : tie.Need-count-kept-requires Inv-loop μ-loop
 count-kept-requires c κs =
-    let at = c .before .before .before .loop in
-    let start = c .before .before .before .before .before .before in
-    let counts = now (start .args .counts) in
-    let numbers = now (start .args .numbers) in
-    let end = at .start + getD counts (at .i) 0 in
-    list-good counts numbers (at .i) (at .start) end (omega arith) (at .inv .1) refl (start .pre)
+    let n = c .before .before in
+    let at = n .before .loop in
+    list-good (counts n) (numbers n) (at .i) (at .start) (end n) (omega arith) (at .inv .1) refl (n .before .before .before .before .pre)
 
 list-size-requires : tie.Need-list-size-requires Inv-loop μ-loop
 list-size-requires c κs =
-    let at = c .before .before .before .before .loop in
-    let start = c .before .before .before .before .before .before .before in
-    let counts = now (start .args .counts) in
-    let numbers = now (start .args .numbers) in
-    let end = at .start + getD counts (at .i) 0 in
-    let within = list-within counts numbers (at .i) (at .start) end (omega arith) (at .inv .1) refl (start .pre) in
-    let long = list-long counts numbers (at .i) (at .start) end (omega arith) (at .inv .1) refl (start .pre) in
-    let most = c .count-kept .ensures .most in
-    omega arith
+    let n = c .before .before .before in
+    omega (arith, within n, long n, c .count-kept .ensures .most)
 
 add-size : tie.Need-add-size Inv-loop μ-loop
 add-size c =
-    let at = c .before .before .before .before .before .loop in
-    let start = c .before .before .before .before .before .before .before .before in
-    let counts = now (start .args .counts) in
-    let numbers = now (start .args .numbers) in
-    let end = at .start + getD counts (at .i) 0 in
-    let within = list-within counts numbers (at .i) (at .start) end (omega arith) (at .inv .1) refl (start .pre) in
-    let long = list-long counts numbers (at .i) (at .start) end (omega arith) (at .inv .1) refl (start .pre) in
-    let most = c .before .count-kept .ensures .most in
-    omega (arith, c .list-size .ensures)
+    let n = c .before .before .before .before in
+    omega (arith, within n, long n, c .before .count-kept .ensures .most, c .list-size .ensures)
 
 loop-again : tie.Need-loop-again Inv-loop μ-loop
 loop-again c =
-    let at = c .before .before .before .before .before .loop in
-    let start = c .before .before .before .before .before .before .before .before in
-    let counts = now (start .args .counts) in
-    let numbers = now (start .args .numbers) in
-    let end = at .start + getD counts (at .i) 0 in
-    let within = list-within counts numbers (at .i) (at .start) end (omega arith) (at .inv .1) refl (start .pre) in
-    let long = list-long counts numbers (at .i) (at .start) end (omega arith) (at .inv .1) refl (start .pre) in
+    let n = c .before .before .before .before in
+    let at = n .before .loop in
     let kept = c .before .count-kept .ensures in
-    let list = take (end - at .start) (drop (at .start) numbers) in
-    let next = ap (λ (xss : List (List ℕ)). length (listsBytes top xss)) (lists-next counts numbers (at .i) (at .start) end (omega arith) (at .inv .1) refl) in
-    let bytes = lists-bytes-next top list (listsFrom (drop (at .i + 1) counts) (drop end numbers)) in (
+    let next = ap (λ (xss : List (List ℕ)). length (listsBytes top xss)) (lists-next (counts n) (numbers n) (at .i) (at .start) (end n) (omega arith) (at .inv .1) refl) in
+    let bytes = lists-bytes-next top (list n) (listsFrom (drop (at .i + 1) (counts n)) (drop (end n) (numbers n))) in (
       search needs,
-      omega (arith, sum-next counts (at .i)),
-      omega arith,
-      omega (arith, kept .most, c .list-size .ensures),
-      omega (arith, kept .singles, kept .pairs, kept-length (intervalsOf list), c .list-size .ensures, at .inv .4),
+      omega (arith, sum-next (counts n) (at .i)),
+      omega (arith, within n),
+      omega (arith, long n, kept .most, c .list-size .ensures),
+      omega (arith, kept .singles, kept .pairs, kept-length (intervalsOf (list n)), c .list-size .ensures, at .inv .4),
     )
 
 returns : tie.Need-returns Inv-loop μ-loop
@@ -119,6 +100,6 @@ pub lists-size-spec : {M : Type 1} → statement M
 lists-size-spec =
     tie.close
     (tie.spec
-    Inv-loop μ-loop loop-holds (λ c. search needs) (λ c. search needs) cast-end add-end (λ c. search needs)
-    (λ c. search needs) (λ c. search needs) part-count-kept-end count-kept-requires list-size-requires add-size
+    Inv-loop μ-loop loop-holds (λ c. search needs) (λ c. search needs) cast-end (λ c. omega (arith, within (c .before))) (λ c. search needs)
+    (λ c. search needs) (λ c. search needs) (λ c. omega (arith, within (c .before))) count-kept-requires list-size-requires add-size
     (λ c. search needs) (λ c. search needs) loop-again returns)
