@@ -5,7 +5,7 @@ use mathlib.Core.List.{List}
 use lib.ListN.{length, getD, take}
 use Rattle.list.specs.declared.Place.{Place}
 use Rattle.list.specs.Interval.{top}
-use Rattle.list.specs.Kept.{nextPlace, lowerAt, upperAt}
+use Rattle.list.specs.Kept.{start, nextPlace, lowerAt, upperAt}
 use Rattle.list.specs.Reading.{Goes}
 use Rattle.heap.specs.Heap.{countOf, IsHeap}
 use Rattle.merge.specs.Places.{entrySingles, entryLowers, entryUppers}
@@ -29,6 +29,10 @@ pub record Standing (index entries : List ℕ) (at : ℕ → Place) : Type 0 whe
   pub goes : (i : ℕ) → i < length entries → Goes (entrySingles index (getD entries i 0)) (entryLowers index (getD entries i 0)) (at i)
   pub small : (i : ℕ) → i < length entries → nextLower index entries i (at i) ≤ top
 
+-- so of places of their own
+abbrev pub StandingAt : List ℕ → List ℕ → List Place → Type 0
+StandingAt index entries places = Standing index entries (λ i. getD places i start)
+
 -- the upper bounds of the intervals that are next in the first `size` lists, in a heap
 pub record Frontier (index entries : List ℕ) (at : ℕ → Place) (size : ℕ) (uppers : List ℕ) : Type 0 where
   pub heap : IsHeap (take size uppers)
@@ -50,3 +54,7 @@ pub record Lowers (index entries : List ℕ) (at : ℕ → Place) (lists size : 
   pub heap : IsHeap (take size lowers)
   pub all : (i : ℕ) → i < lists → 0 < countOf (lackOf (nextLower index entries i (at i))) (take size lowers)
   pub others : (y : ℕ) → 0 < countOf y (take size lowers) → (i : ℕ) × (i < lists) × (lackOf (nextLower index entries i (at i)) ≤ y)
+
+-- those of all lists, each at its own place
+abbrev pub AllLowers : List ℕ → List ℕ → List Place → ℕ → List ℕ → Type 0
+AllLowers index entries places size lowers = Lowers index entries (λ i. getD places i start) (length entries) size lowers

@@ -15,7 +15,7 @@ use Rattle.list.specs.Kept.{start, singleNext, nextPlace, lowerAt, upperAt}
 use Rattle.list.specs.Reading.{Goes}
 use Rattle.list.proofs.WalkLaws.{single-next-left, pair-next-left}
 use Rattle.list.proofs.ReadingLaws.{next-fits}
-use Rattle.list.proofs.LeftLaws.{ReadTo, read-start, read-end, read-bounds, read-before, read-inside, read-next}
+use Rattle.list.proofs.LeftLaws.{ReadTo, read-start, read-end, read-bounds, read-before, read-inside, read-behind, read-next}
 use Rattle.index.specs.Format.{wordCount, highest, listOf}
 use Rattle.index.specs.Sound.{Sound}
 use Rattle.index.proofs.SoundLaws.{sound-trailer}
@@ -61,13 +61,8 @@ module _ (index : List ℕ) (i : ℕ) (at : Place) where
   pub due-goes : GoesIn index i at → lowerDue index i at ≡ lowerMark (LowerIn index i at) ∷ []
   due-goes g = rw (lt-leb (length (entrySingles index i) + length (entryLowers index i)) (at .p .0 + at .q .0) (g .more))
 
-  pub due-mark : (m : ℕ) (ms : List ℕ) → lowerDue index i at ≡ m ∷ ms → usedUp index i at ≡ false
-  due-mark m ms e = by-test (usedUp index i at) (λ t. absurd (let z = rw t at e in let w : _≡_ {A = ℕ} 0 1 = cc in omega arith)) (λ t. t)
-
-  pub due-none : lowerDue index i at ≡ [] → length (entrySingles index i) + length (entryLowers index i) ≤ at .p .0 + at .q .0
-  due-none e = by-test (usedUp index i at)
-      (λ t. leb-true (length (entrySingles index i) + length (entryLowers index i)) (at .p .0 + at .q .0) t)
-      (λ t. absurd (let z = rw t at e in let w : _≡_ {A = ℕ} 0 1 = cc in omega arith))
+  pub due-mark : {m : ℕ} {ms : List ℕ} → lowerDue index i at ≡ m ∷ ms → usedUp index i at ≡ false
+  due-mark e = by-test (usedUp index i at) (λ t. absurd (let z = rw t at e in let w : _≡_ {A = ℕ} 0 1 = cc in omega arith)) (λ t. t)
 
 -- a list of a sound index has an interval
 pub goes-start : (index : List ℕ) → Sound index → (i : ℕ) → i < wordCount index → GoesIn index i start
@@ -75,14 +70,18 @@ goes-start index s i h = record { single = omega arith; pair = omega arith; more
 
 -- ---- the lists of a request, each at its own place
 
--- list j is read up to its place, and what is left there begins at k or later
-abbrev pub ReadAt : List ℕ → List ℕ → List Place → ℕ → ℕ → Type 0
-ReadAt index entries places j k =
-    ReadTo (highest index) (entrySingles index (getD entries j 0)) (entryLowers index (getD entries j 0)) (entryUppers index (getD entries j 0)) (getD places j start) k
+-- list j is read up to a place: what is left there begins at `from` or later, and the numbers from `most` - 1 on that it names are all left
+pub record ReadAt (index entries : List ℕ) (j : ℕ) (at : Place) (most : ℕ) : Type 0 where
+  pub from : ℕ
+  pub begun : 1 ≤ from
+  pub near : from ≤ most
+  pub high : highest index ≤ top
+  pub read : ReadTo (highest index) (entrySingles index (getD entries j 0)) (entryLowers index (getD entries j 0)) (entryUppers index (getD entries j 0)) at from
 
--- the numbers from `most` - 1 on that a list names are all left at its place
-abbrev pub AllRead : List ℕ → List ℕ → List Place → ℕ → Type 0
-AllRead index entries places most = (j : ℕ) → j < length entries → (k : ℕ) × (k ≤ most) × ReadAt index entries places j k
+-- so each at its place
+pub record AllRead (index entries : List ℕ) (places : List Place) (most : ℕ) : Type 0 where
+  pub wide : length places ≡ 16
+  pub list : (j : ℕ) → j < length entries → ReadAt index entries j (getD places j start) most
 
 -- how much is left
 abbrev pub leftOf : List ℕ → List ℕ → List Place → ℕ → ℕ
@@ -110,97 +109,131 @@ pub due-start : (index entries : List ℕ) → SoundRequest index entries → (j
     dueAt index entries (replicate 16 start) j ≡ lowerMark (LowerIn index (getD entries j 0) start) ∷ []
 due-start index entries a j h =
     let few = a .few in
-    ap (lowerDue index (getD entries j 0)) (getD-replicate 16 j start start (omega arith)) ∙ due-goes index (getD entries j 0) start (goes-start index (a .sound) (getD entries j 0) (a .below j h))
+    ap (lowerDue index (getD entries j 0)) (getD-replicate 16 j start start (omega arith))
+    ∙ due-goes index (getD entries j 0) start (goes-start index (a .sound) (getD entries j 0) (a .below j h))
 
-pub read-at-start : (index entries : List ℕ) → SoundRequest index entries → (j : ℕ) → j < length entries → ReadAt index entries (replicate 16 start) j 1
-read-at-start index entries a j h =
-    let few = a .few in
-    rw (getD-replicate 16 j start start (omega arith))
-    (read-start (highest index) (entrySingles index (getD entries j 0)) (entryLowers index (getD entries j 0)) (entryUppers index (getD entries j 0)) (entry-kept index (a .sound) (getD entries j 0) (a .below j h)))
+module _ {index entries : List ℕ} (asked : SoundRequest index entries) where
+  -- the entry of list j
+  pub asked-entry : (j : ℕ) → j < length entries → Sound index × (getD entries j 0 < wordCount index)
+  asked-entry j h = (asked .sound, asked .below j h)
 
-pub all-read-start : (index entries : List ℕ) → SoundRequest index entries → AllRead index entries (replicate 16 start) 1
-all-read-start index entries a j h = (1, omega arith, read-at-start index entries a j h)
+  pub read-at-start : (j : ℕ) → j < length entries → ReadAt index entries j start 1
+  read-at-start j h = record {
+    from = 1;
+    begun = omega arith;
+    near = omega arith;
+    high = sound-trailer index (asked .sound) .highest-bound;
+    read = read-start (entry-kept index (asked .sound) (getD entries j 0) (asked .below j h));
+  }
 
-module _ (index entries : List ℕ) (places : List Place) (j k : ℕ) (r : ReadAt index entries places j k) where
-  pub goes-at : usedUp index (getD entries j 0) (getD places j start) ≡ false → GoesAt index entries places j
-  goes-at t = used-up-not index (getD entries j 0) (getD places j start) t (r .single) (r .pair)
+  pub all-read-start : AllRead index entries (replicate 16 start) 1
+  all-read-start = record { wide = refl; list = λ j h. let few = asked .few in rw (getD-replicate 16 j start start (omega arith)) (read-at-start j h) }
+
+module _ {index entries : List ℕ} {j : ℕ} {at : Place} {most : ℕ} (r : ReadAt index entries j at most) where
+  pub read-later : {most′ : ℕ} → most ≤ most′ → ReadAt index entries j at most′
+  read-later h = let n = r .near in record { from = r .from; begun = r .begun; near = omega arith; high = r .high; read = r .read }
+
+  pub goes-at : usedUp index (getD entries j 0) at ≡ false → GoesIn index (getD entries j 0) at
+  goes-at t = used-up-not index (getD entries j 0) at t (r .read .single) (r .read .pair)
 
   -- a mark is due: it is that of the next lower bound
-  pub marked-goes : (m : ℕ) (ms : List ℕ) → dueAt index entries places j ≡ m ∷ ms → GoesAt index entries places j
-  marked-goes m ms d = goes-at (due-mark index (getD entries j 0) (getD places j start) m ms d)
+  pub marked-goes : {m : ℕ} {ms : List ℕ} → lowerDue index (getD entries j 0) at ≡ m ∷ ms → GoesIn index (getD entries j 0) at
+  marked-goes d = goes-at (due-mark index (getD entries j 0) at d)
 
-  pub marked-lower : (m : ℕ) (ms : List ℕ) → dueAt index entries places j ≡ m ∷ ms → m ≡ lowerMark (lowerNext index entries places j)
-  marked-lower m ms d =
-      let g = sym d ∙ due-goes index (getD entries j 0) (getD places j start) (marked-goes m ms d) in
-      cc
+  pub marked-lower : {m : ℕ} {ms : List ℕ} → lowerDue index (getD entries j 0) at ≡ m ∷ ms → m ≡ lowerMark (LowerIn index (getD entries j 0) at)
+  marked-lower d = let g = sym d ∙ due-goes index (getD entries j 0) at (marked-goes d) in cc
+
+  module _ (g : GoesIn index (getD entries j 0) at) where
+    pub next-bounds : (1 ≤ LowerIn index (getD entries j 0) at) × (LowerIn index (getD entries j 0) at ≤ UpperIn index (getD entries j 0) at)
+        × (UpperIn index (getD entries j 0) at ≤ top)
+    next-bounds = let b = read-bounds (r .read) g in let s = r .begun in let h = r .high in (omega arith, b .1, omega arith)
+
+    pub next-before : (x : ℕ) → most ≤ x + 1 → x < LowerIn index (getD entries j 0) at → names (listOf index (getD entries j 0)) x ≡ false
+    unfolding listOf
+    next-before x h f = read-before (r .read) g x (let n = r .near in omega arith) f
+
+    pub next-inside : (x : ℕ) → LowerIn index (getD entries j 0) at ≤ x → x ≤ UpperIn index (getD entries j 0) at → names (listOf index (getD entries j 0)) x ≡ true
+    unfolding listOf
+    next-inside x h f = read-inside (r .read) g x h f
+
+    pub next-behind : names (listOf index (getD entries j 0)) (UpperIn index (getD entries j 0) at + 1) ≡ false
+    unfolding listOf
+    next-behind = read-behind (r .read) g
+
+    -- what is left behind it begins two numbers further or later
+    pub next-later : (let at′ = nextPlace (entrySingles index (getD entries j 0)) (entryLowers index (getD entries j 0)) at in
+        GoesIn index (getD entries j 0) at′ → UpperIn index (getD entries j 0) at + 2 ≤ LowerIn index (getD entries j 0) at′)
+    next-later n = read-bounds (read-next (r .read) g) n .0
+
+    pub read-on : ReadAt index entries j (nextPlace (entrySingles index (getD entries j 0)) (entryLowers index (getD entries j 0)) at) (UpperIn index (getD entries j 0) at + 2)
+    read-on = record { from = UpperIn index (getD entries j 0) at + 2; begun = omega arith; near = omega arith; high = r .high; read = read-next (r .read) g }
+
+  -- the list is used up
+  pub quiet-used : usedUp index (getD entries j 0) at ≡ true → (x : ℕ) → most ≤ x + 1 → names (listOf index (getD entries j 0)) x ≡ false
+  unfolding listOf
+  quiet-used t x h =
+      let n = r .near in
+      read-end (r .read) (leb-true (length (entrySingles index (getD entries j 0)) + length (entryLowers index (getD entries j 0))) (at .p .0 + at .q .0) t) x (omega arith)
 
   -- no mark below m is due: the list names nothing below m
-  pub quiet-below : (m : ℕ) → ((b : ℕ) (bs : List ℕ) → dueAt index entries places j ≡ b ∷ bs → lowerMark m ≤ b) →
-      (x : ℕ) → k ≤ x + 1 → x < m → names (listOf index (getD entries j 0)) x ≡ false
-  unfolding listOf
-  quiet-below m f x h l = by-test (usedUp index (getD entries j 0) (getD places j start))
-      (λ t. read-end (highest index) (entrySingles index (getD entries j 0)) (entryLowers index (getD entries j 0)) (entryUppers index (getD entries j 0)) (getD places j start) k r
-      (leb-true (length (entrySingles index (getD entries j 0)) + length (entryLowers index (getD entries j 0))) (getD places j start .p .0 + getD places j start .q .0) t) x h)
+  pub quiet-below : (m : ℕ) → ((b : ℕ) (bs : List ℕ) → lowerDue index (getD entries j 0) at ≡ b ∷ bs → lowerMark m ≤ b) →
+      (x : ℕ) → most ≤ x + 1 → x < m → names (listOf index (getD entries j 0)) x ≡ false
+  quiet-below m f x h l = by-test (usedUp index (getD entries j 0) at)
+      (λ t. quiet-used t x h)
       (λ t.
       let g = goes-at t in
-      let b = f (lowerMark (lowerNext index entries places j)) [] (due-goes index (getD entries j 0) (getD places j start) g) in
-      read-before (highest index) (entrySingles index (getD entries j 0)) (entryLowers index (getD entries j 0)) (entryUppers index (getD entries j 0)) (getD places j start) k r g x h (omega arith))
+      let b = f (lowerMark (LowerIn index (getD entries j 0) at)) [] (due-goes index (getD entries j 0) at g) in
+      next-before g x h (omega arith))
 
   -- none is due
-  pub quiet-end : dueAt index entries places j ≡ [] → (x : ℕ) → k ≤ x + 1 → names (listOf index (getD entries j 0)) x ≡ false
-  unfolding listOf
-  quiet-end d x h =
-      read-end (highest index) (entrySingles index (getD entries j 0)) (entryLowers index (getD entries j 0)) (entryUppers index (getD entries j 0)) (getD places j start) k r
-      (due-none index (getD entries j 0) (getD places j start) d) x h
-
-  module _ (g : GoesAt index entries places j) where
-    pub next-bounds : (k ≤ lowerNext index entries places j) × (lowerNext index entries places j ≤ upperNext index entries places j) × (upperNext index entries places j ≤ highest index)
-    next-bounds = read-bounds (highest index) (entrySingles index (getD entries j 0)) (entryLowers index (getD entries j 0)) (entryUppers index (getD entries j 0)) (getD places j start) k r g
-
-    pub next-inside : (x : ℕ) → lowerNext index entries places j ≤ x → x ≤ upperNext index entries places j → names (listOf index (getD entries j 0)) x ≡ true
-    unfolding listOf
-    next-inside x h f = read-inside (highest index) (entrySingles index (getD entries j 0)) (entryLowers index (getD entries j 0)) (entryUppers index (getD entries j 0)) (getD places j start) k r g x h f
-
-    read-on : ReadTo (highest index) (entrySingles index (getD entries j 0)) (entryLowers index (getD entries j 0)) (entryUppers index (getD entries j 0))
-        (nextPlace (entrySingles index (getD entries j 0)) (entryLowers index (getD entries j 0)) (getD places j start)) (upperNext index entries places j + 2)
-    read-on = read-next (highest index) (entrySingles index (getD entries j 0)) (entryLowers index (getD entries j 0)) (entryUppers index (getD entries j 0)) (getD places j start) k r g
+  pub quiet-end : lowerDue index (getD entries j 0) at ≡ [] → (x : ℕ) → most ≤ x + 1 → names (listOf index (getD entries j 0)) x ≡ false
+  quiet-end d x h = quiet-below (x + 1) (λ b bs e. absurd (let w : _≡_ {A = ℕ} 0 1 = cc in omega arith)) x h (omega arith)
 
 -- ---- list j goes on
 
-module _ (index entries : List ℕ) (places : List Place) (long : length places ≡ 16) (j : ℕ) (h : j < 16) where
-  placed : getD (placesOn index entries places j) j start ≡ nextPlace (entrySingles index (getD entries j 0)) (entryLowers index (getD entries j 0)) (getD places j start)
-  placed = getD-set-same places j (nextPlace (entrySingles index (getD entries j 0)) (entryLowers index (getD entries j 0)) (getD places j start)) start (omega arith)
+pub all-read-later : {index entries : List ℕ} {places : List Place} {most most′ : ℕ} → AllRead index entries places most → most ≤ most′ → AllRead index entries places most′
+all-read-later r h = record { wide = r .wide; list = λ j n. read-later (r .list j n) h }
 
+module _ (index entries : List ℕ) (places : List Place) (j : ℕ) where
   pub places-other : (i : ℕ) → (i ≡ j → ⊥) → getD (placesOn index entries places j) i start ≡ getD places i start
   places-other i ne = getD-set-other places j i (nextPlace (entrySingles index (getD entries j 0)) (entryLowers index (getD entries j 0)) (getD places j start)) start ne
-
-  pub places-long : length (placesOn index entries places j) ≡ 16
-  places-long = length-set places j (nextPlace (entrySingles index (getD entries j 0)) (entryLowers index (getD entries j 0)) (getD places j start)) ∙ long
 
   pub due-other : (i : ℕ) → (i ≡ j → ⊥) → dueAt index entries places i ≡ dueAt index entries (placesOn index entries places j) i
   due-other i ne = ap (lowerDue index (getD entries i 0)) (sym (places-other i ne))
 
-  module _ (most most′ : ℕ) (r : AllRead index entries places most) (n : j < length entries) (g : GoesAt index entries places j) where
-    pub on-fits : (getD (placesOn index entries places j) j start .p .0 ≤ length (entrySingles index (getD entries j 0))) × (getD (placesOn index entries places j) j start .q .0 ≤ length (entryLowers index (getD entries j 0)))
-    on-fits = rw placed (let f = next-fits (entrySingles index (getD entries j 0)) (entryLowers index (getD entries j 0)) (getD places j start) g in (f .0, f .1))
+module _ {index entries : List ℕ} (asked : SoundRequest index entries) {places : List Place} {most : ℕ} (r : AllRead index entries places most)
+    (j : ℕ) (h : j < length entries) where
+  pub places-own : getD (placesOn index entries places j) j start ≡ nextPlace (entrySingles index (getD entries j 0)) (entryLowers index (getD entries j 0)) (getD places j start)
+  places-own =
+      let few = asked .few in
+      let wide = r .wide in
+      getD-set-same places j (nextPlace (entrySingles index (getD entries j 0)) (entryLowers index (getD entries j 0)) (getD places j start)) start (omega arith)
 
-    pub read-at-on : ReadAt index entries (placesOn index entries places j) j (upperNext index entries places j + 2)
-    read-at-on = rw placed (read-on index entries places j (r j n .0) (r j n .2) g)
+  module _ (g : GoesAt index entries places j) where
+    pub read-at-on : ReadAt index entries j (getD (placesOn index entries places j) j start) (upperNext index entries places j + 2)
+    read-at-on = rw places-own (read-on (r .list j h) g)
 
-    pub all-read-on : most ≤ most′ → upperNext index entries places j + 2 ≤ most′ → AllRead index entries (placesOn index entries places j) most′
-    all-read-on a b i m = go (ℕ-discrete i j)
+    pub on-later : GoesAt index entries (placesOn index entries places j) j → upperNext index entries places j + 2 ≤ lowerNext index entries (placesOn index entries places j) j
+    on-later n = rw places-own (next-later (r .list j h) g (rw places-own at n))
+
+    pub all-read-on : {most′ : ℕ} → most ≤ most′ → upperNext index entries places j + 2 ≤ most′ → AllRead index entries (placesOn index entries places j) most′
+    all-read-on {most′} a b = record { wide = simp length-set (r .wide); list = λ i m. go i m (ℕ-discrete i j) }
       where
-        go : Dec (i ≡ j) → (k : ℕ) × (k ≤ most′) × ReadAt index entries (placesOn index entries places j) i k
-        go (yes e) = rw e (upperNext index entries places j + 2, b, read-at-on)
-        go (no ne) = (r i m .0, let q = r i m .1 in omega arith, rw (places-other i ne) (r i m .2))
+        go : (i : ℕ) → i < length entries → Dec (i ≡ j) → ReadAt index entries i (getD (placesOn index entries places j) i start) most′
+        go i m (yes e) = rw e (read-later read-at-on b)
+        go i m (no ne) = rw (places-other index entries places j i ne) (read-later (r .list i m) a)
 
-    pub left-less : leftSum index entries (placesOn index entries places j) < leftSum index entries places
-    left-less =
-        let f = next-fits (entrySingles index (getD entries j 0)) (entryLowers index (getD entries j 0)) (getD places j start) g in
-        let m = g .more in
-        let c = sum-change (leftOf index entries places) (leftOf index entries (placesOn index entries places j)) (length entries) j n
-        (λ i w ne. ap (λ (at : Place). length (entrySingles index (getD entries i 0)) + length (entryLowers index (getD entries i 0)) - (at .p .0 + at .q .0)) (sym (places-other i ne))) in
-        let own : leftOf index entries (placesOn index entries places j) j
-        ≡ length (entrySingles index (getD entries j 0)) + length (entryLowers index (getD entries j 0)) - (nextPlace (entrySingles index (getD entries j 0)) (entryLowers index (getD entries j 0)) (getD places j start) .p .0 + nextPlace (entrySingles index (getD entries j 0)) (entryLowers index (getD entries j 0)) (getD places j start) .q .0)
-        = ap (λ (at : Place). length (entrySingles index (getD entries j 0)) + length (entryLowers index (getD entries j 0)) - (at .p .0 + at .q .0)) placed in
-        omega arith
+    pub left-less : {places′ : List Place} → places′ ≡ placesOn index entries places j → leftSum index entries places′ < leftSum index entries places
+    left-less e = rw e (
+      let f = next-fits (entrySingles index (getD entries j 0)) (entryLowers index (getD entries j 0)) (getD places j start) g in
+      let m = g .more in
+      let left : ℕ → Place → ℕ = λ i at. length (entrySingles index (getD entries i 0)) + length (entryLowers index (getD entries i 0)) - (at .p .0 + at .q .0) in
+      let own = ap (left j) places-own in
+      let c = sum-change (leftOf index entries places) (leftOf index entries (placesOn index entries places j)) (length entries) j h
+      (λ i w ne. ap (left i) (sym (places-other index entries places j i ne))) in
+      omega arith)
+
+    -- its place behind its next interval is one of the list's
+    pub on-fits : {places′ : List Place} → places′ ≡ placesOn index entries places j →
+        (getD places′ j start .p .0 ≤ length (entrySingles index (getD entries j 0))) × (getD places′ j start .q .0 ≤ length (entryLowers index (getD entries j 0)))
+    on-fits e = rw e (read-at-on .read .single, read-at-on .read .pair)

@@ -77,7 +77,7 @@ pub record Front (n y : ℕ) (due : ℕ → List ℕ) : Type 0 where
   pub mark : due (y % 16) ≡ (y / 16) ∷ rest
   pub least : (i m : ℕ) (r : List ℕ) → i < n → due i ≡ m ∷ r → y / 16 ≤ m
 
-module _ (n size : ℕ) (cells : List ℕ) (due : ℕ → List ℕ) (few : n ≤ 16) (k : Keys n size cells due) where
+module _ {n size : ℕ} {cells : List ℕ} {due : ℕ → List ℕ} (few : n ≤ 16) (k : Keys n size cells due) where
   counted : (i m : ℕ) (r : List ℕ) → i < n → due i ≡ m ∷ r → 0 < countOf (m * 16 + i) (take size cells)
   counted i m r h e =
       let y = m * 16 + i in
@@ -107,17 +107,18 @@ module _ (n size : ℕ) (cells : List ℕ) (due : ℕ → List ℕ) (few : n ≤
       go (m ∷ r) q = absurd (let c = rw e at (counted i m r h q) in omega (arith, count-none (m * 16 + i) cells))
 
   -- the list at the front goes on
-  pub keys-refill : (size′ : ℕ) (cells′ : List ℕ) (due′ : ℕ → List ℕ) (j : ℕ) → Front n (getD cells 0 0) due → j ≡ getD cells 0 0 % 16
-      → Refilled j (due′ j) size cells size′ cells′
-      → ((i : ℕ) → i < n → (i ≡ j → ⊥) → due i ≡ due′ i)
+  pub keys-refill : {size′ : ℕ} {cells′ : List ℕ} {due′ : ℕ → List ℕ} → Front n (getD cells 0 0) due
+      → Refilled (getD cells 0 0 % 16) (due′ (getD cells 0 0 % 16)) size cells size′ cells′
+      → ((i : ℕ) → (i ≡ getD cells 0 0 % 16 → ⊥) → due i ≡ due′ i)
       → Keys n size′ cells′ due′
-  keys-refill size′ cells′ due′ j f ej r same = record {
+  keys-refill {size′} {cells′} {due′} f r same = record {
     heap = r .heap;
     bag = λ y.
-        let y₀ = getD cells 0 0 in
-        let lj = f .list in
-        let c = sum-change (λ i. one (isKey y i (due i))) (λ i. one (isKey y i (due′ i))) n j (omega arith) (λ i h ne. ap (λ (ms : List ℕ). one (isKey y i ms)) (same i h ne)) in
-        let own : one (isKey y j (due j)) ≡ one (eqb y y₀) = ap (λ (ms : List ℕ). one (isKey y j ms)) (ap due ej ∙ f .mark) ∙ ap (λ (z : ℕ). one (eqb y z)) (omega arith) in
+        let j = getD cells 0 0 % 16 in
+        let c = sum-change (λ i. one (isKey y i (due i))) (λ i. one (isKey y i (due′ i))) n j (f .list)
+        (λ i h ne. ap (λ (ms : List ℕ). one (isKey y i ms)) (same i ne)) in
+        let own : one (isKey y j (due j)) ≡ one (eqb y (getD cells 0 0)) =
+        ap (λ (ms : List ℕ). one (isKey y j ms)) (f .mark) ∙ ap (λ (z : ℕ). one (eqb y z)) (omega arith) in
         omega (arith, r .bag y, k .bag y);
   }
 

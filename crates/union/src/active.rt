@@ -2,12 +2,11 @@
 ghost use mathlib.Core.Path.{_≡_};
 ghost use mathlib.Core.Bool.{true};
 ghost use Prim.Native.Nat.{max, _≤_};
-ghost use lib.ListN.{length};
 ghost use Rattle.list.specs.Ginix.{unionOf};
 ghost use Rattle.list.specs.Interval.{top};
 ghost use Rattle.merge.specs.Request.{SoundRequest, listsOf};
 ghost use Rattle.merge.specs.Put.{Fitting, PutWhere};
-ghost use Rattle.merge.specs.Sweep.{Sweeps};
+ghost use Rattle.merge.specs.Sweep.{HasRoom, Sweeps};
 ghost use Rattle.union.specs.Active.{isApart, Joined};
 use list::answer::Tally;
 use list::reading::Interval;
@@ -59,7 +58,8 @@ fn put_before(
     active: Interval,
     next: Interval,
 ) -> Tally
-    requires { ⌜ (active .upper ≤ top) × (isApart active next ≡ true → Fitting writing (now out) tally active) ⌝ }
+    requires high { ⌜ active .upper ≤ top ⌝ }
+    requires fits { ⌜ (isApart active next ≡ true → Fitting writing (now out) tally active) ⌝ }
     ensures { λ r. ⌜ PutWhere (isApart active next) writing (now (out .entry)) (now (out .exit)) tally active r ⌝ }
 {
     if apart(active, next) {
@@ -70,7 +70,8 @@ fn put_before(
 
 // Counts, and writes, the union of the lists of a request.
 pub fn sweep_active(index: &[u8], entries: &[u32], writing: bool, out: &mut [u32]) -> Tally
-    requires { ⌜ SoundRequest (now index) (now entries) × (writing ≡ true → length (unionOf (listsOf (now index) (now entries))) ≤ length (now out)) ⌝ }
+    requires sound { ⌜ SoundRequest (now index) (now entries) ⌝ }
+    requires room { ⌜ HasRoom (unionOf (listsOf (now index) (now entries))) writing (now out) ⌝ }
     ensures { λ r. ⌜ Sweeps (unionOf (listsOf (now (index .entry)) (now (entries .entry)))) writing (now (out .entry)) (now (out .exit)) r ⌝ }
 {
     let mut keys = [0; 16];

@@ -6,12 +6,12 @@ use denote.Ref.{now}
 use lib.ListN.{length, getD}
 use borrow.Author.Needs.{needs}
 use Rattle.list.specs.Reading.{Goes}
-use Rattle.list.proofs.SweepLaws.{swept-length}
 use Rattle.directory.proofs.EntryIntervals.{entry-walked, entry-intervals}
 use Rattle.index.specs.Format.{wordCount}
 use Rattle.index.specs.Sound.{Sound}
 use Rattle.merge.specs.Places.{entrySingles, entryLowers}
 use Rattle.merge.proofs.ListsLaws.{entry-regions}
+use Rattle.merge.proofs.TallyLaws.{tallied-length}
 use Rattle.intersection.proofs.GoingLaws.{Going, going-start, going-goes, going-end, going-within, going-ordered, going-fits, going-next}
 use Rattle.intersection.proofs.probing.sweep_probing.Statement.{statement}
 use Rattle.intersection.proofs.probing.sweep_probing.Tie as tie
@@ -114,4 +114,4 @@ sweep-probing-spec =
     (λ c. omega (arith, c .shared-slice-known3 .given (c .before .shortest .result)))
     (λ c κs. named (c .before)) (λ c κs. named (c .before .before)) (λ c κs. named (c .before .before .before))
     (λ c. search needs) loop-holds interval-at-requires put-within-requires next-place-requires
-    (λ c. search needs) (λ c. search needs) loop-again (λ c. swept-length (c .before .loop .inv .1 .swept)) returns)
+    (λ c. search needs) (λ c. search needs) loop-again (λ c. tallied-length (c .before .loop .inv .1 .swept)) returns)
