@@ -18,7 +18,7 @@ use Rattle.index.proofs.SoundLaws.{sound-trailer}
 use Rattle.merge.specs.Request.{SoundRequest, listsOf}
 use Rattle.merge.specs.Places.{entrySingles, entryLowers, entryUppers}
 use Rattle.merge.specs.Sweep.{HasRoom, Sweeps}
-use Rattle.merge.proofs.ListsLaws.{entry-kept}
+use Rattle.merge.proofs.ListsLaws.{entry-kept, asked-entry}
 use Rattle.merge.proofs.TallyLaws.{Tallied, tallied-start, tallied-skip, tallied-end}
 use Rattle.intersection.specs.Probing.{between, CellsFit, CellsPut, inAll, Within}
 use Rattle.intersection.proofs.BetweenLaws.{between-fits, between-put}
@@ -49,7 +49,7 @@ module _ {index entries : List ℕ} (asked : SoundRequest index entries) {j : �
         k = 1;
         near = (omega arith, omega arith);
         passed = refl;
-        read = read-start (entry-kept index (asked .sound) (getD entries j 0) (asked .below j h));
+        read = read-start (entry-kept (asked-entry asked j h));
         swept = tallied-start e f;
       }
 

@@ -20,6 +20,7 @@ use Rattle.merge.specs.Request.{SoundRequest, listsOf}
 use Rattle.merge.specs.Places.{usedUp}
 use Rattle.merge.specs.Put.{Fitting, PutWhere}
 use Rattle.merge.specs.Sweep.{HasRoom, Sweeps}
+use Rattle.merge.proofs.ListsLaws.{asked-entry}
 use Rattle.merge.proofs.TallyLaws.{Tallied, Whole, tallied-start, tallied-skip, tallied-fits, tallied-put, tallied-end}
 use Rattle.merge.proofs.DueLaws.{
   AllRead,
@@ -70,7 +71,7 @@ standing r g = record { goes = g; small = λ i h. let b = next-bounds (r .list i
 
 module _ {index entries : List ℕ} (asked : SoundRequest index entries) where
   goes-first : (i : ℕ) → i < length entries → GoesAt index entries (replicate 16 start) i
-  goes-first i h = let few = asked .few in rw (getD-replicate 16 i start start (omega arith)) (goes-start index (asked .sound) (getD entries i 0) (asked .below i h))
+  goes-first i h = let few = asked .few in rw (getD-replicate 16 i start start (omega arith)) (goes-start (asked-entry asked i h))
 
   pub standing-start : Standing index entries (λ i. getD (replicate 16 start) i start)
   standing-start = standing (all-read-start asked) goes-first

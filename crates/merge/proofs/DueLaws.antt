@@ -11,62 +11,50 @@ use borrow.Author.Tests.{leb-true, leb-false, lt-leb}
 use Rattle.laws.proofs.Tests.{by-test}
 use Rattle.list.specs.declared.Place.{Place}
 use Rattle.list.specs.Interval.{top, names}
-use Rattle.list.specs.Kept.{start, singleNext, nextPlace, lowerAt, upperAt}
-use Rattle.list.specs.Reading.{Goes}
+use Rattle.list.specs.Kept.{start, singleNext}
 use Rattle.list.proofs.WalkLaws.{single-next-left, pair-next-left}
 use Rattle.list.proofs.ReadingLaws.{next-fits}
 use Rattle.list.proofs.LeftLaws.{ReadTo, read-start, read-end, read-bounds, read-before, read-inside, read-behind, read-next}
-use Rattle.index.specs.Format.{wordCount, highest, listOf}
-use Rattle.index.specs.Sound.{Sound}
+use Rattle.index.specs.Format.{highest, listOf}
 use Rattle.index.proofs.SoundLaws.{sound-trailer}
+use Rattle.directory.specs.Regions.{EntryIn}
 use Rattle.merge.specs.Request.{SoundRequest}
-use Rattle.merge.specs.Places.{entrySingles, entryLowers, entryUppers, usedUp}
+use Rattle.merge.specs.Places.{entrySingles, entryLowers, entryUppers, PlaceIn, GoesIn, nextLowerIn, nextUpperIn, placeBehind, usedUp}
 use Rattle.merge.specs.Keys.{sumOf, lowerMark, lowerDue, dueAt}
-use Rattle.merge.proofs.ListsLaws.{entry-kept, entry-some}
+use Rattle.merge.proofs.ListsLaws.{entry-kept, entry-some, asked-entry}
 use Rattle.merge.proofs.KeysLaws.{sum-change}
 
 -- ---- the list of one entry
 
--- its bounds at a place where it goes on
-abbrev pub LowerIn : List ℕ → ℕ → Place → ℕ
-LowerIn index i at = lowerAt (entrySingles index i) (entryLowers index i) at
-
-abbrev pub UpperIn : List ℕ → ℕ → Place → ℕ
-UpperIn index i at = upperAt (entrySingles index i) (entryLowers index i) (entryUppers index i) at
-
-abbrev pub GoesIn : List ℕ → ℕ → Place → Type 0
-GoesIn index i at = Goes (entrySingles index i) (entryLowers index i) at
-
-module _ (index : List ℕ) (s : Sound index) (i : ℕ) (h : i < wordCount index) (at : Place) (g : GoesIn index i at) where
+module _ {index : List ℕ} {i : ℕ} (n : EntryIn index i) {at : Place} (g : GoesIn index i at) where
   bounds-of : (t : Bool) → singleNext (entrySingles index i) (entryLowers index i) (at .p .0) (at .q .0) ≡ t →
       (cond t (getD (entrySingles index i) (at .p .0) 0) (getD (entryLowers index i) (at .q .0) 0) ≤ highest index)
       × (cond t (getD (entrySingles index i) (at .p .0) 0) (getD (entryUppers index i) (at .q .0) 0) ≤ highest index)
-  bounds-of true e = let b = entry-kept index s i h .single-at (at .p .0) (single-next-left (entrySingles index i) (entryLowers index i) (at .p .0) (at .q .0) e) in (b .1, b .1)
+  bounds-of true e = let b = entry-kept n .single-at (at .p .0) (single-next-left (entrySingles index i) (entryLowers index i) (at .p .0) (at .q .0) e) in (b .1, b .1)
   bounds-of false e =
-      let b = entry-kept index s i h .pair-at (at .q .0) (pair-next-left (entrySingles index i) (entryLowers index i) (at .p .0) (at .q .0) e (g .single) (g .more)) in
+      let b = entry-kept n .pair-at (at .q .0) (pair-next-left (entrySingles index i) (entryLowers index i) (at .p .0) (at .q .0) e (g .single) (g .more)) in
       (omega arith, b .2)
 
   -- no bound is above the largest record number
-  pub bounds-high : (LowerIn index i at ≤ top) × (UpperIn index i at ≤ top)
+  pub bounds-high : (nextLowerIn index i at ≤ top) × (nextUpperIn index i at ≤ top)
   bounds-high =
       let b = bounds-of (singleNext (entrySingles index i) (entryLowers index i) (at .p .0) (at .q .0)) refl in
-      let t = sound-trailer index s .highest-bound in
+      let t = sound-trailer index (n .sound) .highest-bound in
       (omega arith, omega arith)
 
-module _ (index : List ℕ) (i : ℕ) (at : Place) where
-  pub used-up-not : usedUp index i at ≡ false → at .p .0 ≤ length (entrySingles index i) → at .q .0 ≤ length (entryLowers index i) → GoesIn index i at
-  used-up-not e p q =
-      record { single = p; pair = q; more = leb-false (length (entrySingles index i) + length (entryLowers index i)) (at .p .0 + at .q .0) e }
+pub used-up-not : {index : List ℕ} {i : ℕ} {at : Place} → PlaceIn index i at → usedUp index i at ≡ false → GoesIn index i at
+used-up-not {index} {i} {at} p e =
+    record { single = p .single; pair = p .pair; more = leb-false (length (entrySingles index i) + length (entryLowers index i)) (at .p .0 + at .q .0) e }
 
-  pub due-goes : GoesIn index i at → lowerDue index i at ≡ lowerMark (LowerIn index i at) ∷ []
-  due-goes g = rw (lt-leb (length (entrySingles index i) + length (entryLowers index i)) (at .p .0 + at .q .0) (g .more))
+due-goes : (index : List ℕ) (i : ℕ) (at : Place) → GoesIn index i at → lowerDue index i at ≡ lowerMark (nextLowerIn index i at) ∷ []
+due-goes index i at g = rw (lt-leb (length (entrySingles index i) + length (entryLowers index i)) (at .p .0 + at .q .0) (g .more))
 
-  pub due-mark : {m : ℕ} {ms : List ℕ} → lowerDue index i at ≡ m ∷ ms → usedUp index i at ≡ false
-  due-mark e = by-test (usedUp index i at) (λ t. absurd (let z = rw t at e in let w : _≡_ {A = ℕ} 0 1 = cc in omega arith)) (λ t. t)
+due-mark : (index : List ℕ) (i : ℕ) (at : Place) {m : ℕ} {ms : List ℕ} → lowerDue index i at ≡ m ∷ ms → usedUp index i at ≡ false
+due-mark index i at e = by-test (usedUp index i at) (λ t. absurd (let z = rw t at e in let w : _≡_ {A = ℕ} 0 1 = cc in omega arith)) (λ t. t)
 
 -- a list of a sound index has an interval
-pub goes-start : (index : List ℕ) → Sound index → (i : ℕ) → i < wordCount index → GoesIn index i start
-goes-start index s i h = record { single = omega arith; pair = omega arith; more = entry-some index s i h }
+pub goes-start : {index : List ℕ} {i : ℕ} → EntryIn index i → GoesIn index i start
+goes-start e = record { single = omega arith; pair = omega arith; more = entry-some e }
 
 -- ---- the lists of a request, each at its own place
 
@@ -92,30 +80,24 @@ abbrev pub leftSum : List ℕ → List ℕ → List Place → ℕ
 leftSum index entries places = sumOf (leftOf index entries places) (length entries)
 
 abbrev pub lowerNext : List ℕ → List ℕ → List Place → ℕ → ℕ
-lowerNext index entries places j = LowerIn index (getD entries j 0) (getD places j start)
+lowerNext index entries places j = nextLowerIn index (getD entries j 0) (getD places j start)
 
 abbrev pub upperNext : List ℕ → List ℕ → List Place → ℕ → ℕ
-upperNext index entries places j = UpperIn index (getD entries j 0) (getD places j start)
+upperNext index entries places j = nextUpperIn index (getD entries j 0) (getD places j start)
 
 abbrev pub GoesAt : List ℕ → List ℕ → List Place → ℕ → Type 0
 GoesAt index entries places j = GoesIn index (getD entries j 0) (getD places j start)
 
 -- the places behind list j's next interval
 abbrev pub placesOn : List ℕ → List ℕ → List Place → ℕ → List Place
-placesOn index entries places j =
-    set places j (nextPlace (entrySingles index (getD entries j 0)) (entryLowers index (getD entries j 0)) (getD places j start))
-
-pub due-start : (index entries : List ℕ) → SoundRequest index entries → (j : ℕ) → j < length entries →
-    dueAt index entries (replicate 16 start) j ≡ lowerMark (LowerIn index (getD entries j 0) start) ∷ []
-due-start index entries a j h =
-    let few = a .few in
-    ap (lowerDue index (getD entries j 0)) (getD-replicate 16 j start start (omega arith))
-    ∙ due-goes index (getD entries j 0) start (goes-start index (a .sound) (getD entries j 0) (a .below j h))
+placesOn index entries places j = set places j (placeBehind index (getD entries j 0) (getD places j start))
 
 module _ {index entries : List ℕ} (asked : SoundRequest index entries) where
-  -- the entry of list j
-  pub asked-entry : (j : ℕ) → j < length entries → Sound index × (getD entries j 0 < wordCount index)
-  asked-entry j h = (asked .sound, asked .below j h)
+  pub due-start : (j : ℕ) → j < length entries → dueAt index entries (replicate 16 start) j ≡ lowerMark (nextLowerIn index (getD entries j 0) start) ∷ []
+  due-start j h =
+      let few = asked .few in
+      ap (lowerDue index (getD entries j 0)) (getD-replicate 16 j start start (omega arith))
+      ∙ due-goes index (getD entries j 0) start (goes-start (asked-entry asked j h))
 
   pub read-at-start : (j : ℕ) → j < length entries → ReadAt index entries j start 1
   read-at-start j h = record {
@@ -123,7 +105,7 @@ module _ {index entries : List ℕ} (asked : SoundRequest index entries) where
     begun = omega arith;
     near = omega arith;
     high = sound-trailer index (asked .sound) .highest-bound;
-    read = read-start (entry-kept index (asked .sound) (getD entries j 0) (asked .below j h));
+    read = read-start (entry-kept (asked-entry asked j h));
   }
 
   pub all-read-start : AllRead index entries (replicate 16 start) 1
@@ -134,39 +116,39 @@ module _ {index entries : List ℕ} {j : ℕ} {at : Place} {most : ℕ} (r : Rea
   read-later h = let n = r .near in record { from = r .from; begun = r .begun; near = omega arith; high = r .high; read = r .read }
 
   pub goes-at : usedUp index (getD entries j 0) at ≡ false → GoesIn index (getD entries j 0) at
-  goes-at t = used-up-not index (getD entries j 0) at t (r .read .single) (r .read .pair)
+  goes-at t = used-up-not (record { single = r .read .single; pair = r .read .pair }) t
 
   -- a mark is due: it is that of the next lower bound
   pub marked-goes : {m : ℕ} {ms : List ℕ} → lowerDue index (getD entries j 0) at ≡ m ∷ ms → GoesIn index (getD entries j 0) at
   marked-goes d = goes-at (due-mark index (getD entries j 0) at d)
 
-  pub marked-lower : {m : ℕ} {ms : List ℕ} → lowerDue index (getD entries j 0) at ≡ m ∷ ms → m ≡ lowerMark (LowerIn index (getD entries j 0) at)
+  pub marked-lower : {m : ℕ} {ms : List ℕ} → lowerDue index (getD entries j 0) at ≡ m ∷ ms → m ≡ lowerMark (nextLowerIn index (getD entries j 0) at)
   marked-lower d = let g = sym d ∙ due-goes index (getD entries j 0) at (marked-goes d) in cc
 
   module _ (g : GoesIn index (getD entries j 0) at) where
-    pub next-bounds : (1 ≤ LowerIn index (getD entries j 0) at) × (LowerIn index (getD entries j 0) at ≤ UpperIn index (getD entries j 0) at)
-        × (UpperIn index (getD entries j 0) at ≤ top)
+    pub next-bounds : (1 ≤ nextLowerIn index (getD entries j 0) at) × (nextLowerIn index (getD entries j 0) at ≤ nextUpperIn index (getD entries j 0) at)
+        × (nextUpperIn index (getD entries j 0) at ≤ top)
     next-bounds = let b = read-bounds (r .read) g in let s = r .begun in let h = r .high in (omega arith, b .1, omega arith)
 
-    pub next-before : (x : ℕ) → most ≤ x + 1 → x < LowerIn index (getD entries j 0) at → names (listOf index (getD entries j 0)) x ≡ false
+    pub next-before : (x : ℕ) → most ≤ x + 1 → x < nextLowerIn index (getD entries j 0) at → names (listOf index (getD entries j 0)) x ≡ false
     unfolding listOf
     next-before x h f = read-before (r .read) g x (let n = r .near in omega arith) f
 
-    pub next-inside : (x : ℕ) → LowerIn index (getD entries j 0) at ≤ x → x ≤ UpperIn index (getD entries j 0) at → names (listOf index (getD entries j 0)) x ≡ true
+    pub next-inside : (x : ℕ) → nextLowerIn index (getD entries j 0) at ≤ x → x ≤ nextUpperIn index (getD entries j 0) at → names (listOf index (getD entries j 0)) x ≡ true
     unfolding listOf
     next-inside x h f = read-inside (r .read) g x h f
 
-    pub next-behind : names (listOf index (getD entries j 0)) (UpperIn index (getD entries j 0) at + 1) ≡ false
+    pub next-behind : names (listOf index (getD entries j 0)) (nextUpperIn index (getD entries j 0) at + 1) ≡ false
     unfolding listOf
     next-behind = read-behind (r .read) g
 
     -- what is left behind it begins two numbers further or later
-    pub next-later : (let at′ = nextPlace (entrySingles index (getD entries j 0)) (entryLowers index (getD entries j 0)) at in
-        GoesIn index (getD entries j 0) at′ → UpperIn index (getD entries j 0) at + 2 ≤ LowerIn index (getD entries j 0) at′)
+    pub next-later : (let at′ = placeBehind index (getD entries j 0) at in
+        GoesIn index (getD entries j 0) at′ → nextUpperIn index (getD entries j 0) at + 2 ≤ nextLowerIn index (getD entries j 0) at′)
     next-later n = read-bounds (read-next (r .read) g) n .0
 
-    pub read-on : ReadAt index entries j (nextPlace (entrySingles index (getD entries j 0)) (entryLowers index (getD entries j 0)) at) (UpperIn index (getD entries j 0) at + 2)
-    read-on = record { from = UpperIn index (getD entries j 0) at + 2; begun = omega arith; near = omega arith; high = r .high; read = read-next (r .read) g }
+    pub read-on : ReadAt index entries j (placeBehind index (getD entries j 0) at) (nextUpperIn index (getD entries j 0) at + 2)
+    read-on = record { from = nextUpperIn index (getD entries j 0) at + 2; begun = omega arith; near = omega arith; high = r .high; read = read-next (r .read) g }
 
   -- the list is used up
   pub quiet-used : usedUp index (getD entries j 0) at ≡ true → (x : ℕ) → most ≤ x + 1 → names (listOf index (getD entries j 0)) x ≡ false
@@ -182,7 +164,7 @@ module _ {index entries : List ℕ} {j : ℕ} {at : Place} {most : ℕ} (r : Rea
       (λ t. quiet-used t x h)
       (λ t.
       let g = goes-at t in
-      let b = f (lowerMark (LowerIn index (getD entries j 0) at)) [] (due-goes index (getD entries j 0) at g) in
+      let b = f (lowerMark (nextLowerIn index (getD entries j 0) at)) [] (due-goes index (getD entries j 0) at g) in
       next-before g x h (omega arith))
 
   -- none is due
@@ -196,18 +178,18 @@ all-read-later r h = record { wide = r .wide; list = λ j n. read-later (r .list
 
 module _ (index entries : List ℕ) (places : List Place) (j : ℕ) where
   pub places-other : (i : ℕ) → (i ≡ j → ⊥) → getD (placesOn index entries places j) i start ≡ getD places i start
-  places-other i ne = getD-set-other places j i (nextPlace (entrySingles index (getD entries j 0)) (entryLowers index (getD entries j 0)) (getD places j start)) start ne
+  places-other i ne = getD-set-other places j i (placeBehind index (getD entries j 0) (getD places j start)) start ne
 
   pub due-other : (i : ℕ) → (i ≡ j → ⊥) → dueAt index entries places i ≡ dueAt index entries (placesOn index entries places j) i
   due-other i ne = ap (lowerDue index (getD entries i 0)) (sym (places-other i ne))
 
 module _ {index entries : List ℕ} (asked : SoundRequest index entries) {places : List Place} {most : ℕ} (r : AllRead index entries places most)
     (j : ℕ) (h : j < length entries) where
-  pub places-own : getD (placesOn index entries places j) j start ≡ nextPlace (entrySingles index (getD entries j 0)) (entryLowers index (getD entries j 0)) (getD places j start)
+  pub places-own : getD (placesOn index entries places j) j start ≡ placeBehind index (getD entries j 0) (getD places j start)
   places-own =
       let few = asked .few in
       let wide = r .wide in
-      getD-set-same places j (nextPlace (entrySingles index (getD entries j 0)) (entryLowers index (getD entries j 0)) (getD places j start)) start (omega arith)
+      getD-set-same places j (placeBehind index (getD entries j 0) (getD places j start)) start (omega arith)
 
   module _ (g : GoesAt index entries places j) where
     pub read-at-on : ReadAt index entries j (getD (placesOn index entries places j) j start) (upperNext index entries places j + 2)
@@ -225,15 +207,15 @@ module _ {index entries : List ℕ} (asked : SoundRequest index entries) {places
 
     pub left-less : {places′ : List Place} → places′ ≡ placesOn index entries places j → leftSum index entries places′ < leftSum index entries places
     left-less e = rw e (
-      let f = next-fits (entrySingles index (getD entries j 0)) (entryLowers index (getD entries j 0)) (getD places j start) g in
-      let m = g .more in
-      let left : ℕ → Place → ℕ = λ i at. length (entrySingles index (getD entries i 0)) + length (entryLowers index (getD entries i 0)) - (at .p .0 + at .q .0) in
-      let own = ap (left j) places-own in
-      let c = sum-change (leftOf index entries places) (leftOf index entries (placesOn index entries places j)) (length entries) j h
-      (λ i w ne. ap (left i) (sym (places-other index entries places j i ne))) in
-      omega arith)
+        let f = next-fits (entrySingles index (getD entries j 0)) (entryLowers index (getD entries j 0)) (getD places j start) g in
+        let m = g .more in
+        let left : ℕ → Place → ℕ = λ i at. length (entrySingles index (getD entries i 0)) + length (entryLowers index (getD entries i 0)) - (at .p .0 + at .q .0) in
+        let own = ap (left j) places-own in
+        let c = sum-change (leftOf index entries places) (leftOf index entries (placesOn index entries places j)) (length entries) j h
+        (λ i w ne. ap (left i) (sym (places-other index entries places j i ne))) in
+        omega arith)
 
     -- its place behind its next interval is one of the list's
     pub on-fits : {places′ : List Place} → places′ ≡ placesOn index entries places j →
-        (getD places′ j start .p .0 ≤ length (entrySingles index (getD entries j 0))) × (getD places′ j start .q .0 ≤ length (entryLowers index (getD entries j 0)))
-    on-fits e = rw e (read-at-on .read .single, read-at-on .read .pair)
+        PlaceIn index (getD entries j 0) (getD places′ j start)
+    on-fits e = rw e (record { single = read-at-on .read .single; pair = read-at-on .read .pair })

@@ -16,15 +16,15 @@ use Rattle.merge.specs.Keys.{sumOf, isKey, Keys, Refilled}
 
 -- ---- sums
 
-pub sum-none : (f : ℕ → ℕ) → sumOf f 0 ≡ 0
+sum-none : (f : ℕ → ℕ) → sumOf f 0 ≡ 0
 unfolding sumOf
 sum-none f = refl
 
-pub sum-more : (f : ℕ → ℕ) (n : ℕ) → sumOf f (n + 1) ≡ f n + sumOf f n
+sum-more : (f : ℕ → ℕ) (n : ℕ) → sumOf f (n + 1) ≡ f n + sumOf f n
 unfolding sumOf
 sum-more f n = rw (add-one n)
 
-pub sum-same : (f g : ℕ → ℕ) (n : ℕ) → ((i : ℕ) → i < n → f i ≡ g i) → sumOf f n ≡ sumOf g n
+sum-same : (f g : ℕ → ℕ) (n : ℕ) → ((i : ℕ) → i < n → f i ≡ g i) → sumOf f n ≡ sumOf g n
 unfolding sumOf
 sum-same f g zero h = refl
 sum-same f g (suc n) h = rw (h n (omega arith), sum-same f g n (λ i k. h i (omega arith)))
@@ -63,10 +63,10 @@ sum-most f (suc n) h = omega (arith, h n, sum-most f n h)
 -- ---- keys
 
 -- the only key of a list
-pub key-one : (j m : ℕ) (ms : List ℕ) → one (isKey (m * 16 + j) j (m ∷ ms)) ≡ 1
+key-one : (j m : ℕ) (ms : List ℕ) → one (isKey (m * 16 + j) j (m ∷ ms)) ≡ 1
 key-one j m ms = rw (eq-eqb (m * 16 + j) (m * 16 + j) refl)
 
-pub key-mark : (y j : ℕ) (ms : List ℕ) → 0 < one (isKey y j ms) → (m : ℕ) × (r : List ℕ) × (ms ≡ m ∷ r) × (y ≡ m * 16 + j)
+key-mark : (y j : ℕ) (ms : List ℕ) → 0 < one (isKey y j ms) → (m : ℕ) × (r : List ℕ) × (ms ≡ m ∷ r) × (y ≡ m * 16 + j)
 key-mark y j [] h = absurd (omega arith)
 key-mark y j (m ∷ r) h = by-test (eqb y (m * 16 + j)) (λ e. (m, r, refl, eqb-true y (m * 16 + j) e)) (λ e. absurd (let k = rw e at h in omega arith))
 
@@ -124,12 +124,12 @@ module _ {n size : ℕ} {cells : List ℕ} {due : ℕ → List ℕ} (few : n ≤
 
 -- ---- filling
 
-pub fill-start : (cells : List ℕ) (due : ℕ → List ℕ) → Keys 0 0 cells due
-fill-start cells due = record { heap = heap-none cells; bag = λ y. count-none y cells ∙ sym (sum-none (λ j. one (isKey y j (due j)))) }
+pub fill-start : {cells : List ℕ} {due : ℕ → List ℕ} → Keys 0 0 cells due
+fill-start {cells} {due} = record { heap = heap-none cells; bag = λ y. count-none y cells ∙ sym (sum-none (λ j. one (isKey y j (due j)))) }
 
-pub fill-step : (n x : ℕ) (cells cells′ : List ℕ) (due : ℕ → List ℕ) (m : ℕ) (ms : List ℕ) → Keys n n cells due → due n ≡ m ∷ ms → x ≡ m * 16 + n
+pub fill-step : {n x m : ℕ} {cells cells′ ms : List ℕ} {due : ℕ → List ℕ} → Keys n n cells due → due n ≡ m ∷ ms → x ≡ m * 16 + n
     → Pushed n x cells cells′ → Keys (n + 1) (n + 1) cells′ due
-fill-step n x cells cells′ due m ms k e ex p = record {
+fill-step {n} {x} {due = due} k e ex p = record {
   heap = p .heap;
   bag = λ y.
       let own : one (isKey y n (due n)) ≡ one (eqb y x) = ap (λ (q : List ℕ). one (isKey y n q)) e ∙ ap (λ (z : ℕ). one (eqb y z)) (sym ex) in
@@ -138,18 +138,8 @@ fill-step n x cells cells′ due m ms k e ex p = record {
 
 -- ---- one key for another
 
-pub refilled-by : (j m x size : ℕ) (ms old new : List ℕ) → x ≡ m * 16 + j → Replaced size x old new → Refilled j (m ∷ ms) size old size new
-refilled-by j m x size ms old new e r = record {
-  room = r .room;
-  fewer = omega arith;
-  heap = r .heap;
-  bag = λ y. rw (← e) (r .bag y);
-}
+pub refilled-by : {j m x size : ℕ} {ms old new : List ℕ} → x ≡ m * 16 + j → Replaced size x old new → Refilled j (m ∷ ms) size old size new
+refilled-by e r = record { room = r .room; fewer = omega arith; heap = r .heap; bag = λ y. rw (← e) (r .bag y) }
 
-pub refilled-none : (j size : ℕ) (old new : List ℕ) → Dropped size old new → Refilled j [] size old (size - 1) new
-refilled-none j size old new r = record {
-  room = r .room;
-  fewer = omega arith;
-  heap = r .heap;
-  bag = λ y. omega (arith, r .bag y);
-}
+pub refilled-none : {j size : ℕ} {old new : List ℕ} → Dropped size old new → Refilled j [] size old (size - 1) new
+refilled-none r = record { room = r .room; fewer = omega arith; heap = r .heap; bag = λ y. omega (arith, r .bag y) }

@@ -14,7 +14,7 @@ use Rattle.list.specs.Interval.{top}
 use Rattle.list.specs.Ginix.{unionOf}
 use Rattle.list.specs.Kept.{start}
 use Rattle.merge.specs.Request.{SoundRequest, listsOf}
-use Rattle.merge.specs.Keys.{lowerMark, Keys, Refilled, dueAt}
+use Rattle.merge.specs.Keys.{lowerMark, Keys, Refilled, dueAt, FirstKeys}
 use Rattle.merge.specs.Put.{Fitting, Put, PutWhere}
 use Rattle.merge.specs.Sweep.{HasRoom, Sweeps}
 use Rattle.merge.proofs.KeysLaws.{Front, keys-front, keys-none, keys-refill}
@@ -83,7 +83,7 @@ pub record Active (index entries : List ℕ) (writing : Bool) (out₀ out : List
 
 module _ {index entries : List ℕ} (asked : SoundRequest index entries) {writing : Bool} {out₀ : List ℕ} where
   -- it begins as the least lower bound alone
-  active-start : {keys : List ℕ} {t : Tally} {active : Interval} → length keys ≡ 16 → Keys (length entries) (length entries) keys (dueAt index entries (replicate 16 start)) →
+  active-start : {keys : List ℕ} {t : Tally} {active : Interval} → length keys ≡ 16 → FirstKeys index entries keys →
       t .intervals ≡ 0 → t .records ≡ 0 → active .lower ≡ getD keys 0 0 / 32 → active .upper ≡ getD keys 0 0 / 32 →
       Active index entries writing out₀ out₀ (replicate 16 start) t active
   active-start {keys} {t} {active} l k e f a b =
@@ -195,7 +195,7 @@ pub record Line (index entries : List ℕ) (writing : Bool) (out₀ out keys : L
 
 module _ {index entries : List ℕ} (asked : SoundRequest index entries) {writing : Bool} {out₀ : List ℕ} where
   pub line-start : {keys : List ℕ} {size : ℕ} {places : List Place} {t : Tally} {active : Interval} → length keys ≡ 16 →
-      Keys (length entries) (length entries) keys (dueAt index entries (replicate 16 start)) → size ≡ length entries → places ≡ replicate 16 start →
+      FirstKeys index entries keys → size ≡ length entries → places ≡ replicate 16 start →
       t .intervals ≡ 0 → t .records ≡ 0 → active .lower ≡ getD keys 0 0 / 32 → active .upper ≡ getD keys 0 0 / 32 →
       Line index entries writing out₀ out₀ keys size places t active
   line-start l k n e a b c d = record {

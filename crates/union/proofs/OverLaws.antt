@@ -99,9 +99,10 @@ module _ {index entries : List ℕ} (asked : SoundRequest index entries) {places
 
   -- all lists are used up
   pub over-end : ((i : ℕ) → i < length entries → dueScan index entries places f i ≡ []) → (count ≡ 0) × ((z : ℕ) → s ≤ z → inAny index entries z ≡ false)
-  over-end none =
-      (leb-cases count 0 (λ h. omega arith) (λ h. absurd (let w = over-some o h in true-false (sym (w .2) ∙ out (w .0) (w .1)))),
-      λ z h. none-left (o .read) (λ i w. rw (out i w) at (none i w)) z (omega arith))
+  over-end none = (
+    leb-cases count 0 (λ h. omega arith) (λ h. absurd (let w = over-some o h in true-false (sym (w .2) ∙ out (w .0) (w .1)))),
+    λ z h. none-left (o .read) (λ i w. rw (out i w) at (none i w)) z (omega arith),
+  )
     where
       out : (i : ℕ) → i < length entries → f i ≡ false
       out i h = by-test (f i) (λ e. absurd (let z = rw e at (none i h) in let w : _≡_ {A = ℕ} 0 1 = cc in omega arith)) (λ e. e)

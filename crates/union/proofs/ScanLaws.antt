@@ -14,7 +14,7 @@ use Rattle.list.specs.Interval.{top}
 use Rattle.list.specs.Ginix.{one, unionOf}
 use Rattle.list.specs.Kept.{start}
 use Rattle.merge.specs.Request.{SoundRequest, listsOf}
-use Rattle.merge.specs.Keys.{sumOf, upperMark, Keys, Refilled, dueAt}
+use Rattle.merge.specs.Keys.{sumOf, upperMark, Keys, Refilled, dueAt, FirstKeys}
 use Rattle.merge.specs.Put.{Fitting, PutWhere, upTo}
 use Rattle.merge.specs.Sweep.{HasRoom, Sweeps}
 use Rattle.merge.proofs.KeysLaws.{sum-where, Front, keys-front, keys-none, keys-refill}
@@ -53,7 +53,7 @@ pub record Scan (index entries : List ℕ) (writing : Bool) (out₀ out keys : L
 
 module _ {index entries : List ℕ} (asked : SoundRequest index entries) {writing : Bool} {out₀ : List ℕ} where
   pub scan-start : {keys : List ℕ} {size : ℕ} {places : List Place} {t : Tally} {count lower : ℕ} → length keys ≡ 16 →
-      Keys (length entries) (length entries) keys (dueAt index entries (replicate 16 start)) → size ≡ length entries → places ≡ replicate 16 start →
+      FirstKeys index entries keys → size ≡ length entries → places ≡ replicate 16 start →
       t .intervals ≡ 0 → t .records ≡ 0 → count ≡ 0 → Scan index entries writing out₀ out₀ keys size places t count lower
   scan-start l k n e a b c = record {
     long = l;

@@ -6,7 +6,7 @@ use denote.Ref.{now}
 use lib.ListN.{length, getD}
 use borrow.Author.Needs.{needs}
 use Rattle.list.specs.Kept.{start}
-use Rattle.merge.proofs.DueLaws.{asked-entry}
+use Rattle.merge.proofs.ListsLaws.{asked-entry}
 use Rattle.intersection.specs.Twin.{Lowers}
 use Rattle.intersection.proofs.LowersLaws.{lowers-start, lowers-more}
 use Rattle.intersection.proofs.twin.fill_lowers.Statement.{statement}

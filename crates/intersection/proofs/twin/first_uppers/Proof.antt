@@ -8,7 +8,9 @@ use borrow.Author.Needs.{needs}
 use Rattle.list.specs.Kept.{start}
 use Rattle.intersection.specs.Twin.{Frontier}
 use Rattle.intersection.proofs.FrontierLaws.{frontier-start, frontier-more}
-use Rattle.merge.proofs.DueLaws.{GoesIn, asked-entry, goes-start, read-at-start, next-bounds}
+use Rattle.merge.proofs.ListsLaws.{asked-entry}
+use Rattle.merge.specs.Places.{GoesIn}
+use Rattle.merge.proofs.DueLaws.{goes-start, read-at-start, next-bounds}
 use Rattle.intersection.proofs.twin.first_uppers.Statement.{statement}
 use Rattle.intersection.proofs.twin.first_uppers.Tie as tie
 
@@ -27,7 +29,7 @@ begin c = c .before .before .before .before .before
 
 -- list j has an interval, whose upper bound is a record's number
 goes : (c : Turn) → let a = begin c .args in let at = c .before .loop in GoesIn (now (a .index)) (getD (now (a .entries)) (at .j) 0) start
-goes c = let asked = begin c .pre .0 in goes-start _ (asked .sound) _ (asked .below (c .before .loop .j) (c .loop-test .taken))
+goes c = goes-start (asked-entry (begin c .pre .0) (c .before .loop .j) (c .loop-test .taken))
 
 key-of-requires : tie.Need-key-of-requires Inv-loop μ-loop
 key-of-requires c κs =

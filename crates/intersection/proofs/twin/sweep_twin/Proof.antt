@@ -11,7 +11,8 @@ use Rattle.list.specs.Kept.{start}
 use Rattle.merge.specs.Places.{usedUp}
 use Rattle.merge.specs.Request.{SoundRequest}
 use Rattle.merge.proofs.TallyLaws.{Tallied, tallied-length}
-use Rattle.merge.proofs.DueLaws.{asked-entry, on-fits}
+use Rattle.merge.proofs.ListsLaws.{asked-entry}
+use Rattle.merge.proofs.DueLaws.{on-fits}
 use Rattle.intersection.specs.Probing.{inAll}
 use Rattle.intersection.specs.Twin.{AllLowers, nextLower, nextUpper, limit}
 use Rattle.intersection.proofs.FrontierLaws.{whose}
@@ -128,7 +129,7 @@ used-up-requires c κs =
     let i = c .before .before .before .before .before .before .before .before .before .before in
     let w = i .loop .inv .0 in
     let f = on-fits (asked i) (w .read) (j i) (list i) (turn-goes (asked i) w) (c .before .moved-on .ensures) in
-    (asked-entry (asked i) (j i) (list i), f .0, f .1)
+    (asked-entry (asked i) (j i) (list i), f)
 
 -- the bounds of the interval that is next then
 next-bounds : (c : tie.Else1 Inv-loop μ-loop) → let i = turn (c .before) in let a = begin i .args in
@@ -179,7 +180,7 @@ sweep-twin-spec =
     (λ c. omega (arith, c .before .before .before .loop .inv .0 .long)) (λ c. omega arith) (λ c. search needs) (λ c. list (c .before .before .before .before))
     (λ c. omega (arith, c .shared-slice-known3 .given (j (c .before .before .before .before)))) put-overlap-requires
     (λ c κs. let i = c .before .before .before .before .before .before .before .before in
-    (asked-entry (asked i) (j i) (list i), omega arith, turn-goes (asked i) (i .loop .inv .0))) (λ c. search needs) (λ c. omega arith)
+    (asked-entry (asked i) (j i) (list i), (omega arith, turn-goes (asked i) (i .loop .inv .0)))) (λ c. search needs) (λ c. omega arith)
     used-up-requires (λ c. tallied-length (swept c)) (λ c. turned-out _ _ (swept c) (begin (turn (c .before)) .pre .1)) next-interval-requires
     (λ c. search needs) (λ c κs. (rw (c .before .next-interval .ensures .1) (next-bounds (c .before .before) .2), omega arith)) replace-least-requires
     (λ c. search needs)

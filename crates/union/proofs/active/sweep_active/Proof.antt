@@ -6,7 +6,8 @@ use denote.Ref.{now}
 use lib.ListN.{length, getD}
 use borrow.Author.Needs.{needs}
 use Rattle.merge.proofs.TallyLaws.{tallied-length}
-use Rattle.merge.proofs.DueLaws.{leftSum, GoesAt, asked-entry, on-fits, left-less}
+use Rattle.merge.proofs.ListsLaws.{asked-entry}
+use Rattle.merge.proofs.DueLaws.{leftSum, GoesAt, on-fits, left-less}
 use Rattle.union.proofs.ActiveLaws.{Line, line-start, line-list, line-goes, line-next, line-fits, line-step, line-last, line-end}
 use Rattle.union.proofs.active.sweep_active.Statement.{statement}
 use Rattle.union.proofs.active.sweep_active.Tie as tie
@@ -55,7 +56,7 @@ refill-requires c κs =
     let a = begin i .pre .0 in
     let inv = i .before .loop .inv in
     let on = on-fits a (inv .state .read) (j i) (list i) (goes i) (c .before .before .moved-on .ensures) in
-    (asked-entry a (j i) (list i), on .0, on .1, omega arith, i .loop-test .taken, omega (arith, inv .small, inv .long), inv .queue .heap)
+    (asked-entry a (j i) (list i), (on, (omega arith, (i .loop-test .taken, (omega (arith, inv .small, inv .long), inv .queue .heap)))))
 
 loop-less : tie.Need-loop-less Inv-loop μ-loop
 loop-less c =
@@ -92,6 +93,6 @@ sweep-active-spec =
     (λ c. search needs) (λ c. search needs) (λ c. search needs) (λ c. list (c .before))
     (λ c. omega (arith, c .shared-slice-known3 .given (j (c .before)))) (λ c. search needs) (λ c. search needs)
     (λ c κs. let i = c .before .before in (asked-entry (begin i .pre .0) (j i) (list i), goes i)) put-before-requires (λ c κs. search needs)
-    (λ c κs. let i = c .before .before .before .before .before .before .before .before in (asked-entry (begin i .pre .0) (j i) (list i), omega arith, goes i))
+    (λ c κs. let i = c .before .before .before .before .before .before .before .before in (asked-entry (begin i .pre .0) (j i) (list i), (omega arith, goes i)))
     (λ c. search needs) (λ c. search needs) (λ c. search needs) refill-requires loop-less loop-again put-requires
     (λ c. omega (arith, c .before .before .put .kept .0, tallied-length (c .before .before .before .before .before .loop .inv .state .below))) returns)

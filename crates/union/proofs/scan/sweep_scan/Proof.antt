@@ -6,7 +6,8 @@ use denote.Ref.{now}
 use lib.ListN.{length, getD}
 use borrow.Author.Needs.{needs}
 use Rattle.merge.proofs.TallyLaws.{tallied-length}
-use Rattle.merge.proofs.DueLaws.{leftSum, GoesAt, asked-entry, on-fits, left-less}
+use Rattle.merge.proofs.ListsLaws.{asked-entry}
+use Rattle.merge.proofs.DueLaws.{leftSum, GoesAt, on-fits, left-less}
 use Rattle.union.proofs.ScanLaws.{Scan, scan-start, scan-list, lower-goes, lower-few, lower-step, upper-goes, upper-some, upper-fits, upper-step, scan-end}
 use Rattle.union.proofs.scan.sweep_scan.Statement.{statement}
 use Rattle.union.proofs.scan.sweep_scan.Tie as tie
@@ -51,8 +52,10 @@ to-upper-requires c κs =
     let i = c .before .before .before .before .before in
     let a = begin i .pre .0 in
     let inv = i .before .loop .inv in
-    let some = i .loop-test .taken in
-    (asked-entry a (j i) (list i), lower-goes a inv some (c .before .before .before .if1 .taken), omega arith, some, omega (arith, inv .small, inv .long), inv .queue .heap)
+    let some = i .loop-test .taken in (
+      asked-entry a (j i) (list i),
+      (lower-goes a inv some (c .before .before .before .if1 .taken), (omega arith, (some, (omega (arith, inv .small, inv .long), inv .queue .heap)))),
+    )
 
 loop-again : tie.Need-loop-again Inv-loop μ-loop
 loop-again c =
@@ -77,7 +80,7 @@ refill-requires c κs =
     let a = begin i .pre .0 in
     let inv = i .before .loop .inv in
     let on = on-fits a (inv .over .read) (j i) (list i) (goes upper) (c .before .before .moved-on .ensures) in
-    (asked-entry a (j i) (list i), on .0, on .1, omega arith, i .loop-test .taken, omega (arith, inv .small, inv .long), inv .queue .heap)
+    (asked-entry a (j i) (list i), (on, (omega arith, (i .loop-test .taken, (omega (arith, inv .small, inv .long), inv .queue .heap)))))
 
 loop-less-2 : tie.Need-loop-less-2 Inv-loop μ-loop
 loop-less-2 c =
@@ -107,5 +110,5 @@ sweep-scan-spec =
     (λ c κs. search needs) (λ c. omega (arith, few (c .before))) (λ c. search needs) (λ c. search needs)
     (λ c. search needs) to-upper-requires (λ c. omega (arith, few (c .before .before .before .before .before))) loop-again sub-count
     put-closed-requires
-    (λ c κs. let upper = c .before .before .before .before in let i = upper .before .before in (asked-entry (begin i .pre .0) (j i) (list i), omega arith, goes upper)) (λ c. search needs) (λ c. search needs) (λ c. search needs) refill-requires
+    (λ c κs. let upper = c .before .before .before .before in let i = upper .before .before in (asked-entry (begin i .pre .0) (j i) (list i), (omega arith, goes upper))) (λ c. search needs) (λ c. search needs) (λ c. search needs) refill-requires
     loop-less-2 loop-again-2 (λ c. tallied-length (c .before .loop .inv .stretch .below)) returns)
