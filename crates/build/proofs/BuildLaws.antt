@@ -24,11 +24,12 @@ use Rattle.index.proofs.SoundLaws.{part-length}
 use Rattle.build.specs.Lent.{lentWords, sumTo, listsFrom}
 use Rattle.build.specs.Layout.{cellsIn}
 use Rattle.build.specs.Build.{lentOf, sizeAnswer, afterLent, indexFrom, buildOf, Builds}
+use Rattle.build.specs.Passes.{GoodLent}
 use Rattle.build.specs.ReadsBack.{Below, Indexable, recordsFor}
 use Rattle.build.proofs.IndexOfLaws.{built-word-count, built-highest, built-word, built-list, built-sound, built-good, built-below}
 use Rattle.build.proofs.ReadsBackLaws.{built-has, reads-back}
 use Rattle.build.proofs.LentLaws.{lists-at}
-use Rattle.build.proofs.GoodLaws.{LentGood, lent-good, good-word, good-few, good-many}
+use Rattle.build.proofs.GoodLaws.{EachGood, each-good, lent-good, good-word, good-many}
 
 -- ---- what is written was not refused
 
@@ -53,7 +54,7 @@ size-passed a room size e =
     (ltb-false 16777216 a (p .0), q)
 
 pub record Accepted (n : ℕ) (words counts numbers : List ℕ) (size : ℕ) : Type 0 where
-  pub lent : LentGood n words counts numbers
+  pub lent : GoodLent n words counts numbers
   pub small : length (indexFrom n words counts numbers) ≤ 16777216
   pub is-size : length (indexFrom n words counts numbers) ≡ size
 
@@ -66,7 +67,7 @@ unfolding buildOf
 accepted n words counts numbers room size e =
     let p = after-passed (lentOf n words counts numbers) (sizeAnswer (length (indexFrom n words counts numbers)) room) size e in
     let s = size-passed (length (indexFrom n words counts numbers)) room size (p .1) in
-    record { lent = lent-good n words counts numbers (p .0); small = s .0; is-size = s .1 }
+    record { lent = lent-good (p .0); small = s .0; is-size = s .1 }
 
 -- ---- it makes an index
 
@@ -76,14 +77,14 @@ module _ (n : ℕ) (words counts numbers : List ℕ) (size : ℕ) (is : Accepted
 
   pub accepted-indexable : Indexable n (lentWords words) (listsFrom counts numbers)
   accepted-indexable =
-      let good = is .lent in
+      let good : EachGood n words counts numbers = each-good (is .lent .good) in
       let m = good .as-many in
       record {
         limit = good .limit;
-        few = omega (arith, good-few n words counts numbers good);
-        as-many = good-many n words counts numbers good;
-        word = λ i h. good-word n words counts numbers good i h .word;
-        order = λ i h. good-word n words counts numbers good i h .order;
+        few = omega (arith, is .lent .few);
+        as-many = good-many good;
+        word = λ i h. good-word good i h .word;
+        order = λ i h. good-word good i h .order;
         some = λ i h.
             let c = good .count i (omega arith) in
             rw (lent-list i h, part-length (sumTo counts i) (getD counts i 0) numbers (c .room)) (c .some);
