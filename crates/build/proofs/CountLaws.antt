@@ -107,14 +107,14 @@ pub list-part : (counts numbers : List ℕ) (i start end : ℕ) → start ≡ su
     take (end - start) (drop start numbers) ≡ part (sumTo counts i) (getD counts i 0) numbers
 list-part counts numbers i start end s e = let f : end - start ≡ getD counts i 0 = omega arith in rw (f, s)
 
+pub fair-count : {counts : List ℕ} {total : ℕ} → Fair counts total → (i : ℕ) → i < length counts → LentCount counts total i
+fair-count {counts} {total} is i h = lent-count counts total i (first-none (badCount counts total) (length counts) (is .each) i h)
+
 module _ (n : ℕ) (counts numbers : List ℕ) (is : Fair counts (length numbers)) where
   abbrev bad : ℕ → Bool
   bad = badListed n counts (length counts) numbers
 
-  pub fair-count : (i : ℕ) → i < length counts → LentCount counts (length numbers) i
-  fair-count i h = lent-count counts (length numbers) i (first-none (badCount counts (length numbers)) (length counts) (is .each) i h)
-
-  module _ (i start end : ℕ) (h : i < length counts) (s : start ≡ sumTo counts i) (e : end ≡ start + getD counts i 0) where
+  module _ (i : ℕ) {start end : ℕ} (h : i < length counts) (s : start ≡ sumTo counts i) (e : end ≡ start + getD counts i 0) where
     abbrev list : List ℕ
     list = take (end - start) (drop start numbers)
 
@@ -122,7 +122,7 @@ module _ (n : ℕ) (counts numbers : List ℕ) (is : Fair counts (length numbers
     list-is = list-part counts numbers i start end s e
 
     list-length : length list ≡ getD counts i 0
-    list-length = ap length list-is ∙ part-length (sumTo counts i) (getD counts i 0) numbers (fair-count i h .room)
+    list-length = ap length list-is ∙ part-length (sumTo counts i) (getD counts i 0) numbers (fair-count is i h .room)
 
     at-place : (j : ℕ) → start ≤ j → j < end → bad j ≡ badNumber n list (j - start)
     at-place j l g =
@@ -132,7 +132,7 @@ module _ (n : ℕ) (counts numbers : List ℕ) (is : Fair counts (length numbers
     pub list-hit : (k : ℕ) → first (badNumber n list) (length list) ≡ At k → ((j : ℕ) → j < start → bad j ≡ false) → first bad (length numbers) ≡ At (start + k)
     list-hit k f g =
         let w = first-at (badNumber n list) k (length list) f in
-        let c = fair-count i h in
+        let c = fair-count is i h in
         let d : start + k - start ≡ k = omega arith in
         first-is bad (start + k) (length numbers)
         (

@@ -79,14 +79,17 @@ five-cells bytes at b h =
     let q : at + 8 + 4 ≡ at + 12 = omega arith in
     let r : at + 12 + 4 ≡ at + 16 = omega arith in
     let s : at + 16 + 4 ≡ at + 20 = omega arith in
-    let e₀ = cell-split bytes at b (omega arith) in
-    let e₁ : drop (at + 4) bytes ≡ cellBytes (cellAt bytes (at + 4)) ++ drop (at + 8) bytes = cell-split bytes (at + 4) b (omega arith) ∙ ap (λ (k : ℕ). cellBytes (cellAt bytes (at + 4)) ++ drop k bytes) p in
-    let e₂ : drop (at + 8) bytes ≡ cellBytes (cellAt bytes (at + 8)) ++ drop (at + 12) bytes = cell-split bytes (at + 8) b (omega arith) ∙ ap (λ (k : ℕ). cellBytes (cellAt bytes (at + 8)) ++ drop k bytes) q in
-    let e₃ : drop (at + 12) bytes ≡ cellBytes (cellAt bytes (at + 12)) ++ drop (at + 16) bytes = cell-split bytes (at + 12) b (omega arith) ∙ ap (λ (k : ℕ). cellBytes (cellAt bytes (at + 12)) ++ drop k bytes) r in
-    let e₄ : drop (at + 16) bytes ≡ cellBytes (cellAt bytes (at + 16)) ++ drop (at + 20) bytes = cell-split bytes (at + 16) b (omega arith) ∙ ap (λ (k : ℕ). cellBytes (cellAt bytes (at + 16)) ++ drop k bytes) s in
-    e₀
-    ∙ ap (λ (t : List ℕ). cellBytes (cellAt bytes at) ++ t)
-    (e₁ ∙ ap (λ (t : List ℕ). cellBytes (cellAt bytes (at + 4)) ++ t) (e₂ ∙ ap (λ (t : List ℕ). cellBytes (cellAt bytes (at + 8)) ++ t) (e₃ ∙ ap (λ (t : List ℕ). cellBytes (cellAt bytes (at + 12)) ++ t) e₄)))
+    rw (
+      cell-split bytes at b (omega arith),
+      cell-split bytes (at + 4) b (omega arith),
+      p,
+      cell-split bytes (at + 8) b (omega arith),
+      q,
+      cell-split bytes (at + 12) b (omega arith),
+      r,
+      cell-split bytes (at + 16) b (omega arith),
+      s,
+    )
 
 -- ---- a sound index, region by region
 

@@ -20,24 +20,22 @@ use Rattle.build.proofs.CountLaws.{list-part}
 
 -- ---- the next list
 
-module _ (counts numbers : List ℕ) (i start end : ℕ) (h : i < length counts) (s : start ≡ sumTo counts i) (e : end ≡ start + getD counts i 0) where
-  abbrev list : List ℕ
-  list = take (end - start) (drop start numbers)
+pub lists-next : (counts numbers : List ℕ) (i start : ℕ) {end : ℕ} → i < length counts → end ≡ start + getD counts i 0 →
+    listsFrom (drop i counts) (drop start numbers) ≡ take (end - start) (drop start numbers) ∷ listsFrom (drop (i + 1) counts) (drop end numbers)
+unfolding listsFrom
+lists-next counts numbers i start {end} h e =
+    let f : end - start ≡ getD counts i 0 = omega arith in
+    rw (drop-next counts i h, f, drop-drop (getD counts i 0) start numbers, ← e)
 
-  pub lists-next : listsFrom (drop i counts) (drop start numbers) ≡ list ∷ listsFrom (drop (i + 1) counts) (drop end numbers)
-  unfolding listsFrom
-  lists-next =
-      let f : end - start ≡ getD counts i 0 = omega arith in
-      rw (drop-next counts i h, f, drop-drop (getD counts i 0) start numbers, ← e)
+module _ {counts numbers : List ℕ} (is : Lists counts numbers) (i : ℕ) {start end : ℕ} (h : i < length counts) (s : start ≡ sumTo counts i) (e : end ≡ start + getD counts i 0) where
+  pub list-good : badNumberOf (take (end - start) (drop start numbers)) ≡ Nowhere
+  list-good = rw (list-part counts numbers i start end s e) (is .good i h)
 
-  pub list-good : Lists counts numbers → badNumberOf list ≡ Nowhere
-  list-good is = rw (list-part counts numbers i start end s e) (is .good i h)
+  pub list-long : length (take (end - start) (drop start numbers)) ≡ getD counts i 0
+  list-long = ap length (list-part counts numbers i start end s e) ∙ part-length (sumTo counts i) (getD counts i 0) numbers (is .room i h)
 
-  pub list-long : Lists counts numbers → length list ≡ getD counts i 0
-  list-long is = ap length (list-part counts numbers i start end s e) ∙ part-length (sumTo counts i) (getD counts i 0) numbers (is .room i h)
-
-  pub list-within : Lists counts numbers → end ≤ length numbers
-  list-within is = omega (arith, is .room i h)
+  pub list-within : end ≤ length numbers
+  list-within = omega (arith, is .room i h)
 
 pub lists-none : (counts numbers : List ℕ) (i : ℕ) → length counts ≤ i → listsFrom (drop i counts) numbers ≡ []
 unfolding listsFrom

@@ -74,7 +74,7 @@ unfolding wordsFrom restFrom wordEnd
 words-open acc [] h = (refl, sym (append-nil acc))
 words-open acc (b ∷ bs) h = open-step acc b bs (eqb b 10) h (λ acc g. words-open acc bs g)
 
-module _ (bytes : List ℕ) (start end : ℕ) (is : end ≡ start + wordEnd (drop start bytes)) where
+module _ (bytes : List ℕ) {start end : ℕ} (is : end ≡ start + wordEnd (drop start bytes)) where
   -- the word that starts at start, and those behind it
   pub next-word : start ≤ length bytes → end < length bytes → wordsFrom [] (drop start bytes) ≡ take (end - start) (drop start bytes) ∷ wordsFrom [] (drop (end + 1) bytes)
   next-word g h =
@@ -163,8 +163,8 @@ record Next (ws : List (List ℕ)) (i : ℕ) (w : List ℕ) (r : List (List ℕ)
   is : getD ws i [] ≡ w
   rest : r ≡ drop (i + 1) ws
 
-next-of : (ws : List (List ℕ)) (i : ℕ) (w : List ℕ) (r : List (List ℕ)) → w ∷ r ≡ drop i ws → Next ws i w r
-next-of ws i w r e =
+next-of : {ws : List (List ℕ)} {i : ℕ} {w : List ℕ} {r : List (List ℕ)} → w ∷ r ≡ drop i ws → Next ws i w r
+next-of {ws} {i} e =
     leb-cases (length ws) i
     (λ h. absurd (let f = e ∙ drop-of-length-le ws h in let z : _≡_ {A = ℕ} 0 1 = cc in omega arith))
     (λ h. let f = e ∙ drop-cons ws i [] h in record { below = h; is = cc; rest = rw (add-one i) (cc) })
@@ -174,7 +174,7 @@ none-left ws i e =
     leb-cases (length ws) i (λ h. h)
     (λ h. absurd (let f = e ∙ drop-cons ws i [] h in let z : _≡_ {A = ℕ} 0 1 = cc in omega arith))
 
-module _ (bytes : List ℕ) (prior priorEnd start count : ℕ) (at : Passing bytes prior priorEnd start count) where
+module _ {bytes : List ℕ} {prior priorEnd start count : ℕ} (at : Passing bytes prior priorEnd start count) where
   abbrev ws : List (List ℕ)
   ws = lentWords bytes
 
@@ -191,7 +191,7 @@ module _ (bytes : List ℕ) (prior priorEnd start count : ℕ) (at : Passing byt
       let o : one-if-any (restOf bytes) ≡ 0 = rw (← r) in
       (first-none-is (badLent ws) (wordTotal bytes) (λ j k. at .good j (omega arith)), omega (arith, at .seen))
 
-  module _ (end : ℕ) (is : end ≡ start + wordEnd (drop start bytes)) where
+  module _ {end : ℕ} (is : end ≡ start + wordEnd (drop start bytes)) where
     abbrev word : List ℕ
     word = take (end - start) (drop start bytes)
 
@@ -199,7 +199,7 @@ module _ (bytes : List ℕ) (prior priorEnd start count : ℕ) (at : Passing byt
     pub pass-open : start < length bytes → end ≡ length bytes → first (badLent ws) (wordTotal bytes) ≡ At count
     unfolding wordTotal badLent
     pass-open h g =
-        let w = last-word bytes start end is (at .within) g in
+        let w = last-word bytes is (at .within) g in
         let n = none-left ws count (sym (w .0) ∙ at .words) in
         let o = any-one (restOf bytes) (rw (← (sym (w .1) ∙ at .rest)) (omega (arith, length-drop start bytes))) in
         first-is (badLent ws) count (wordTotal bytes) (record { below = omega arith; holds = bad (leb 65535 count) n; before = at .good })
@@ -210,7 +210,7 @@ module _ (bytes : List ℕ) (prior priorEnd start count : ℕ) (at : Passing byt
 
     module _ (h : end < length bytes) where
       here : Next ws count word (wordsFrom [] (drop (end + 1) bytes))
-      here = next-of ws count word (wordsFrom [] (drop (end + 1) bytes)) (sym (next-word bytes start end is (at .within) h) ∙ at .words)
+      here = next-of (sym (next-word bytes is (at .within) h) ∙ at .words)
 
       at-bad : badLent ws count ≡ true → first (badLent ws) (wordTotal bytes) ≡ At count
       at-bad e = first-is (badLent ws) count (wordTotal bytes) (record { below = words-within count (here .below); holds = e; before = at .good })
@@ -245,7 +245,7 @@ module _ (bytes : List ℕ) (prior priorEnd start count : ℕ) (at : Passing byt
             limit = omega arith;
             seen = omega (arith, n .below);
             words = n .rest;
-            rest = sym (next-rest bytes start end is (at .within) h) ∙ at .rest;
+            rest = sym (next-rest bytes is (at .within) h) ∙ at .rest;
             last = rw (add-one count) (sym (n .is));
             good = λ j k. leb-cases count j
                 (λ g. let q : j ≡ count = omega arith in rw (q, lt-leb 65535 count l, lt-leb (length ws) count (n .below), n .is, b .0, ← at .last, b .1))

@@ -31,26 +31,18 @@ one-cell : (out : List ℕ) (at x : ℕ) (xs : List ℕ) → sets out at (cellsB
 unfolding cellsBytes
 one-cell out at x xs = sets-append out at (cellBytes x) (cellsBytes xs)
 
+last-cell : (out : List ℕ) (at x : ℕ) → sets out at (cellsBytes (x ∷ [])) ≡ sets out at (cellBytes x)
+unfolding cellsBytes
+last-cell out at x = refl
+
 pub five-cells : (out : List ℕ) (at a b c d e : ℕ) →
     sets out at (cellsBytes (a ∷ b ∷ c ∷ d ∷ e ∷ []))
     ≡ sets (sets (sets (sets (sets out at (cellBytes a)) (at + 4) (cellBytes b)) (at + 8) (cellBytes c)) (at + 12) (cellBytes d)) (at + 16) (cellBytes e)
-unfolding cellsBytes
 five-cells out at a b c d e =
     let p : at + 4 + 4 ≡ at + 8 = omega arith in
     let q : at + 8 + 4 ≡ at + 12 = omega arith in
     let r : at + 12 + 4 ≡ at + 16 = omega arith in
-    let f = sets out at (cellBytes a) in
-    let g = sets f (at + 4) (cellBytes b) in
-    let h = sets g (at + 8) (cellBytes c) in
-    let i = sets h (at + 12) (cellBytes d) in
-    one-cell out at a (b ∷ c ∷ d ∷ e ∷ [])
-    ∙ one-cell f (at + 4) b (c ∷ d ∷ e ∷ [])
-    ∙ ap (λ (k : ℕ). sets g k (cellsBytes (c ∷ d ∷ e ∷ []))) p
-    ∙ one-cell g (at + 8) c (d ∷ e ∷ [])
-    ∙ ap (λ (k : ℕ). sets h k (cellsBytes (d ∷ e ∷ []))) q
-    ∙ one-cell h (at + 12) d (e ∷ [])
-    ∙ ap (λ (k : ℕ). sets i k (cellsBytes (e ∷ []))) r
-    ∙ one-cell i (at + 16) e []
+    rw (one-cell, one-cell, p, one-cell, q, one-cell, r, last-cell)
 
 -- ---- two places
 
@@ -100,62 +92,49 @@ plan-turn out a x xs b y ys d z zs h g =
 abbrev pub keptPlan : List ℕ → Places → List ℕ → List ℕ
 keptPlan out at c = plan out (at .single) (cellsBytes (cellSingles c)) (at .lower) (cellsBytes (lowersIn c)) (at .upper) (cellsBytes (uppersIn c))
 
-pub record Placed (at : Places) (c : List ℕ) (room : ℕ) : Type 0 where
-  pub single : at .single + 4 * length (cellSingles c) ≤ at .lower
-  pub lower : at .lower + 4 * length (lowersIn c) ≤ at .upper
-  pub upper : at .upper + 4 * length (lowersIn c) ≤ room
+-- there is room for so many singles and pairs
+pub record Placed (at : Places) (singles pairs room : ℕ) : Type 0 where
+  pub single : at .single + 4 * singles ≤ at .lower
+  pub lower : at .lower + 4 * pairs ≤ at .upper
+  pub upper : at .upper + 4 * pairs ≤ room
+
+abbrev pub PlacedFor : Places → List ℕ → ℕ → Type 0
+PlacedFor at c room = Placed at (length (cellSingles c)) (length (lowersIn c)) room
 
 -- the three regions where one interval more stands in front, of which t says whether it is a single
 abbrev planOf : Bool → List ℕ → Places → ℕ → ℕ → List ℕ → List ℕ → List ℕ → List ℕ
 planOf t out at l u S L U =
     plan out (at .single) (cellsBytes (cond t (l ∷ S) S)) (at .lower) (cellsBytes (cond t L (l ∷ L))) (at .upper) (cellsBytes (cond t U (u ∷ U)))
 
-laid-step : (t : Bool) (out : List ℕ) (at : Places) (l u : ℕ) (S L U : List ℕ) → at .single + 4 * length (cond t (l ∷ S) S) ≤ at .lower →
-    at .lower + 4 * length (cond t L (l ∷ L)) ≤ at .upper →
+laid-step : (t : Bool) (out : List ℕ) (at : Places) (l u : ℕ) (S L U : List ℕ) {room : ℕ} → Placed at (length (cond t (l ∷ S) S)) (length (cond t L (l ∷ L))) room →
     planOf t out at l u S L U
     ≡ plan (laid t out at l u) (laidTo t at .single) (cellsBytes S) (laidTo t at .lower) (cellsBytes L) (laidTo t at .upper) (cellsBytes U)
 unfolding cellsBytes
-laid-step true out at l u S L U h g =
+laid-step true out at l u S L U is =
     ap (λ (o : List ℕ). sets (sets o (at .lower) (cellsBytes L)) (at .upper) (cellsBytes U)) (sets-append out (at .single) (cellBytes l) (cellsBytes S))
-laid-step false out at l u S L U h g =
+laid-step false out at l u S L U is =
     let z : at .single + 0 ≡ at .single = omega arith in
     plan-turn out (at .single) [] (cellsBytes S) (at .lower) (cellBytes l) (cellsBytes L) (at .upper) (cellBytes u) (cellsBytes U)
     (omega (arith, cells-length S)) (omega (arith, cells-length L))
     ∙ ap (λ (k : ℕ). plan (laid false out at l u) k (cellsBytes S) (at .lower + 4) (cellsBytes L) (at .upper + 4) (cellsBytes U)) z
 
-placed-step : (t : Bool) (at : Places) (l : ℕ) (S L : List ℕ) (room : ℕ) → at .single + 4 * length (cond t (l ∷ S) S) ≤ at .lower →
-    at .lower + 4 * length (cond t L (l ∷ L)) ≤ at .upper → at .upper + 4 * length (cond t L (l ∷ L)) ≤ room →
-    LaidWithin t at room
-    × (laidTo t at .single + 4 * length S ≤ laidTo t at .lower)
-    × (laidTo t at .lower + 4 * length L ≤ laidTo t at .upper)
-    × (laidTo t at .upper + 4 * length L ≤ room)
-placed-step true at l S L room h g k = (omega arith, omega arith, omega arith, omega arith)
-placed-step false at l S L room h g k = ((omega arith, omega arith), omega arith, omega arith, omega arith)
+placed-step : (t : Bool) (at : Places) (l : ℕ) (S L : List ℕ) (room : ℕ) → Placed at (length (cond t (l ∷ S) S)) (length (cond t L (l ∷ L))) room →
+    LaidWithin t at room × Placed (laidTo t at) (length S) (length L) room
+placed-step true at l S L room is = (omega arith, record { single = omega arith; lower = omega arith; upper = omega arith })
+placed-step false at l S L room is = ((omega arith, omega arith), record { single = omega arith; lower = omega arith; upper = omega arith })
 
-module _ (out : List ℕ) (at : Places) (l u : ℕ) (r : List ℕ) (room : ℕ) (is : Placed at (l ∷ u ∷ r) room) where
-  pub kept-laid : keptPlan out at (l ∷ u ∷ r) ≡ keptPlan (laid (eqb l u) out at l u) (laidTo (eqb l u) at) r
+module _ (at : Places) (l u : ℕ) (r : List ℕ) {room : ℕ} (is : PlacedFor at (l ∷ u ∷ r) room) where
+  pub kept-laid : (out : List ℕ) → keptPlan out at (l ∷ u ∷ r) ≡ keptPlan (laid (eqb l u) out at l u) (laidTo (eqb l u) at) r
   unfolding cellSingles lowersIn uppersIn
-  kept-laid = laid-step (eqb l u) out at l u (cellSingles r) (lowersIn r) (uppersIn r) (is .single) (is .lower)
+  kept-laid out = laid-step (eqb l u) out at l u (cellSingles r) (lowersIn r) (uppersIn r) is
 
-  placed : LaidWithin (eqb l u) at room
-      × (laidTo (eqb l u) at .single + 4 * length (cellSingles r) ≤ laidTo (eqb l u) at .lower)
-      × (laidTo (eqb l u) at .lower + 4 * length (lowersIn r) ≤ laidTo (eqb l u) at .upper)
-      × (laidTo (eqb l u) at .upper + 4 * length (lowersIn r) ≤ room)
+  pub placed-on : LaidWithin (eqb l u) at room × PlacedFor (laidTo (eqb l u) at) r room
   unfolding cellSingles lowersIn
-  placed = placed-step (eqb l u) at l (cellSingles r) (lowersIn r) room (is .single) (is .lower) (is .upper)
+  placed-on = placed-step (eqb l u) at l (cellSingles r) (lowersIn r) room is
 
-  pub laid-within : LaidWithin (eqb l u) at room
-  laid-within = placed .0
-
-  pub placed-on : Placed (laidTo (eqb l u) at) r room
-  placed-on = let w = placed in record { single = w .1; lower = w .2; upper = w .3 }
-
-laid-length-step : (t : Bool) (out : List ℕ) (at : Places) (l u : ℕ) → length (laid t out at l u) ≡ length out
-laid-length-step true out at l u = length-sets out (at .single) (cellBytes l)
-laid-length-step false out at l u = length-sets (sets out (at .lower) (cellBytes l)) (at .upper) (cellBytes u) ∙ length-sets out (at .lower) (cellBytes l)
-
-pub laid-length : (out : List ℕ) (at : Places) (l u : ℕ) → length (laid (eqb l u) out at l u) ≡ length out
-laid-length out at l u = laid-length-step (eqb l u) out at l u
+pub laid-length : (t : Bool) (out : List ℕ) (at : Places) (l u : ℕ) → length (laid t out at l u) ≡ length out
+laid-length true out at l u = length-sets out (at .single) (cellBytes l)
+laid-length false out at l u = simp length-sets
 
 -- nothing is left
 pub kept-done : (out : List ℕ) (at : Places) → keptPlan out at [] ≡ out
@@ -167,7 +146,7 @@ abbrev pub keptPlaces : ℕ → ℕ → Places
 keptPlaces singles pairs = record { single = 0; lower = 4 * singles; upper = 4 * (singles + pairs) }
 
 module _ (c : List ℕ) (singles pairs : ℕ) (s : singles ≡ length (cellSingles c)) (m : pairs ≡ length (lowersIn c)) where
-  pub placed-start : (room : ℕ) → length (keptBytes c) ≤ room → Placed (keptPlaces singles pairs) c room
+  pub placed-start : (room : ℕ) → length (keptBytes c) ≤ room → PlacedFor (keptPlaces singles pairs) c room
   placed-start room h = let k = kept-length c in record { single = omega arith; lower = omega arith; upper = omega arith }
 
   pub kept-start : (out : List ℕ) → length (keptBytes c) ≤ length out → keptPlan out (keptPlaces singles pairs) c ≡ keptBytes c ++ drop (length (keptBytes c)) out

@@ -1,5 +1,5 @@
 -- What the passes of a build answer and hold, each by the definitions that the build goes by.
-use Prim.Native.Nat.{ℕ, suc, _+_, _*_, _≤_, _<_}
+use Prim.Native.Nat.{ℕ, suc, _+_, _-_, _*_, _≤_, _<_}
 use mathlib.Core.Path.{_≡_}
 use mathlib.Core.Bool.{Bool, true, false, cond}
 use mathlib.Core.List.{List, [], _∷_}
@@ -14,10 +14,13 @@ use Rattle.convert.specs.Convert.{badNumberOf, intervalsOf}
 use Rattle.index.specs.Format.{part}
 use Rattle.build.specs.declared.words.Words.{Words}
 use Rattle.build.specs.declared.words.Words.the-variants.{Counted, Bad}
-use Rattle.build.specs.declared.size.Kept.{Kept}
+use Rattle.build.specs.declared.size.ListCounts.{ListCounts}
 use Rattle.build.specs.declared.kept.Places.{Places}
 use Rattle.build.specs.declared.entry.Spots.{Spots}
-use Rattle.build.specs.Lent.{sumTo, badCount, badRest}
+use Rattle.index.specs.declared.Checked.the-variants.{Good}
+use Rattle.index.specs.Check.{badPlace}
+use Rattle.build.specs.Lent.{lentWords, sumTo, badCount, badRest, badListed, listsFrom}
+use Rattle.build.specs.Build.{lentOf, indexFrom}
 use Rattle.build.specs.Layout.{cellBytes, cellSingles, lowersIn, keptBytes, listsBytes, wordsBytes, entryBytes, directoryBytes}
 
 -- how many bytes stand before the first byte 10
@@ -30,6 +33,14 @@ abbrev pub wordsAnswer : Found → ℕ → Words
 wordsAnswer (At i) count = Bad i
 wordsAnswer Nowhere count = Counted count
 
+-- Reference 9.1, row 18: the first bad count of so many words, or how many words there are
+abbrev pub countFault : List ℕ → ℕ → ℕ → Found
+countFault counts total words = badPlace (first (badCount counts total) words) (badRest counts total words) words
+
+-- Reference 9.1, row 15: the first bad number, where each count has its word
+abbrev pub numberFault : ℕ → List ℕ → List ℕ → Found
+numberFault n counts numbers = first (badListed n counts (length counts) numbers) (length numbers)
+
 -- every count is good, and they take all numbers
 pub record Fair (counts : List ℕ) (total : ℕ) : Type 0 where
   pub each : first (badCount counts total) (length counts) ≡ Nowhere
@@ -40,8 +51,18 @@ pub record Lists (counts numbers : List ℕ) : Type 0 where
   pub room : (i : ℕ) → i < length counts → sumTo counts i + getD counts i 0 ≤ length numbers
   pub good : (i : ℕ) → i < length counts → badNumberOf (part (sumTo counts i) (getD counts i 0) numbers) ≡ Nowhere
 
+-- Reference 9.2: nothing that is lent is refused; how many words there are then, and how long their bytes and the index
+pub record GoodLent (n : ℕ) (words counts numbers : List ℕ) : Type 0 where
+  pub good : lentOf n words counts numbers ≡ Good
+  pub few : length counts ≤ 65535
+  pub as-many : length (lentWords words) ≡ length counts
+  pub lists : Lists counts numbers
+  pub bytes : length (wordsBytes (lentWords words)) + length counts ≡ length words
+  pub size : length (indexFrom n words counts numbers)
+      ≡ length (listsBytes top (listsFrom counts numbers)) + (length words - length counts) + 20 * length counts + 20
+
 -- Reference 3.4: how many singles and pairs the numbers make, in no more cells than there are numbers
-pub record KeptOf (numbers : List ℕ) (k : Kept) : Type 0 where
+pub record ListCountsOf (numbers : List ℕ) (k : ListCounts) : Type 0 where
   pub singles : k .singles ≡ length (cellSingles (intervalsOf numbers))
   pub pairs : k .pairs ≡ length (lowersIn (intervalsOf numbers))
   pub most : k .singles + 2 * k .pairs ≤ length numbers

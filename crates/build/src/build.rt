@@ -1,7 +1,7 @@
 // The build: all that is lent is checked, then the index is written.
 ghost use mathlib.Core.Path.{_≡_};
-ghost use lib.ListN.{length};
-ghost use Rattle.build.specs.Build.{lentOf, indexFrom, sizeAnswer, bytesAfter, Builds};
+ghost use Rattle.build.specs.Build.{lentOf, Builds};
+ghost use Rattle.build.specs.Passes.{GoodLent};
 use crate::counts::check_counts;
 use crate::numbers::check_numbers;
 use crate::size::lists_size;
@@ -38,8 +38,8 @@ fn check_lent(n: u32, words: &[u8], counts: &[u32], numbers: &[u32]) -> Checked
 
 // Reference 9.2: refusals 19 with 1 and 12, or the index written.
 fn build_checked(n: u32, words: &[u8], counts: &[u32], numbers: &[u32], out: &mut [u8]) -> Written
-    requires { ⌜ lentOf n (now words) (now counts) (now numbers) ≡ Checked.Good ⌝ }
-    ensures { λ r. ⌜ (r ≡ sizeAnswer (length (indexFrom n (now (words .entry)) (now (counts .entry)) (now (numbers .entry)))) (length (now (out .entry)))) × (now (out .exit) ≡ bytesAfter (sizeAnswer (length (indexFrom n (now (words .entry)) (now (counts .entry)) (now (numbers .entry)))) (length (now (out .entry)))) (indexFrom n (now (words .entry)) (now (counts .entry)) (now (numbers .entry))) (now (out .entry))) ⌝ }
+    requires { ⌜ GoodLent n (now words) (now counts) (now numbers) ⌝ }
+    ensures { λ r. ⌜ Builds n (now (words .entry)) (now (counts .entry)) (now (numbers .entry)) (now (out .entry)) (now (out .exit)) r ⌝ }
 {
     let lists = lists_size(counts, numbers);
     if lists > LARGEST {

@@ -1,9 +1,9 @@
 // Writing one word: its list, its bytes and its entry in the directory.
 ghost use mathlib.Core.Path.{_≡_};
-ghost use mathlib.Core.List.{_++_};
 ghost use Prim.Native.Nat.{_≤_};
-ghost use lib.ListN.{length, drop};
+ghost use lib.ListN.{length};
 ghost use Rattle.convert.specs.Convert.{badNumberOf, intervalsOf};
+ghost use Rattle.convert.specs.Front.{inFront};
 ghost use Rattle.build.specs.Passes.{entered, enteredTo, EnteredWithin};
 use crate::cells::put_five;
 use crate::kept::write_list;
@@ -21,7 +21,7 @@ pub struct Spots {
 // Writes bytes from byte 0; those behind them stay.
 fn write_bytes(out: &mut [u8], bytes: &[u8])
     requires { ⌜ length (now bytes) ≤ length (now out) ⌝ }
-    ensures { λ _. ⌜ now (out .exit) ≡ now (bytes .entry) ++ drop (length (now (bytes .entry))) (now (out .entry)) ⌝ }
+    ensures { λ _. ⌜ now (out .exit) ≡ inFront (now (bytes .entry)) (now (out .entry)) ⌝ }
 {
     let mut i = 0;
     while i < bytes.len() {
@@ -32,8 +32,10 @@ fn write_bytes(out: &mut [u8], bytes: &[u8])
 
 // Writes a word's list into the tail of the output that begins with it, then the word's bytes and its entry; answers where those of the next word belong.
 pub fn write_word(out: &mut [u8], at: Spots, word: &[u8], numbers: &[u32]) -> Spots
-    requires { ⌜ (badNumberOf (now numbers) ≡ Found.Nowhere) × EnteredWithin at (now word) (intervalsOf (now numbers)) (length (now out)) ⌝ }
-    ensures { λ r. ⌜ (now (out .exit) ≡ entered (now (out .entry)) at (now (word .entry)) (intervalsOf (now (numbers .entry)))) × (r ≡ enteredTo at (now (word .entry)) (intervalsOf (now (numbers .entry)))) ⌝ }
+    requires good { ⌜ badNumberOf (now numbers) ≡ Found.Nowhere ⌝ }
+    requires within { ⌜ EnteredWithin at (now word) (intervalsOf (now numbers)) (length (now out)) ⌝ }
+    ensures enters { λ _. ⌜ now (out .exit) ≡ entered (now (out .entry)) at (now (word .entry)) (intervalsOf (now (numbers .entry))) ⌝ }
+    ensures moves { λ r. ⌜ r ≡ enteredTo at (now (word .entry)) (intervalsOf (now (numbers .entry))) ⌝ }
 {
     let kept = count_kept(numbers);
     let list = at.list;

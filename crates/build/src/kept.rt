@@ -1,14 +1,14 @@
 // Writing one list as it is kept: the singles, then the lower and the upper bounds.
 ghost use mathlib.Core.Path.{_≡_};
-ghost use mathlib.Core.List.{_++_};
 ghost use Prim.Native.Nat.{_≤_};
 ghost use lib.Dec.{eqb};
-ghost use lib.ListN.{length, drop};
+ghost use lib.ListN.{length};
 ghost use Rattle.convert.specs.Convert.{badNumberOf, intervalsOf};
+ghost use Rattle.convert.specs.Front.{inFront};
 ghost use Rattle.build.specs.Layout.{keptBytes};
-ghost use Rattle.build.specs.Passes.{KeptOf, laid, laidTo, LaidWithin};
+ghost use Rattle.build.specs.Passes.{ListCountsOf, laid, laidTo, LaidWithin};
 use crate::cells::put_cell;
-use crate::size::Kept;
+use crate::size::ListCounts;
 use convert::runs::next_run;
 use refusal::Found;
 
@@ -22,7 +22,8 @@ pub struct Places {
 // Writes an interval of a list where the next of its kind belongs.
 fn put_interval(out: &mut [u8], at: Places, l: u32, u: u32) -> Places
     requires { ⌜ LaidWithin (eqb l u) at (length (now out)) ⌝ }
-    ensures { λ r. ⌜ (now (out .exit) ≡ laid (eqb l u) (now (out .entry)) at l u) × (r ≡ laidTo (eqb l u) at) ⌝ }
+    ensures puts { λ _. ⌜ now (out .exit) ≡ laid (eqb l u) (now (out .entry)) at l u ⌝ }
+    ensures moves { λ r. ⌜ r ≡ laidTo (eqb l u) at ⌝ }
 {
     if l == u {
         put_cell(out, at.single, l);
@@ -43,11 +44,11 @@ fn put_interval(out: &mut [u8], at: Places, l: u32, u: u32) -> Places
 }
 
 // Writes the list of ascending numbers from byte 0, as it is kept, in one pass; the bytes behind it stay.
-pub fn write_list(out: &mut [u8], numbers: &[u32], kept: Kept)
+pub fn write_list(out: &mut [u8], numbers: &[u32], kept: ListCounts)
     requires good { ⌜ badNumberOf (now numbers) ≡ Found.Nowhere ⌝ }
-    requires counted { ⌜ KeptOf (now numbers) kept ⌝ }
+    requires counted { ⌜ ListCountsOf (now numbers) kept ⌝ }
     requires room { ⌜ length (keptBytes (intervalsOf (now numbers))) ≤ length (now out) ⌝ }
-    ensures { λ _. ⌜ now (out .exit) ≡ keptBytes (intervalsOf (now (numbers .entry))) ++ drop (length (keptBytes (intervalsOf (now (numbers .entry))))) (now (out .entry)) ⌝ }
+    ensures { λ _. ⌜ now (out .exit) ≡ inFront (keptBytes (intervalsOf (now (numbers .entry)))) (now (out .entry)) ⌝ }
 {
     let mut at = Places {
         single: 0,

@@ -8,27 +8,28 @@ ghost use Rattle.list.specs.Ginix.{one};
 ghost use Rattle.convert.specs.Convert.{badNumberOf};
 ghost use Rattle.build.specs.Lent.{listsFrom};
 ghost use Rattle.build.specs.Layout.{listsBytes};
-ghost use Rattle.build.specs.Passes.{Lists, KeptOf};
+ghost use Rattle.build.specs.Passes.{Lists, ListCountsOf};
 use convert::runs::next_run;
 use refusal::Found;
 
 // How many singles and how many pairs a list has.
-pub struct Kept {
+pub struct ListCounts {
     pub singles: usize,
     pub pairs: usize,
 }
 
 // 1 where an interval is a single, else 0.
 fn single(l: u32, u: u32) -> usize
-    ensures { λ r. ⌜ (r ≡ one (eqb l u)) × (r ≤ 1) ⌝ }
+    ensures is { λ r. ⌜ r ≡ one (eqb l u) ⌝ }
+    ensures most { λ r. ⌜ r ≤ 1 ⌝ }
 {
     if l == u { 1 } else { 0 }
 }
 
 // How many singles and pairs ascending numbers make.
-pub fn count_kept(numbers: &[u32]) -> Kept
+pub fn count_kept(numbers: &[u32]) -> ListCounts
     requires { ⌜ badNumberOf (now numbers) ≡ Found.Nowhere ⌝ }
-    ensures { λ r. ⌜ KeptOf (now (numbers .entry)) r ⌝ }
+    ensures { λ r. ⌜ ListCountsOf (now (numbers .entry)) r ⌝ }
 {
     let mut singles: usize = 0;
     let mut pairs: usize = 0;
@@ -40,14 +41,14 @@ pub fn count_kept(numbers: &[u32]) -> Kept
         pairs += 1 - alone;
         i = run.next;
     }
-    Kept {
+    ListCounts {
         singles: singles,
         pairs: pairs,
     }
 }
 
 // Reference 3.4: the bytes of a kept list.
-pub fn list_size(kept: Kept) -> usize
+pub fn list_size(kept: ListCounts) -> usize
     requires { ⌜ 4 * (kept .singles + 2 * kept .pairs) ≤ 18446744073709551615 ⌝ }
     ensures { λ r. ⌜ r ≡ 4 * (kept .singles + 2 * kept .pairs) ⌝ }
 {

@@ -9,15 +9,6 @@ use Rattle.build.proofs.WriteLaws.{four-bytes}
 use Rattle.build.proofs.cells.put_cell.Statement.{statement}
 use Rattle.build.proofs.cells.put_cell.Tie as tie
 
-slice-write-out-2 : tie.Need-slice-write-out-2
-slice-write-out-2 c = simp length-set (omega arith)
-
-slice-write-out-3 : tie.Need-slice-write-out-3
-slice-write-out-3 c = simp length-set (omega arith)
-
-slice-write-out-4 : tie.Need-slice-write-out-4
-slice-write-out-4 c = simp length-set (omega arith)
-
 returns : tie.Need-returns
 returns c =
     let start = c .before .before .before .before .before .args in
@@ -29,6 +20,6 @@ pub put-cell-spec : {M : Type 1} → statement M
 put-cell-spec =
     tie.close
     (tie.spec
-    (λ c κs. search needs) (λ c. search needs) (λ c κs. search needs) (λ c. search needs) slice-write-out-2
-    (λ c κs. search needs) (λ c. search needs) slice-write-out-3 (λ c κs. search needs) (λ c. search needs)
-    slice-write-out-4 (λ c. search needs) returns)
+    (λ c κs. search needs) (λ c. search needs) (λ c κs. search needs) (λ c. search needs) (λ c. simp length-set (omega arith))
+    (λ c κs. search needs) (λ c. search needs) (λ c. simp length-set (omega arith)) (λ c κs. search needs) (λ c. search needs)
+    (λ c. simp length-set (omega arith)) (λ c. search needs) returns)

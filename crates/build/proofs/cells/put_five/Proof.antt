@@ -8,8 +8,12 @@ use Rattle.build.proofs.cells.put_five.Tie as tie
 
 returns : tie.Need-returns
 returns c =
-    let start = c .before .before .before .before .before .before .before .before .before .before .before .before .before .before .before .before .before .before .before .before .before .args in
-    rw (c .before .before .put-cell5 .ensures, c .before .before .before .before .before .before .put-cell4 .ensures, c .before .before .before .before .before .before .before .before .before .before .put-cell3 .ensures, c .before .before .before .before .before .before .before .before .before .before .before .before .before .before .put-cell2 .ensures, c .before .before .before .before .before .before .before .before .before .before .before .before .before .before .before .before .before .before .put-cell .ensures)
+    let fourth = c .before .before .before .before .before .before in
+    let third = fourth .before .before .before .before in
+    let second = third .before .before .before .before in
+    let first = second .before .before .before .before in
+    let start = first .before .before .before .args in
+    rw (c .before .before .put-cell5 .ensures, fourth .put-cell4 .ensures, third .put-cell3 .ensures, second .put-cell2 .ensures, first .put-cell .ensures)
     (sym (five-cells (now (start .out)) (start .at) (start .a) (start .b) (start .c) (start .d) (start .e)))
 
 pub put-five-spec : {M : Type 1} → statement M

@@ -15,9 +15,6 @@ Inv-loop out₀ bytes i₀ out i = (i ≤ length bytes) × (length out ≡ lengt
 abbrev μ-loop : tie.MeasureT-loop
 μ-loop out₀ bytes i₀ out i = length bytes - i
 
-loop-holds : tie.Need-loop-holds Inv-loop μ-loop
-loop-holds c = (search needs, refl, refl)
-
 loop-again : tie.Need-loop-again Inv-loop μ-loop
 loop-again c =
     let at = c .before .before .loop in
@@ -27,9 +24,6 @@ loop-again c =
       simp length-set (at .inv .1),
       at .inv .2 ∙ next ∙ sets-one (at .out) (at .i) (getD bytes (at .i) 0) (drop (at .i + 1) bytes),
     )
-
-same-length : tie.Need-same-length Inv-loop μ-loop
-same-length c = c .before .loop .inv .1
 
 returns : tie.Need-returns Inv-loop μ-loop
 returns c =
@@ -43,5 +37,5 @@ pub write-bytes-spec : {M : Type 1} → statement M
 write-bytes-spec =
     tie.close
     (tie.spec
-    Inv-loop μ-loop loop-holds (λ c. search needs) (λ c. search needs) (λ c. search needs) (λ c. search needs)
-    loop-again same-length returns)
+    Inv-loop μ-loop (λ c. (search needs, refl, refl)) (λ c. search needs) (λ c. search needs) (λ c. search needs)
+    (λ c. search needs) loop-again (λ c. c .before .loop .inv .1) returns)

@@ -1,6 +1,6 @@
 -- Each piece by what its callee promises, said of the whole output (WriteLaws).
 use mathlib.Core.Path.{_≡_}
-use Prim.Native.Nat.{_-_}
+use Prim.Native.Nat.{_+_, _*_, _-_, _≤_}
 use native.Mathlib.Omega.{arith}
 use lib.ListN.{length}
 use denote.Ref.{now}
@@ -13,19 +13,12 @@ use Rattle.build.proofs.WriteLaws.{tail-sets, word-entered, tail-length
 use Rattle.build.proofs.entry.write_word.Statement.{statement}
 use Rattle.build.proofs.entry.write_word.Tie as tie
 
-cast-put-five-4 : tie.Need-cast-put-five-4
-cast-put-five-4 c =
-    let kept = c .before .before .before .before .before .before .before .before .before .before .count-kept .ensures in
-    let start = c .before .before .before .before .before .before .before .before .before .before .before .before .before .before in
-    let long = kept-length (intervalsOf (now (start .args .numbers))) in
-    omega (arith, kept .singles, kept .pairs, start .pre .1 .list, start .pre .1 .bytes, start .pre .1 .small)
-
-cast-put-five-5 : tie.Need-cast-put-five-5
-cast-put-five-5 c =
-    let kept = c .before .before .before .before .before .before .before .before .before .before .before .count-kept .ensures in
-    let start = c .before .before .before .before .before .before .before .before .before .before .before .before .before .before .before in
-    let long = kept-length (intervalsOf (now (start .args .numbers))) in
-    omega (arith, kept .singles, kept .pairs, start .pre .1 .list, start .pre .1 .bytes, start .pre .1 .small)
+-- the list's counts are no more than the bytes before the entry
+few : (c : tie.After-count-kept) → 4 * (c .count-kept .result .singles + 2 * c .count-kept .result .pairs) ≤ c .before .before .before .before .args .at .entry
+few c =
+    let start = c .before .before .before .before in
+    let kept = c .count-kept .ensures in
+    omega (arith, kept-length (intervalsOf (now (start .args .numbers))), kept .singles, kept .pairs, start .pre .1 .list, start .pre .1 .bytes)
 
 returns : tie.Need-returns
 returns c =
@@ -54,5 +47,6 @@ write-word-spec =
     (tie.spec
     (λ c κs. search needs) (λ c. search needs) (λ c. search needs) (λ c. search needs) (λ c κs. search needs)
     (λ c. search needs) (λ c. search needs) (λ c. search needs) (λ c κs. search needs) (λ c. search needs)
-    (λ c. search needs) (λ c. search needs) cast-put-five-4 cast-put-five-5 (λ c κs. search needs)
+    (λ c. search needs) (λ c. search needs) (λ c. omega (arith, few (c .before .before .before .before .before .before .before .before .before .before)))
+    (λ c. omega (arith, few (c .before .before .before .before .before .before .before .before .before .before .before))) (λ c κs. search needs)
     (λ c κs. search needs) (λ c. search needs) (λ c. search needs) (λ c. search needs) (λ c. search needs) returns)

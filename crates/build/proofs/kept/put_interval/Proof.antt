@@ -20,15 +20,6 @@ single c = rw (eq-eqb (c .before .before .args .l) (c .before .before .args .u) 
 pair : (c : tie.Else1) → (c .before .before .args .at .lower + 4 ≤ length (now (c .before .before .args .out))) × (c .before .before .args .at .upper + 4 ≤ length (now (c .before .before .args .out)))
 pair c = rw (ne-eqb (c .before .before .args .l) (c .before .before .args .u) (c .if1 .left)) at (c .before .before .pre)
 
-put-cell-requires-3 : tie.Need-put-cell-requires-3
-put-cell-requires-3 c κs = let w = pair (c .before .before .before .before .before) in omega arith
-
-add-t16 : tie.Need-add-t16
-add-t16 c = let w = pair (c .before .before .before .before .before .before .before .before .before) in omega arith
-
-add-t17 : tie.Need-add-t17
-add-t17 c = let w = pair (c .before .before .before .before .before .before .before .before .before .before) in omega arith
-
 returns : tie.Need-returns
 returns c =
     let start = c .before .before .before .before .before .before .before in
@@ -50,5 +41,8 @@ put-interval-spec =
     tie.close
     (tie.spec
     (λ c κs. single (c .before)) (λ c. let w = single (c .before .before .before .before .before) in omega arith)
-    (λ c κs. let w = pair (c .before) in omega arith) put-cell-requires-3 add-t16 add-t17 (λ c. search needs) returns
+    (λ c κs. let w = pair (c .before) in omega arith)
+    (λ c κs. let w = pair (c .before .before .before .before .before) in omega arith)
+    (λ c. let w = pair (c .before .before .before .before .before .before .before .before .before) in omega arith)
+    (λ c. let w = pair (c .before .before .before .before .before .before .before .before .before .before) in omega arith) (λ c. search needs) returns
     (λ c. search needs) returns-2)

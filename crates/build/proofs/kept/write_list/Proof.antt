@@ -3,13 +3,14 @@ use mathlib.Core.Path.{_≡_, refl, sym, ap, _∙_}
 use Prim.Native.Nat.{ℕ, _≤_, _-_, _+_, _*_}
 use native.Mathlib.Omega.{arith}
 use mathlib.Core.List.{List, _∷_}
+use lib.Dec.{eqb}
 use lib.ListN.{length, drop}
 use denote.Ref.{now}
 use borrow.Author.Needs.{needs}
 use Rattle.convert.specs.Convert.{intervalsOf}
 use Rattle.convert.proofs.RunLaws.{intervals-none}
 use Rattle.build.proofs.KeptBytesLaws.{kept-length}
-use Rattle.build.proofs.WriteLaws.{keptPlan, Placed, kept-laid, laid-within, placed-on, laid-length, kept-done, placed-start, kept-start}
+use Rattle.build.proofs.WriteLaws.{keptPlan, PlacedFor, kept-laid, placed-on, laid-length, kept-done, placed-start, kept-start}
 use Rattle.build.proofs.kept.write_list.Statement.{statement}
 use Rattle.build.proofs.kept.write_list.Tie as tie
 
@@ -17,7 +18,7 @@ abbrev Inv-loop : tie.InvT-loop
 Inv-loop out₀ numbers at₀ i₀ out at i =
     (i ≤ length numbers)
     × (length out ≡ length out₀)
-    × Placed at (intervalsOf (drop i numbers)) (length out₀)
+    × PlacedFor at (intervalsOf (drop i numbers)) (length out₀)
     × (keptPlan out₀ at₀ (intervalsOf numbers) ≡ keptPlan out at (intervalsOf (drop i numbers)))
 
 abbrev μ-loop : tie.MeasureT-loop
@@ -42,15 +43,14 @@ rest c = intervalsOf (drop (c .next-run .result .next) (now (c .before .before .
 abbrev room : tie.After-next-run Inv-loop μ-loop → ℕ
 room c = length (now (c .before .before .before .before .before .before .before .args .out))
 
-here : (c : tie.After-next-run Inv-loop μ-loop) → Placed (c .before .before .loop .at) (c .next-run .result .lower ∷ c .next-run .result .upper ∷ rest c) (room c)
+here : (c : tie.After-next-run Inv-loop μ-loop) → PlacedFor (c .before .before .loop .at) (c .next-run .result .lower ∷ c .next-run .result .upper ∷ rest c) (room c)
 here c = rw (c .next-run .ensures .cells) at (c .before .before .loop .inv .2)
 
 put-interval-requires : tie.Need-put-interval-requires Inv-loop μ-loop
 put-interval-requires c κs =
     let n = c .before in
     let at = n .before .before .loop in
-    let run = n .next-run .result in
-    rw (at .inv .1) (laid-within (at .out) (at .at) (run .lower) (run .upper) (rest n) (room n) (here n))
+    rw (at .inv .1) (placed-on (at .at) (n .next-run .result .lower) (n .next-run .result .upper) (rest n) (here n) .0)
 
 loop-again : tie.Need-loop-again Inv-loop μ-loop
 loop-again c =
@@ -60,9 +60,9 @@ loop-again c =
     let u = n .next-run .result .upper in
     let put = c .before .before .put-interval .ensures in (
       n .next-run .ensures .within,
-      rw (put .0) (laid-length (at .out) (at .at) l u ∙ at .inv .1),
-      rw (put .1) (placed-on (at .out) (at .at) l u (rest n) (room n) (here n)),
-      rw (put .0, put .1) (at .inv .3 ∙ ap (keptPlan (at .out) (at .at)) (n .next-run .ensures .cells) ∙ kept-laid (at .out) (at .at) l u (rest n) (room n) (here n)),
+      rw (put .0) (laid-length (eqb l u) (at .out) (at .at) l u ∙ at .inv .1),
+      rw (put .1) (placed-on (at .at) l u (rest n) (here n) .1),
+      rw (put .0, put .1) (at .inv .3 ∙ ap (keptPlan (at .out) (at .at)) (n .next-run .ensures .cells) ∙ kept-laid (at .at) l u (rest n) (here n) (at .out)),
     )
 
 returns : tie.Need-returns Inv-loop μ-loop

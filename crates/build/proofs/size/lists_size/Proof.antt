@@ -45,40 +45,27 @@ abbrev list : tie.In-loop Inv-loop μ-loop → List ℕ
 list c = take (end c - c .before .loop .start) (drop (c .before .loop .start) (numbers c))
 
 within : (c : tie.In-loop Inv-loop μ-loop) → end c ≤ length (numbers c)
-within c =
-    let at = c .before .loop in
-    list-within (counts c) (numbers c) (at .i) (at .start) (end c) (omega arith) (at .inv .1) refl (c .before .before .before .before .pre)
+within c = list-within (c .before .before .before .before .pre) (c .before .loop .i) (c .loop-test .taken) (c .before .loop .inv .1) refl
 
 long : (c : tie.In-loop Inv-loop μ-loop) → length (list c) ≡ getD (counts c) (c .before .loop .i) 0
-long c =
-    let at = c .before .loop in
-    list-long (counts c) (numbers c) (at .i) (at .start) (end c) (omega arith) (at .inv .1) refl (c .before .before .before .before .pre)
-
-cast-end : tie.Need-cast-end Inv-loop μ-loop
-cast-end c = omega (arith, c .shared-slice-known3 .given (c .before .before .loop .i))
+long c = list-long (c .before .before .before .before .pre) (c .before .loop .i) (c .loop-test .taken) (c .before .loop .inv .1) refl
 
 count-kept-requires : tie.Need-count-kept-requires Inv-loop μ-loop
 count-kept-requires c κs =
     let n = c .before .before in
-    let at = n .before .loop in
-    list-good (counts n) (numbers n) (at .i) (at .start) (end n) (omega arith) (at .inv .1) refl (n .before .before .before .before .pre)
+    list-good (n .before .before .before .before .pre) (n .before .loop .i) (n .loop-test .taken) (n .before .loop .inv .1) refl
 
-list-size-requires : tie.Need-list-size-requires Inv-loop μ-loop
-list-size-requires c κs =
-    let n = c .before .before .before in
-    omega (arith, within n, long n, c .count-kept .ensures .most)
-
-add-size : tie.Need-add-size Inv-loop μ-loop
-add-size c =
-    let n = c .before .before .before .before in
-    omega (arith, within n, long n, c .before .count-kept .ensures .most, c .list-size .ensures)
+-- its cells are no more than its numbers
+most : (c : tie.After-count-kept Inv-loop μ-loop) →
+    c .before .before .before .before .loop .start + (c .count-kept .result .singles + 2 * c .count-kept .result .pairs) ≤ length (numbers (c .before .before .before))
+most c = let n = c .before .before .before in omega (arith, within n, long n, c .count-kept .ensures .most)
 
 loop-again : tie.Need-loop-again Inv-loop μ-loop
 loop-again c =
     let n = c .before .before .before .before in
     let at = n .before .loop in
     let kept = c .before .count-kept .ensures in
-    let next = ap (λ (xss : List (List ℕ)). length (listsBytes top xss)) (lists-next (counts n) (numbers n) (at .i) (at .start) (end n) (omega arith) (at .inv .1) refl) in
+    let next = ap (λ (xss : List (List ℕ)). length (listsBytes top xss)) (lists-next (counts n) (numbers n) (at .i) (at .start) (n .loop-test .taken) refl) in
     let bytes = lists-bytes-next top (list n) (listsFrom (drop (at .i + 1) (counts n)) (drop (end n) (numbers n))) in (
       search needs,
       omega (arith, sum-next (counts n) (at .i)),
@@ -100,6 +87,7 @@ pub lists-size-spec : {M : Type 1} → statement M
 lists-size-spec =
     tie.close
     (tie.spec
-    Inv-loop μ-loop loop-holds (λ c. search needs) (λ c. search needs) cast-end (λ c. omega (arith, within (c .before))) (λ c. search needs)
-    (λ c. search needs) (λ c. search needs) (λ c. omega (arith, within (c .before))) count-kept-requires list-size-requires add-size
-    (λ c. search needs) (λ c. search needs) loop-again returns)
+    Inv-loop μ-loop loop-holds (λ c. search needs) (λ c. search needs)
+    (λ c. omega (arith, c .shared-slice-known3 .given (c .before .before .loop .i))) (λ c. omega (arith, within (c .before))) (λ c. search needs)
+    (λ c. search needs) (λ c. search needs) (λ c. omega (arith, within (c .before))) count-kept-requires (λ c κs. omega (arith, most c))
+    (λ c. omega (arith, most (c .before), c .list-size .ensures)) (λ c. search needs) (λ c. search needs) loop-again returns)
