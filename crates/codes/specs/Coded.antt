@@ -6,16 +6,16 @@ use lib.ListN.{length, take}
 use Rattle.question.specs.declared.token.Token.{Token}
 use Rattle.question.specs.declared.token.Token.the-variants.{End, Word, Op, Open, Close, Other}
 use Rattle.question.specs.Token.{tokens}
-use Rattle.codes.specs.Code.{opCode, codesOf}
+use Rattle.codes.specs.Code.{wordCode, openCode, closeCode, noCode, opCode, codesOf}
 
 -- the code of the token that stands next; the end has none
 abbrev pub tokenCode : Token → ℕ
-tokenCode (End p) = 6
-tokenCode (Word p q) = 0
+tokenCode (End p) = noCode
+tokenCode (Word p q) = wordCode
 tokenCode (Op o p q) = opCode o
-tokenCode (Open p) = 4
-tokenCode (Close p) = 5
-tokenCode (Other p) = 6
+tokenCode (Open p) = openCode
+tokenCode (Close p) = closeCode
+tokenCode (Other p) = noCode
 
 -- the first n of the cells are the question's codes
 pub record Coded (question codes codes′ : List ℕ) (n : ℕ) : Type 0 where

@@ -4,6 +4,13 @@ ghost use Prim.Native.Nat.{_≤_};
 ghost use lib.ListN.{length};
 ghost use Rattle.codes.specs.Code.{opCode};
 ghost use Rattle.codes.specs.Coded.{tokenCode, Coded};
+use crate::code::AND_CODE;
+use crate::code::CLOSE_CODE;
+use crate::code::NO_CODE;
+use crate::code::NOT_CODE;
+use crate::code::OPEN_CODE;
+use crate::code::OR_CODE;
+use crate::code::WORD_CODE;
 use question::token::Op;
 use question::token::Token;
 use question::token::next_token;
@@ -13,9 +20,9 @@ fn op_code(o: Op) -> u8
     ensures { λ r. ⌜ r ≡ opCode o ⌝ }
 {
     match o {
-        Op::And => 1,
-        Op::Or => 2,
-        Op::Not => 3,
+        Op::And => AND_CODE,
+        Op::Or => OR_CODE,
+        Op::Not => NOT_CODE,
     }
 }
 
@@ -23,12 +30,12 @@ fn token_code(token: Token) -> u8
     ensures { λ r. ⌜ r ≡ tokenCode token ⌝ }
 {
     match token {
-        Token::End(_) => 6,
-        Token::Word(_, _) => 0,
+        Token::End(_) => NO_CODE,
+        Token::Word(_, _) => WORD_CODE,
         Token::Op(o, _, _) => op_code(o),
-        Token::Open(_) => 4,
-        Token::Close(_) => 5,
-        Token::Other(_) => 6,
+        Token::Open(_) => OPEN_CODE,
+        Token::Close(_) => CLOSE_CODE,
+        Token::Other(_) => NO_CODE,
     }
 }
 
