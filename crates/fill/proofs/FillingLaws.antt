@@ -71,33 +71,45 @@ among-none x (y ∷ S) g =
     let w = g 0 (omega arith) in
     rw (ne-eqb x y (λ e. let z : x ≡ y = e in omega arith)) (among-none x S (λ m l. g (suc m) (omega arith)))
 
--- what a window has of the singles, with those from i on left
-abbrev pub SinglesFilling : List ℕ → ℕ → List ℕ → ℕ → List ℕ → Type 0
-SinglesFilling S base ws₀ i ws = Filling (among S) (among (drop i S)) base ws₀ ws
+-- what a window has of the singles, with those from i on left, none of which lies below base
+pub record SinglesFilling (S : List ℕ) (base : ℕ) (ws₀ : List ℕ) (i : ℕ) (ws : List ℕ) : Type 0 where
+  pub few : i ≤ length S
+  pub passed : countBelow base S ≤ i
+  pub filling : Filling (among S) (among (drop i S)) base ws₀ ws
 
-module _ (S : List ℕ) (ascends : Ascends S) (base : ℕ) (ws₀ ws : List ℕ) where
-  pub singles-start : (i : ℕ) → i ≡ countBelow base S → SinglesFilling S base ws₀ i ws₀
-  singles-start i e =
-      filling-start (among S) base (among (drop i S)) ws₀
-      (λ n. let l = count-length base S in
-      among-drop (base + n) S i (omega arith) (λ m h. let w = count-passed 0 base S ascends m (omega arith) in omega arith))
+pub singles-start : {S : List ℕ} {base i : ℕ} {ws : List ℕ} → Ascends S → i ≡ countBelow base S → SinglesFilling S base ws i ws
+singles-start {S} {base} {i} ascends e =
+    let few = count-length base S in
+    record {
+      few = omega arith;
+      passed = omega arith;
+      filling = filling-start (λ n. among-drop (base + n) S i (omega arith) (λ m h. omega (arith, count-passed 0 base S ascends m (omega arith))));
+    }
 
-  pub singles-step : (i s : ℕ) (ws′ : List ℕ) → i < length S → s ≡ getD S i 0 → base ≤ s → SinglesFilling S base ws₀ i ws → Filled ws (s - base) (s - base + 1) ws′ → SinglesFilling S base ws₀ (i + 1) ws′
-  singles-step i s ws′ h e g f k =
-      filling-step (among S) base (among (drop i S)) (among (drop (i + 1) S)) (s - base) (s - base + 1) ws₀ ws ws′ f k
-      (λ n l. let w : eqb (base + n) (getD S i 0) ≡ within (s - base) (s - base + 1) n = rw (← e) (single-within base s n g) in
-      among-next (base + n) S i h ∙ ap (λ (t : Bool). t || among (drop (i + 1) S) (base + n)) w)
-
-  pub singles-done : (i : ℕ) → length S ≤ i → SinglesFilling S base ws₀ i ws → Added (among S) base ws₀ ws
+module _ {S : List ℕ} {base : ℕ} {ws₀ : List ℕ} {i : ℕ} {ws : List ℕ} (ascends : Ascends S) (f : SinglesFilling S base ws₀ i ws) where
+  pub singles-done : length S ≤ i → Added (among S) base ws₀ ws
   unfolding among
-  singles-done i h f = filling-end (among S) base (among (drop i S)) ws₀ ws f (λ n l. rw (drop-none S i h))
+  singles-done h = filling-end (f .filling) (λ n l. rw (drop-none S i h))
 
-  -- the single at i lies behind the window
-  pub singles-past : (i s : ℕ) → i < length S → s ≡ getD S i 0 → base + 64 * length ws₀ ≤ s → SinglesFilling S base ws₀ i ws → Added (among S) base ws₀ ws
-  singles-past i s h e g f =
-      filling-end (among S) base (among (drop i S)) ws₀ ws f
-      (λ n l. let d = length-drop i S in
-      among-none (base + n) (drop i S) (λ m w. rw (getD-drop i S m 0) (let z = ahead S ascends (base + 64 * length ws₀) i (i + m) h (omega arith) (omega arith) (omega arith) in omega arith)))
+  -- the single at i
+  module _ {s : ℕ} (h : i < length S) (e : s ≡ getD S i 0) where
+    pub singles-ahead : base ≤ s
+    singles-ahead = omega (arith, count-ahead 0 base S ascends i h (f .passed))
+
+    pub singles-step : {ws′ : List ℕ} → Filled ws (s - base) (s - base + 1) ws′ → SinglesFilling S base ws₀ (i + 1) ws′
+    singles-step k = record {
+      few = omega arith;
+      passed = omega (arith, f .passed);
+      filling = filling-step (f .filling) k (λ n l. let w : eqb (base + n) (getD S i 0) ≡ within (s - base) (s - base + 1) n = rw (← e) (single-within base s n singles-ahead) in
+          among-next (base + n) S i h ∙ ap (λ (t : Bool). t || among (drop (i + 1) S) (base + n)) w);
+    }
+
+    -- it lies behind the window
+    pub singles-past : base + 64 * length ws₀ ≤ s → Added (among S) base ws₀ ws
+    singles-past g =
+        filling-end (f .filling)
+        (λ n l. among-none (base + n) (drop i S) (λ m w. rw (getD-drop i S m 0) (let d = length-drop i S in
+        omega (arith, ahead S ascends (base + 64 * length ws₀) i (i + m) h (omega arith) (omega arith) (omega arith)))))
 
 -- ---- the pairs
 
@@ -128,9 +140,11 @@ pairs-ahead x L U q a e g =
     names-none x (drop q L) (drop q U) (omega arith)
     (λ m w. rw (getD-drop q L m 0) (let z = ahead L a (x + 1) q (q + m) (omega arith) (let y = g (omega arith) in omega arith) (omega arith) (omega arith) in omega arith))
 
--- what a window has of the pairs, with those from q on left
-abbrev pub PairsFilling : List ℕ → List ℕ → ℕ → List ℕ → ℕ → List ℕ → Type 0
-PairsFilling L U base ws₀ q ws = Filling (names (walked [] L U)) (names (pairs (drop q L) (drop q U))) base ws₀ ws
+-- what a window has of the pairs, with those from q on left, none of which ends before base
+pub record PairsFilling (L U : List ℕ) (base : ℕ) (ws₀ : List ℕ) (q : ℕ) (ws : List ℕ) : Type 0 where
+  pub few : q ≤ length L
+  pub passed : countBelow base U ≤ q
+  pub filling : Filling (names (walked [] L U)) (names (pairs (drop q L) (drop q U))) base ws₀ ws
 
 -- the pairs of a kept list
 pub kept-apart : (n : ℕ) (S L U : List ℕ) → isKept n S L U ≡ true → Apart L U
@@ -153,21 +167,32 @@ walked-pairs L U kept x = walked-names [] L U (kept .long) x
 pub walked-both : (S L U : List ℕ) → Apart L U → (x : ℕ) → among S x || names (walked [] L U) x ≡ names (walked S L U) x
 walked-both S L U kept x = ap (λ (t : Bool). among S x || t) (walked-pairs L U kept x) ∙ sym (walked-names S L U (kept .long) x)
 
-module _ (L U : List ℕ) (kept : Apart L U) (base : ℕ) (ws₀ ws : List ℕ) where
-  pub pairs-start : (q : ℕ) → q ≡ countBelow base U → PairsFilling L U base ws₀ q ws₀
-  pairs-start q e =
-      filling-start (names (walked [] L U)) base (names (pairs (drop q L) (drop q U))) ws₀
-      (λ n. let l = count-length base U in let w = kept .long in
-      walked-pairs L U kept (base + n)
-      ∙ names-drop (base + n) L U q w (omega arith) (λ m h. let v = count-passed 0 base U (kept .upper-ascend) m (omega arith) in omega arith))
+pub pairs-start : {L U : List ℕ} {base q : ℕ} {ws : List ℕ} → Apart L U → q ≡ countBelow base U → PairsFilling L U base ws q ws
+pairs-start {L} {U} {base} {q} kept e =
+    let few = count-length base U in
+    let long = kept .long in
+    record {
+      few = omega arith;
+      passed = omega arith;
+      filling = filling-start (λ n. walked-pairs L U kept (base + n)
+          ∙ names-drop (base + n) L U q long (omega arith) (λ m h. omega (arith, count-passed 0 base U (kept .upper-ascend) m (omega arith))));
+    }
 
-  pub pairs-done : (q : ℕ) → length L ≤ q → PairsFilling L U base ws₀ q ws → Added (names (walked [] L U)) base ws₀ ws
-  pairs-done q h f = filling-end (names (walked [] L U)) base (names (pairs (drop q L) (drop q U))) ws₀ ws f (λ n l. pairs-ahead (base + n) L U q (kept .lower-ascend) (kept .long) (λ w. absurd (omega arith)))
+module _ {L U : List ℕ} {base : ℕ} {ws₀ : List ℕ} {q : ℕ} {ws : List ℕ} (kept : Apart L U) (f : PairsFilling L U base ws₀ q ws) where
+  pub pairs-done : length L ≤ q → Added (names (walked [] L U)) base ws₀ ws
+  pairs-done h = filling-end (f .filling) (λ n l. pairs-ahead (base + n) L U q (kept .lower-ascend) (kept .long) (λ w. absurd (omega arith)))
+
+  -- the pair at q begins behind the window
+  pub pairs-past : {l : ℕ} → l ≡ getD L q 0 → base + 64 * length ws₀ ≤ l → Added (names (walked [] L U)) base ws₀ ws
+  pairs-past e g = filling-end (f .filling) (λ n w. pairs-ahead (base + n) L U q (kept .lower-ascend) (kept .long) (λ v. omega arith))
 
   -- the pair at q
-  module _ (q l u : ℕ) (h : q < length L) (el : l ≡ getD L q 0) (eu : u ≡ getD U q 0) (f : PairsFilling L U base ws₀ q ws) where
-    pub pairs-past : base + 64 * length ws₀ ≤ l → Added (names (walked [] L U)) base ws₀ ws
-    pairs-past g = filling-end (names (walked [] L U)) base (names (pairs (drop q L) (drop q U))) ws₀ ws f (λ n w. pairs-ahead (base + n) L U q (kept .lower-ascend) (kept .long) (λ v. omega arith))
+  module _ {l u : ℕ} (h : q < length L) (el : l ≡ getD L q 0) (eu : u ≡ getD U q 0) where
+    -- it ends behind its start, and not before base
+    pub pairs-order : (l ≤ u) × (base ≤ u)
+    pairs-order =
+        let long = kept .long in
+        (omega (arith, kept .order q h), omega (arith, count-ahead 0 base U (kept .upper-ascend) q (omega arith) (f .passed)))
 
     pair-here : (e : ℕ) → ((n : ℕ) → n < 64 * length ws₀ → base + n ≤ u → n < e) → ((n : ℕ) → n < e → base + n ≤ u) → (n : ℕ) → n < 64 * length ws₀ →
         names (pairs (drop q L) (drop q U)) (base + n) ≡ within (l - base) e n || names (pairs (drop (q + 1) L) (drop (q + 1) U)) (base + n)
@@ -175,15 +200,17 @@ module _ (L U : List ℕ) (kept : Apart L U) (base : ℕ) (ws₀ ws : List ℕ) 
         let v : leb (getD L q 0) (base + n) && leb (base + n) (getD U q 0) ≡ within (l - base) e n = rw (← el, ← eu) (pair-within base l u e n (a n w) (b n)) in
         names-next (base + n) L U q (kept .long) h ∙ ap (λ (t : Bool). t || names (pairs (drop (q + 1) L) (drop (q + 1) U)) (base + n)) v
 
-    pub pairs-step : (ws′ : List ℕ) → base ≤ u → Filled ws (l - base) (u - base + 1) ws′ → PairsFilling L U base ws₀ (q + 1) ws′
-    pairs-step ws′ g k =
-        filling-step (names (walked [] L U)) base (names (pairs (drop q L) (drop q U))) (names (pairs (drop (q + 1) L) (drop (q + 1) U))) (l - base) (u - base + 1) ws₀ ws ws′ f k
-        (pair-here (u - base + 1) (λ n w v. omega arith) (λ n w. omega arith))
+    pub pairs-step : {ws′ : List ℕ} → Filled ws (l - base) (u - base + 1) ws′ → PairsFilling L U base ws₀ (q + 1) ws′
+    pairs-step k =
+        let order = pairs-order in
+        record {
+          few = omega arith;
+          passed = omega (arith, f .passed);
+          filling = filling-step (f .filling) k (pair-here (u - base + 1) (λ n w v. omega arith) (λ n w. omega arith));
+        }
 
-    -- the pair reaches past the window: it is filled to its end, and the next begins behind that
-    pub pairs-out : (e : ℕ) (ws′ : List ℕ) → e ≡ 64 * length ws₀ → base + e ≤ u → Filled ws (l - base) e ws′ → Added (names (walked [] L U)) base ws₀ ws′
-    pairs-out e ws′ s g k =
-        filling-end (names (walked [] L U)) base (names (pairs (drop (q + 1) L) (drop (q + 1) U))) ws₀ ws′
-        (filling-step (names (walked [] L U)) base (names (pairs (drop q L) (drop q U))) (names (pairs (drop (q + 1) L) (drop (q + 1) U))) (l - base) e ws₀ ws ws′ f k
-        (pair-here e (λ n w v. omega arith) (λ n w. omega arith)))
+    -- it reaches past the window: it is filled to its end, and the next begins behind that
+    pub pairs-out : {e : ℕ} {ws′ : List ℕ} → e ≡ 64 * length ws₀ → base + e ≤ u → Filled ws (l - base) e ws′ → Added (names (walked [] L U)) base ws₀ ws′
+    pairs-out {e} s g k =
+        filling-end {left = names (pairs (drop (q + 1) L) (drop (q + 1) U))} (filling-step (f .filling) k (pair-here e (λ n w v. omega arith) (λ n w. omega arith)))
         (λ n w. pairs-ahead (base + n) L U (q + 1) (kept .lower-ascend) (kept .long) (λ v. let z = kept .next q v in omega arith))

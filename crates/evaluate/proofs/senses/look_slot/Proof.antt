@@ -15,7 +15,7 @@ use Rattle.evaluate.proofs.senses.look_slot.Tie as tie
 returns : tie.Need-returns
 returns c =
     let start = c .before .before .before .before .before .before in
-    (refl, slot-out (start .args .index .now) (start .args .entries .now) (start .args .k) (start .args .x) (omega (arith, c .before .word-count .ensures .0)) (start .pre .2))
+    (refl, slot-out (start .args .index .now) (start .args .entries .now) (start .args .k) (start .args .x) (omega (arith, c .before .word-count .ensures .0)) (start .pre .1 .1))
 
 reading-place-requires : tie.Need-reading-place-requires
 reading-place-requires c κs =
@@ -35,7 +35,7 @@ sense-at-requires c κs =
       rw (c .before .before .before .before .before .before .before .before .before .singles-of .ensures, c .before .before .before .before .before .before .before .before .lower-of .ensures, c .before .before .before .before .before .before .before .upper-of .ensures)
           (list-kept index (start .pre .0 .sound) i (omega (arith, found .before .word-count .ensures .0))),
       c .before .before .before .before .reading-place .ensures,
-      start .pre .2,
+      start .pre .1 .1,
     )
 
 same-length : tie.Need-same-length

@@ -34,10 +34,10 @@ fill-list-requires c κs =
     let i = getD (a .entries .now) (a .k) 0 in
     let h : i < wordCount index = omega (arith, c .before .before .before .before .before .before .before .if1 .taken, c .before .before .before .before .before .before .before .before .word-count .ensures .0) in
     let k = list-kept index (st .pre .0 .sound) i h in
-    (rw (c .before .before .before .before .before .before .singles-of .ensures, c .before .before .before .before .before .lower-of .ensures, c .before .before .before .before .upper-of .ensures) k, c .before .reading-place .ensures, st .pre .2, st .pre .3)
+    (rw (c .before .before .before .before .before .before .singles-of .ensures, c .before .before .before .before .before .lower-of .ensures, c .before .before .before .before .upper-of .ensures) k, (c .before .reading-place .ensures, st .pre .1 .1))
 
 keep-hint-requires : tie.Need-keep-hint-requires
-keep-hint-requires c κs = let st = c .before .before .before .before .before .before .before .before .before .before .before .before .before .before .before .before .before .before in (st .pre .1, st .pre .0 .hints-long)
+keep-hint-requires c κs = let st = c .before .before .before .before .before .before .before .before .before .before .before .before .before .before .before .before .before .before in (st .pre .1 .0, st .pre .0 .hints-long)
 
 same-length : tie.Need-same-length
 same-length c = search needs

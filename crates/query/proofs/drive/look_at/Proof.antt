@@ -9,17 +9,17 @@ renew-senses-requires : tie.Need-renew-senses-requires
 renew-senses-requires c κs =
     let start = c .before .before .before .before .before .before .before in
     let slotted = start .pre .1 in
-    ((start .pre .0 .0, slotted .long), ((slotted .few, start .pre .0 .1), slotted .sensed))
+    (start .pre .0 .0, (slotted .long, (slotted .few, (start .pre .0 .1, slotted .sensed))))
 
 returns : tie.Need-returns
 returns c =
     let start = c .before .before .before .before .before .before .before .before .before .before .before .before .before .before in
     let a = start .args in
     let renewed = c .before .before .before .before .before .before .renew-senses .ensures in (
-      renewed .0,
+      (renewed .0, renewed .1 .0),
       (
-        renewed .1 .0,
-        λ t o. tree-steady (a .codes .now) (a .index .now) (a .entries .now) t o (a .slots) (a .x) _ _ (start .pre .1 .all) (renewed .1 .1) (c .look-level .ensures),
+        renewed .1 .1 .0,
+        λ t o. tree-steady (a .codes .now) (a .index .now) (a .entries .now) t o (a .slots) (a .x) _ _ (start .pre .1 .all) (renewed .1 .1 .1) (c .look-level .ensures),
       ),
     )
 

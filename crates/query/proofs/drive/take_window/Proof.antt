@@ -33,7 +33,7 @@ put-flips-requires c κs =
     let within = start .pre .1 .0 in
     let roomy = start .pre .1 .1 in
     let holds = tree-holds (a .codes .now) (a .index .now) (a .entries .now) (roomy .tree) (roomy .reads) (a .x) _ _ _ _ _ evaluated in
-    (within .2, omega arith, omega arith, λ w. window-room (testOf (a .index .now) (a .entries .now) (roomy .tree)) (a .x) (a .k) _ (a .out .now) holds (roomy .room w _ (omega arith)))
+    (within .2, (omega arith, (omega arith, λ w. window-room (testOf (a .index .now) (a .entries .now) (roomy .tree)) (a .x) (a .k) _ (a .out .now) holds (roomy .room w _ (omega arith)))))
 
 count-members-requires : tie.Need-count-members-requires
 count-members-requires c κs =
