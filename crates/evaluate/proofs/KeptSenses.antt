@@ -1,8 +1,8 @@
 -- Laws of kept senses: none says anything at first, what is said at x is said at each later record, and one slot is renewed.
-use Prim.Native.Nat.{ℕ, zero, suc, _+_, _/_, _≤_, _<_}
+use Prim.Native.Nat.{ℕ, _+_, _/_, _≤_, _<_}
 use native.Mathlib.Decide.{ℕ-discrete}
 use native.Mathlib.Omega.{arith}
-use mathlib.Core.Path.{_≡_, refl, sym, ap, _∙_, subst}
+use mathlib.Core.Path.{_≡_, sym, ap, _∙_, subst}
 use mathlib.Core.Bool.{Bool}
 use mathlib.Core.List.{List}
 use lib.ListN.{length, getD, set, replicate, length-set}
@@ -10,15 +10,11 @@ use lib.Seq.{getD-set-same, getD-set-other}
 use Rattle.laws.proofs.Tests.{leb-cases}
 use Rattle.list.specs.Interval.{top}
 use Rattle.list.specs.Sense.{Steady}
+use Rattle.window.proofs.HoldLaws.{zeros-at}
 use Rattle.evaluate.specs.Senses.{inIt, untilOf, Sensed, Known, Renewed}
 
-none : (n k : ℕ) → _≡_ {A = ℕ} (getD (replicate n 0) k 0) 0
-none zero k = refl
-none (suc n) zero = refl
-none (suc n) (suc k) = none n k
-
 pub sensed-none : (v : ℕ → ℕ → Bool) (n x : ℕ) → Sensed v (replicate n 0) x
-sensed-none v n x = record { near = λ k. omega (arith, none n k); same = λ k y h l. absurd (omega (arith, none n k)) }
+sensed-none v n x = record { near = λ k. omega (arith, zeros-at n k); same = λ k y h l. absurd (omega (arith, zeros-at n k)) }
 
 module _ (v : ℕ → ℕ → Bool) (senses : List ℕ) (x : ℕ) (s : Sensed v senses x) where
   pub sensed-later : (y : ℕ) → x ≤ y → Sensed v senses y

@@ -10,12 +10,15 @@ use Rattle.list.specs.Sense.{Steady}
 use Rattle.index.specs.Format.{wordCount, listOf}
 use Rattle.question.specs.declared.token.Op.{Op}
 use Rattle.question.specs.declared.token.Op.the-variants.{And, Or, Not}
-use Rattle.question.specs.Grammar.{Tree, word, pair, part, treeWords}
+use Rattle.question.specs.Token.{Tok}
+use Rattle.question.specs.Grammar.{Tree, Out, word, pair, part, treeWords}
 use Rattle.question.specs.Meaning.{combine}
 use Rattle.codes.specs.Code.{opCode}
+use Rattle.codes.specs.Reads.{Reads}
 use Rattle.slots.specs.Slots.{slotHas, slotFits}
 use Rattle.evaluate.specs.Senses.{untilOf, insideOf}
-use Rattle.evaluate.specs.Look.{Tells}
+use Rattle.evaluate.specs.declared.look.Look.{Look}
+use Rattle.evaluate.specs.Look.{Tells, Looks}
 use Rattle.slots.proofs.SlotLaws.{slot-lists, slot-lacks, slot-word, slot-part, slot-pair}
 
 -- ---- of equal tests, and of the opposite
@@ -23,12 +26,12 @@ use Rattle.slots.proofs.SlotLaws.{slot-lists, slot-lacks, slot-word, slot-part,
 pub steady-same : (p q : ℕ → Bool) (x : ℕ) (a : Bool) (u : ℕ) → ((y : ℕ) → p y ≡ q y) → Steady p x a u → Steady q x a u
 steady-same p q x a u e s = record { later = s .later; near = s .near; same = λ y h l. sym (e y) ∙ s .same y h l }
 
-pub steady-not : (p : ℕ → Bool) (x : ℕ) (a : Bool) (u : ℕ) → Steady p x a u → Steady (λ y. not (p y)) x (not a) u
-steady-not p x a u s = record { later = s .later; near = s .near; same = λ y h l. ap not (s .same y h l) }
+pub steady-not : {p : ℕ → Bool} {x : ℕ} {a : Bool} {u : ℕ} → Steady p x a u → Steady (λ y. not (p y)) x (not a) u
+steady-not s = record { later = s .later; near = s .near; same = λ y h l. ap not (s .same y h l) }
 
 -- ---- of two tests that both hold
 
-module _ (p q : ℕ → Bool) (x : ℕ) (a b : Bool) (u v : ℕ) (s : Steady p x a u) (t : Steady q x b v) where
+module _ {p q : ℕ → Bool} {x : ℕ} {a b : Bool} {u v : ℕ} (s : Steady p x a u) (t : Steady q x b v) where
   pub both-first-in : a ≡ true → b ≡ true → u ≤ v → Steady (λ y. p y && q y) x a u
   both-first-in e f h = record { later = s .later; near = s .near; same = λ y g l. rw (s .same y g l, t .same y g (omega arith), e, f) }
 
@@ -48,7 +51,7 @@ or-by-and true b = refl
 or-by-and false true = refl
 or-by-and false false = refl
 
-module _ (p q : ℕ → Bool) (x : ℕ) (a : Bool) (u : ℕ) where
+module _ (p q : ℕ → Bool) {x : ℕ} {a : Bool} {u : ℕ} where
   pub paired-and : (o : Op) → 1 ≡ opCode o → Steady (λ y. p y && q y) x a u → Steady (λ y. combine o (p y) (q y)) x a u
   paired-and And e s = s
   paired-and Or e s = absurd (omega arith)
@@ -109,3 +112,10 @@ module _ (senses : List ℕ) (k : ℕ) (a : Bool) (u : ℕ) where
       let l = length-append (treeWords left) (treeWords right) in
       tree-pair v k x a u o left right j e
       (paired (slotFits v left k) (slotFits v right j) x (s v slots x (omega arith) known) (t v slots x (omega arith) known))
+
+-- ---- of a look
+
+-- nothing could be read there
+pub looks-none : {reading : ℕ → List Tok → Out Tree} {codes : List ℕ} {i k : ℕ} {senses : List ℕ} {r : Look} → i ≤ length codes → r .code ≡ i →
+    ((f : ℕ) → Reads (reading f) codes i (r .code) (r .slot) (Tells senses k (r .inside) (r .until))) → Looks reading codes i k senses r
+looks-none h e reads = record { ahead = omega arith; inside = omega arith; reads = reads }

@@ -3,9 +3,13 @@ ghost use mathlib.Core.Path.{_≡_};
 ghost use Prim.Native.Nat.{_≤_};
 ghost use lib.ListN.{length, getD};
 ghost use Rattle.question.specs.Grammar.{fromLeft, question, operand};
+ghost use Rattle.codes.specs.Code.{wordCode, noCode};
 ghost use Rattle.evaluate.specs.Look.{Looks};
 use crate::sense_pair::pair_senses;
 use crate::senses::sense_of;
+use codes::code::CLOSE_CODE;
+use codes::code::OPEN_CODE;
+use codes::code::WORD_CODE;
 use codes::read::code_at;
 use codes::read::is_operator;
 use list::sense::Sense;
@@ -32,7 +36,8 @@ fn unread(code: usize) -> Look
 
 // The operands of a level, from the left.
 pub fn look_level(codes: &[u8], i: usize, k: usize, d: usize, senses: &[u32]) -> Look
-    requires { ⌜ (i ≤ length (now codes)) × (length (now senses) ≡ 16) ⌝ }
+    requires within { ⌜ i ≤ length (now codes) ⌝ }
+    requires long { ⌜ length (now senses) ≡ 16 ⌝ }
     ensures { λ r. ⌜ Looks (λ f. question fromLeft f d k) (now (codes .entry)) i k (now (senses .entry)) r ⌝ }
 {
     let first = look_operand(codes, i, k, d, senses);
@@ -68,10 +73,11 @@ pub fn look_level(codes: &[u8], i: usize, k: usize, d: usize, senses: &[u32]) ->
 
 // A word, or a level in brackets, of which d may still open. It is small, so that the words of a level are looked at without a call.
 fn look_operand(codes: &[u8], i: usize, k: usize, d: usize, senses: &[u32]) -> Look
-    requires { ⌜ (i ≤ length (now codes)) × (length (now senses) ≡ 16) ⌝ }
+    requires within { ⌜ i ≤ length (now codes) ⌝ }
+    requires long { ⌜ length (now senses) ≡ 16 ⌝ }
     ensures { λ r. ⌜ Looks (λ f. operand fromLeft f d k) (now (codes .entry)) i k (now (senses .entry)) r ⌝ }
 {
-    if code_at(codes, i) != 0 {
+    if code_at(codes, i) != WORD_CODE {
         return look_part(codes, i, k, d, senses);
     }
     if 16 <= k {
@@ -88,10 +94,12 @@ fn look_operand(codes: &[u8], i: usize, k: usize, d: usize, senses: &[u32]) -> L
 
 // A level in brackets.
 fn look_part(codes: &[u8], i: usize, k: usize, d: usize, senses: &[u32]) -> Look
-    requires { ⌜ (i ≤ length (now codes)) × (length (now senses) ≡ 16) × (getD (now codes) i 6 ≡ 0 → ⊥) ⌝ }
+    requires within { ⌜ i ≤ length (now codes) ⌝ }
+    requires long { ⌜ length (now senses) ≡ 16 ⌝ }
+    requires wordless { ⌜ (getD (now codes) i noCode ≡ wordCode → ⊥) ⌝ }
     ensures { λ r. ⌜ Looks (λ f. operand fromLeft f d k) (now (codes .entry)) i k (now (senses .entry)) r ⌝ }
 {
-    if code_at(codes, i) != 4 {
+    if code_at(codes, i) != OPEN_CODE {
         return unread(i);
     }
     if d == 0 {
@@ -99,7 +107,7 @@ fn look_part(codes: &[u8], i: usize, k: usize, d: usize, senses: &[u32]) -> Look
     }
     let part = look_level(codes, i + 1, k, d - 1, senses);
     let close = part.code;
-    if code_at(codes, close) != 5 {
+    if code_at(codes, close) != CLOSE_CODE {
         return unread(close);
     }
     Look {

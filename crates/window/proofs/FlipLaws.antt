@@ -11,10 +11,6 @@ use Rattle.list.proofs.StretchLaws.{turned-same, turned-append, turned-length}
 use Rattle.window.specs.Bit.{set?}
 use Rattle.window.specs.Flips.{odd, flips, before}
 
-pub flips-none : (p : ℕ → Bool) (b : Bool) (x : ℕ) → flips p b x 0 ≡ []
-unfolding flips
-flips-none p b x = refl
-
 -- ---- in two parts
 
 pub before-next : (p : ℕ → Bool) (x k : ℕ) → before p (p x) (x + 1) k ≡ p (x + k)

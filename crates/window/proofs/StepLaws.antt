@@ -13,20 +13,18 @@ use Rattle.laws.proofs.Lists.{sets-append}
 use Rattle.list.specs.Stretches.{turned, stretches, cellsOf, recordsFrom}
 use Rattle.list.proofs.StretchLaws.{stretches-end}
 use Rattle.list.proofs.SweepLaws.{Swept, members-on, members-all, members-none}
-use Rattle.window.specs.Window.{member, Holds}
-use Rattle.window.specs.Flips.{odd, flips, before}
+use Rattle.window.specs.Window.{membersOf, Holds}
+use Rattle.window.specs.Flips.{odd, flips, windowCells, before}
 use Rattle.window.proofs.FlipLaws.{stretches-past, flips-parity}
 use Rattle.window.proofs.MemberLaws.{records-held}
 use Rattle.window.proofs.SweepLaws.{part-turn, window-part, jump-part}
 use Rattle.window.specs.Steps.{PutCells, Constant, Stepped}
 
--- ---- cells put behind those that are done
+-- ---- no cell put behind those that are done
 
-pub put-wrote : (vs : List ℕ) (k : ℕ) (writing : Bool) (out out′ : List ℕ) (r : ℕ) → writing ≡ true → out′ ≡ sets out k vs → r ≡ k + length vs → PutCells vs k writing out out′ r
-put-wrote vs k writing out out′ r w e c = record { count = c; written = rw w e }
-
-pub put-counted : (vs : List ℕ) (k : ℕ) (writing : Bool) (out : List ℕ) (r : ℕ) → writing ≡ false → r ≡ k + length vs → PutCells vs k writing out out r
-put-counted vs k writing out r w c = record { count = c; written = rw w }
+pub put-none : (k : ℕ) (writing : Bool) (out : List ℕ) → PutCells [] k writing out out k
+put-none k true out = record { count = omega arith; written = refl }
+put-none k false out = record { count = omega arith; written = refl }
 
 -- ---- a jump and a window as steps
 
@@ -34,26 +32,22 @@ constant-records : (p : ℕ → Bool) (x y : ℕ) (v : Bool) → 1 ≤ x → x <
 constant-records p x y true h g c = omega (arith, members-on p x y h (omega arith), members-all p x y h (omega arith) c)
 constant-records p x y false h g c = omega (arith, members-on p x y h (omega arith), members-none p x y h (omega arith) c)
 
-pub stepped-jump : (p : ℕ → Bool) (v : Bool) (x y k recs : ℕ) (writing : Bool) (out out′ : List ℕ) (k′ recs′ : ℕ) → 1 ≤ x → x < y → Constant p x y v →
+-- a step whose cells are vs, and whose records are those of p
+stepped : {p : ℕ → Bool} {x m k recs : ℕ} {writing : Bool} {vs out out′ : List ℕ} {k′ recs′ : ℕ} → vs ≡ flips p (odd k) x m →
+    PutCells vs k writing out out′ k′ → recs′ ≡ recs + length (recordsFrom p x m) → Stepped p x m writing k recs out out′ k′ recs′
+stepped j put e = let here = rw j at put in record { cells = here .count; records = e; written = here .written }
+
+pub stepped-jump : {p : ℕ → Bool} {v : Bool} {x y k recs : ℕ} {writing : Bool} {out out′ : List ℕ} {k′ recs′ : ℕ} → 1 ≤ x → x < y → Constant p x y v →
     PutCells (turned (odd k) v x []) k writing out out′ k′ → recs′ ≡ recs + cond v (y - x) 0 → Stepped p x (y - x) writing k recs out out′ k′ recs′
-stepped-jump p v x y k recs writing out out′ k′ recs′ h g c put e =
-    let j : turned (odd k) v x [] ≡ flips p (odd k) x (y - x) = jump-part p v x k (y - x) (omega arith) (λ i l. c (x + i) (omega arith) (omega arith)) in
-    record {
-      cells = put .count ∙ ap (λ (vs : List ℕ). k + length vs) j;
-      records = e ∙ ap (λ (m : ℕ). recs + m) (sym (constant-records p x y v h g c));
-      written = put .written ∙ ap (λ (vs : List ℕ). cond writing (sets out k vs) out) j;
-    }
+stepped-jump {p} {v} {x} {y} {k} {recs} h g c put e =
+    stepped (jump-part p v x k (y - x) (omega arith) (λ i l. c (x + i) (omega arith) (omega arith))) put
+    (e ∙ ap (λ (m : ℕ). recs + m) (sym (constant-records p x y v h g c)))
 
 pub stepped-window : (p : ℕ → Bool) (x k recs : ℕ) (ws : List ℕ) (writing : Bool) (out out′ : List ℕ) (k′ recs′ : ℕ) → Holds p x ws →
-    PutCells (flips (member ws x) (odd k) x (64 * length ws)) k writing out out′ k′ → recs′ ≡ recs + length (recordsFrom (member ws x) x (64 * length ws)) →
-    Stepped p x (64 * length ws) writing k recs out out′ k′ recs′
+    PutCells (windowCells ws x k) k writing out out′ k′ → recs′ ≡ recs + length (membersOf ws x) → Stepped p x (64 * length ws) writing k recs out out′ k′ recs′
 stepped-window p x k recs ws writing out out′ k′ recs′ h put e =
-    let j = window-part p x k (64 * length ws) ws refl h in
-    record {
-      cells = put .count ∙ ap (λ (vs : List ℕ). k + length vs) j;
-      records = e ∙ ap (λ (rs : List ℕ). recs + length rs) (records-held p x (64 * length ws) ws (omega arith) h);
-      written = put .written ∙ ap (λ (vs : List ℕ). cond writing (sets out k vs) out) j;
-    }
+    stepped (window-part p x k (64 * length ws) ws refl h) put
+    (e ∙ ap (λ (rs : List ℕ). recs + length rs) (records-held p x (64 * length ws) ws (omega arith) h))
 
 -- ---- one step of a sweep
 

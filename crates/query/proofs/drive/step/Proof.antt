@@ -35,15 +35,10 @@ take-jump-requires c κs =
     let y = c .before .before .smaller .result in
     let until = c .before .before .smaller .ensures in
     let p = testOf (a .index .now) (a .entries .now) (roomy .tree) in
-    let steady = here .look-at .ensures .1 .1 .1 (roomy .tree) (roomy .reads) in (
-      omega arith,
-      omega arith,
-      omega arith,
-      omega arith,
-      λ w. jump-room p (a .at .x) y _ (a .at .cells) (a .out .now) (omega arith)
-          (steady-constant p (a .at .x) y _ _ steady (omega arith))
-          (roomy .room w (y - a .at .x) (omega arith)),
-    )
+    let steady = here .look-at .ensures .1 .1 .1 (roomy .tree) (roomy .reads) in
+    let constant = steady-constant p (a .at .x) y _ _ steady (omega arith) in
+    let room = jump-room p (a .at .x) y _ (a .at .cells) (a .out .now) (omega arith) constant in
+    (omega arith, (omega arith, (omega arith, (omega arith, λ w. room (roomy .room w (y - a .at .x) (omega arith))))))
 
 returns : tie.Need-returns
 returns c =

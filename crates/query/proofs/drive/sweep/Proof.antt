@@ -123,7 +123,7 @@ put-turn-requires c κs =
     let over = c .before .if1 .left in
     let few = swept-cells-few done in
     let e : l .at .x ≡ start .args .n + 1 = omega (arith, done .near) in
-    (done .near .0, omega arith, λ w. rw e (close-room (rw e at done) w (fits .room w)))
+    (done .near .0, (omega arith, λ w. rw e (close-room (rw e at done) w (fits .room w))))
 
 returns : tie.Need-returns Inv-loop μ-loop
 returns c t o =

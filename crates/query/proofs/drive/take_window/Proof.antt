@@ -28,7 +28,7 @@ put-flips-requires c κs =
     let within = asked done .pre .1 .0 in
     let roomy = asked done .pre .1 .1 in
     let holds = tree-holds (roomy .reads) (done .eval-level .ensures) in
-    (within .begun, omega arith, omega arith, λ w. window-room (testOf (a .index .now) (a .entries .now) (roomy .tree)) (a .at .x) (a .at .cells) _ (a .out .now) holds (roomy .room w _ (omega arith)))
+    (within .begun, (omega arith, (omega arith, λ w. window-room (testOf (a .index .now) (a .entries .now) (roomy .tree)) (a .at .x) (a .at .cells) _ (a .out .now) holds (roomy .room w _ (omega arith)))))
 
 count-members-requires : tie.Need-count-members-requires
 count-members-requires c κs =
