@@ -23,7 +23,7 @@ use Rattle.list.proofs.SweepLaws.{
   swept-written,
 }
 use Rattle.merge.specs.Put.{Fitting, Put}
-use Rattle.merge.specs.Sweep.{HasRoom, Sweeps}
+use Rattle.list.specs.Answer.{HasRoom, Sweeps}
 
 pub record Tallied (p : ℕ → Bool) (writing : Bool) (out₀ out : List ℕ) (t : Tally) (x : ℕ) : Type 0 where
   pub swept : Swept p top writing out₀ out false x (2 * t .intervals) (t .records)

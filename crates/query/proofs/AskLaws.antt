@@ -15,7 +15,7 @@ use Rattle.list.specs.declared.answer.Answer.{Answer}
 use Rattle.list.specs.declared.answer.Answer.the-variants as answer
 use Rattle.list.specs.Interval.{intervals}
 use Rattle.list.specs.Stretches.{cellsOf}
-use Rattle.list.specs.Answer.{tallyOf}
+use Rattle.list.specs.Answer.{tallyOf, Listing, Sweeps}
 use Rattle.list.proofs.StretchLaws.{cells-same}
 use Rattle.index.specs.declared.Checked.the-variants.{Good, Refused}
 use Rattle.index.specs.Format.{highest}
@@ -34,7 +34,7 @@ use Rattle.codes.specs.Code.{codesOf}
 use Rattle.codes.specs.Coded.{Coded}
 use Rattle.slots.specs.Find.{Slots}
 use Rattle.query.specs.Drive.{TreeOf, testOf, Tallied}
-use Rattle.query.specs.Prepared.{Prepared, Listing}
+use Rattle.query.specs.Prepared.{Prepared}
 use Rattle.query.proofs.DriveLaws.{tree-words}
 use Rattle.query.proofs.QuestionBound.{slots-bound}
 use Rattle.query.proofs.SatisfyLaws.{satisfying-even}

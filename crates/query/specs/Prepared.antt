@@ -1,11 +1,8 @@
 -- An accepted question made ready for the driver: what its codes and its slots' entries are to its tree.
-use Prim.Native.Nat.{ℕ, _/_, _≤_}
+use Prim.Native.Nat.{ℕ, _≤_}
 use mathlib.Core.Path.{_≡_}
 use mathlib.Core.List.{List}
-use lib.ListN.{length}
-use Rattle.list.specs.declared.answer.Answer.{Answer}
 use Rattle.list.specs.Interval.{intervals}
-use Rattle.list.specs.Answer.{listAnswer, listCells}
 use Rattle.directory.specs.Has.{has}
 use Rattle.question.specs.Grammar.{Tree}
 use Rattle.question.specs.Meaning.{fits}
@@ -26,8 +23,3 @@ pub record Prepared (codes index entries : List ℕ) (words : ℕ) (t : Tree) : 
 pub record IsPrepared (codes index entries : List ℕ) (words : ℕ) : Type 0 where
   pub tree : Tree
   pub prepared : Prepared codes index entries words tree
-
--- what is left but for room: the list c, or refusal 12
-pub record Listing (c out out′ : List ℕ) (r : Answer) : Type 0 where
-  pub answer : r ≡ listAnswer c (length out / 2)
-  pub cells : out′ ≡ listCells c (length out / 2) out

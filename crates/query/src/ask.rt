@@ -2,11 +2,12 @@
 ghost use mathlib.Core.Path.{_≡_};
 ghost use Prim.Native.Nat.{_≤_};
 ghost use lib.ListN.{length};
+ghost use Rattle.list.specs.Answer.{Listing};
 ghost use Rattle.index.specs.Sound.{Sound};
 ghost use Rattle.question.specs.Grammar.{Tree, fromLeft};
 ghost use Rattle.query.specs.Ask.{satisfying, Answers, Asks};
 ghost use Rattle.slots.specs.Find.{IsParsed};
-ghost use Rattle.query.specs.Prepared.{Prepared, IsPrepared, Listing};
+ghost use Rattle.query.specs.Prepared.{Prepared, IsPrepared};
 use crate::drive::sweep_question;
 use codes::write::write_codes;
 use index::Checked;
