@@ -17,7 +17,7 @@ use Rattle.index.specs.Format.{highest, listOf}
 use Rattle.index.proofs.SoundLaws.{sound-trailer}
 use Rattle.merge.specs.Request.{SoundRequest, listsOf}
 use Rattle.merge.specs.Places.{entrySingles, entryLowers, entryUppers}
-use Rattle.merge.specs.Sweep.{HasRoom, Sweeps}
+use Rattle.list.specs.Answer.{HasRoom, Sweeps}
 use Rattle.merge.proofs.ListsLaws.{entry-kept, asked-entry}
 use Rattle.merge.proofs.TallyLaws.{Tallied, tallied-start, tallied-skip, tallied-end}
 use Rattle.intersection.specs.Probing.{between, CellsFit, CellsPut, inAll, Within}

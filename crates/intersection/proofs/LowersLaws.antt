@@ -11,7 +11,7 @@ use Rattle.list.specs.declared.Place.{Place}
 use Rattle.list.specs.Interval.{top}
 use Rattle.heap.specs.Heap.{countOf, Pushed}
 use Rattle.heap.proofs.HeapLaws.{count-none, heap-none, least-front, front-counted, pushed-either, pushed-kept, pushed-new}
-use Rattle.intersection.specs.Twin.{nextLower, limit, lackOf, Lowers}
+use Rattle.intersection.specs.Twin.{nextLower, lackOf, Lowers}
 
 -- `largest` is the largest lower bound of the first `lists` lists
 pub record Largest (index entries : List ℕ) (at : ℕ → Place) (lists largest : ℕ) : Type 0 where
@@ -78,10 +78,10 @@ module _ {index entries : List ℕ} {at : ℕ → Place} where
       front-above : (i : ℕ) → i < lists → getD lowers 0 0 ≤ lackOf (nextLower index entries i (at i))
       front-above i h = least-front (lackOf (nextLower index entries i (at i))) size lowers lowers-some (w .heap) (w .all i h)
 
-      pub front-small : getD lowers 0 0 ≤ limit
+      pub front-small : getD lowers 0 0 ≤ top + 1
       front-small = let a = front-above 0 some in omega arith
 
-      pub lowers-largest : Largest index entries at lists (limit - getD lowers 0 0)
+      pub lowers-largest : Largest index entries at lists (top + 1 - getD lowers 0 0)
       lowers-largest = record {
         most = λ i h. let a = front-above i h in let s = small i h in omega arith;
         reached =

@@ -29,11 +29,10 @@ pub record Best (index entries : List ℕ) (best fewest j : ℕ) : Type 0 where
   pub counts : fewest ≡ intervals (listOf index (getD entries best 0))
   pub least : (i : ℕ) → i < j → fewest ≤ intervals (listOf index (getD entries i 0))
 
-pub best-start : (index entries : List ℕ) (fewest : ℕ) → 1 ≤ length entries → fewest ≡ intervals (listOf index (getD entries 0 0)) → Best index entries 0 fewest 1
-best-start index entries fewest h e =
-    record { inside = h; within = h; counts = e; least = λ i g. let z : i ≡ 0 = omega arith in rw z (omega arith) }
+pub best-start : {index entries : List ℕ} {fewest : ℕ} → 1 ≤ length entries → fewest ≡ intervals (listOf index (getD entries 0 0)) → Best index entries 0 fewest 1
+best-start h e = record { inside = h; within = h; counts = e; least = λ i g. let z : i ≡ 0 = omega arith in rw z (omega arith) }
 
-module _ (index entries : List ℕ) (best fewest j count : ℕ) (b : Best index entries best fewest j) (h : j < length entries)
+module _ {index entries : List ℕ} {best fewest j count : ℕ} (b : Best index entries best fewest j) (h : j < length entries)
     (e : count ≡ intervals (listOf index (getD entries j 0))) where
   least-next : (least : ℕ) → least ≤ fewest → least ≤ count → (i : ℕ) → i < j + 1 → least ≤ intervals (listOf index (getD entries i 0))
   least-next least f g i l = leb-cases j i (λ a. let z : i ≡ j = omega arith in rw z (omega arith)) (λ a. let m = b .least i a in omega arith)
@@ -52,15 +51,12 @@ every-out index [] k y h e = absurd (omega arith)
 every-out index (i ∷ es) zero y h e = rw e
 every-out index (i ∷ es) (suc k) y h e = rw (every-out index es k y (omega arith) e) (and-false (names (listOf index i) y))
 
-pub probe-out : (index entries : List ℕ) (k x until b : ℕ) (inside : Bool) → k < length entries → x ≤ b → b ≤ top → inside ≡ false →
+pub probe-out : {index entries : List ℕ} {j x until b : ℕ} {inside : Bool} → Within index entries j x b → x ≤ b → (k : ℕ) → k < length entries → inside ≡ false →
     Steady (names (listOf index (getD entries k 0))) x inside until → Steady (inAll index entries) x false (min until (b + 1))
-probe-out index entries k x until b inside h g m o s =
+probe-out {index} {entries} w g k h o s =
+    let m = w .high in
     let l = s .later in
-    record {
-      later = omega arith;
-      near = omega arith;
-      same = λ y f e. every-out index entries k y h (s .same y f (omega arith) ∙ o);
-    }
+    record { later = omega arith; near = omega arith; same = λ y f e. every-out index entries k y h (s .same y f (omega arith) ∙ o) }
 
 -- ---- the lists below k have x; up to `until` the others decide
 
@@ -70,40 +66,34 @@ pub record Looked (index entries : List ℕ) (x b until k : ℕ) : Type 0 where
   pub near : until ≤ b + 1
   pub left : (y : ℕ) → x ≤ y → y < until → inAll index entries y ≡ inEvery (listsOf index (drop k entries)) y
 
-pub looked-start : (index entries : List ℕ) (x b : ℕ) → x ≤ b → Looked index entries x b (b + 1) 0
-looked-start index entries x b h = record { within = omega arith; later = omega arith; near = omega arith; left = λ y f g. refl }
+pub looked-start : {index entries : List ℕ} {x b : ℕ} → x ≤ b → Looked index entries x b (b + 1) 0
+looked-start h = record { within = omega arith; later = omega arith; near = omega arith; left = λ y f g. refl }
 
 every-next : (index entries : List ℕ) (k y : ℕ) → k < length entries → names (listOf index (getD entries k 0)) y ≡ true →
     inEvery (listsOf index (drop k entries)) y ≡ inEvery (listsOf index (drop (k + 1) entries)) y
 unfolding inEvery
 every-next index entries k y h e = rw (lists-next index entries k h, e)
 
-pub looked-next : (index entries : List ℕ) (x b until k next : ℕ) (inside : Bool) → k < length entries → inside ≡ true → Looked index entries x b until k →
-    Steady (names (listOf index (getD entries k 0))) x inside next → Looked index entries x b (min until next) (k + 1)
-looked-next index entries x b until k next inside h o r s =
-    let a = r .later in
-    let c = r .near in
-    let d = s .later in
-    record {
-      within = omega arith;
-      later = omega arith;
-      near = omega arith;
-      left = λ y f g. r .left y f (omega arith) ∙ every-next index entries k y h (s .same y f (omega arith) ∙ o);
-    }
+module _ {index entries : List ℕ} {x b until k : ℕ} (r : Looked index entries x b until k) where
+  pub looked-next : {next : ℕ} {inside : Bool} → k < length entries → inside ≡ true → Steady (names (listOf index (getD entries k 0))) x inside next →
+      Looked index entries x b (min until next) (k + 1)
+  looked-next h o s =
+      let a = r .later in
+      let c = r .near in
+      let d = s .later in
+      record {
+        within = omega arith;
+        later = omega arith;
+        near = omega arith;
+        left = λ y f g. r .left y f (omega arith) ∙ every-next index entries k y h (s .same y f (omega arith) ∙ o);
+      }
 
-pub looked-end : (index entries : List ℕ) (x b until k : ℕ) → length entries ≤ k → b ≤ top → Looked index entries x b until k →
-    Steady (inAll index entries) x true until
-unfolding inEvery
-looked-end index entries x b until k h m r =
-    let c = r .near in
-    record {
-      later = r .later;
-      near = omega arith;
-      same = λ y f g. r .left y f g ∙ rw (lists-end index entries k h);
-    }
+  pub looked-end : length entries ≤ k → b ≤ top → Steady (inAll index entries) x true until
+  unfolding inEvery
+  looked-end h m = let c = r .near in record { later = r .later; near = omega arith; same = λ y f g. r .left y f g ∙ rw (lists-end index entries k h) }
 
-pub within-later : (index entries : List ℕ) (j a b x : ℕ) → a ≤ x → Within index entries j a b → Within index entries j x b
-within-later index entries j a b x h w = record { asked = w .asked; list = w .list; high = w .high; covers = λ y f g. w .covers y (omega arith) g }
+pub within-later : {index entries : List ℕ} {j a b x : ℕ} → a ≤ x → Within index entries j a b → Within index entries j x b
+within-later h w = record { asked = w .asked; list = w .list; high = w .high; covers = λ y f g. w .covers y (omega arith) g }
 
 -- ---- what is left to put: putting the cells c behind a tally is putting the cells c₀ behind the one before
 
@@ -116,10 +106,10 @@ pub cells-put-long : (writing : Bool) (out out′ : List ℕ) (t : Tally) (c : L
 cells-put-long true out out′ t c r q = ap length (q .cells) ∙ length-sets out (2 * t .intervals) c
 cells-put-long false out out′ t c r q = ap length (q .cells)
 
-module _ (writing : Bool) (out₀ : List ℕ) (t₀ : Tally) (c₀ out : List ℕ) (t : Tally) where
+module _ {writing : Bool} {out₀ : List ℕ} {t₀ : Tally} {c₀ out : List ℕ} {t : Tally} where
   -- the first interval of what is left fits, where all does
-  left-fits : (l u : ℕ) (c : List ℕ) → l ≤ u → u ≤ top → Left writing out₀ t₀ c₀ out t (l ∷ u ∷ c) → CellsFit writing out₀ t₀ c₀ → Fitting writing out t (record { lower = l; upper = u })
-  left-fits l u c o m s f = record {
+  left-fits : {l u : ℕ} {c : List ℕ} → l ≤ u → u ≤ top → Left writing out₀ t₀ c₀ out t (l ∷ u ∷ c) → CellsFit writing out₀ t₀ c₀ → Fitting writing out t (record { lower = l; upper = u })
+  left-fits {l} {u} {c} o m s f = record {
     room = λ w. let g = f .room w in omega (arith, s .intervals-left, long w);
     few = let g = f .intervals-small in omega (arith, s .intervals-left);
     small = let g = f .records-small in omega (arith, s .records-left);
@@ -132,10 +122,10 @@ module _ (writing : Bool) (out₀ : List ℕ) (t₀ : Tally) (c₀ out : List �
           let e = rw w at (s .cells-left) in
           sym (length-sets out (2 * t .intervals) (l ∷ u ∷ c)) ∙ ap length (sym e) ∙ length-sets out₀ (2 * t₀ .intervals) c₀
 
-  left-put : (l u : ℕ) (c out′ : List ℕ) (t′ : Tally) → Left writing out₀ t₀ c₀ out t (l ∷ u ∷ c) → Put writing out out′ t (record { lower = l; upper = u }) t′ →
+  left-put : {l u : ℕ} {c out′ : List ℕ} {t′ : Tally} → Left writing out₀ t₀ c₀ out t (l ∷ u ∷ c) → Put writing out out′ t (record { lower = l; upper = u }) t′ →
       Left writing out₀ t₀ c₀ out′ t′ c
   unfolding records
-  left-put l u c out′ t′ s q =
+  left-put {l} {u} {c} {out′} {t′} s q =
       let i = q .intervals-more in
       record {
         intervals-left = omega (arith, s .intervals-left);
@@ -200,14 +190,13 @@ pub record Cut (p : ℕ → Bool) (a b : ℕ) (writing : Bool) (out₀ : List �
   pub begun : o ≡ true → l < x
   left : Left writing out₀ t₀ (between p a b) out t (pending p b o l x)
 
-pub cut-start : (p : ℕ → Bool) (a b : ℕ) (writing : Bool) (out : List ℕ) (t : Tally) (l : ℕ) → a ≤ b → Cut p a b writing out t out t false l a
+pub cut-start : {p : ℕ → Bool} {a b : ℕ} {writing : Bool} {out : List ℕ} {t : Tally} {l : ℕ} → a ≤ b → Cut p a b writing out t out t false l a
 unfolding between
-cut-start p a b w out t l h =
-    record {
-      near = (omega arith, omega arith);
-      begun = λ e. true-false (sym e);
-      left = record { intervals-left = refl; records-left = refl; cells-left = refl };
-    }
+cut-start h = record {
+  near = (omega arith, omega arith);
+  begun = λ e. true-false (sym e);
+  left = record { intervals-left = refl; records-left = refl; cells-left = refl };
+}
 
 module _ {p : ℕ → Bool} {a b : ℕ} {writing : Bool} {out₀ : List ℕ} {t₀ : Tally} {out : List ℕ} {t : Tally} {o : Bool} {l x : ℕ}
     (c : Cut p a b writing out₀ t₀ out t o l x) where
@@ -216,7 +205,7 @@ module _ {p : ℕ → Bool} {a b : ℕ} {writing : Bool} {out₀ : List ℕ} {t�
   part-fits v r m f e k =
       let n = c .near in
       let g = c .begun (and-both o (not v) k .0) in
-      left-fits writing out₀ t₀ (between p a b) out t l (x - 1) r (omega arith) (omega arith) (rw (e, k) at (c .left)) f
+      left-fits (omega arith) (omega arith) (rw (e, k) at (c .left)) f
 
   pub cut-fits : {v : Bool} {u : ℕ} → b ≤ top → CellsFit writing out₀ t₀ (between p a b) → Steady p x v u → u ≤ b + 1 → closes o v ≡ true → Fitting writing out t (upTo l x)
   cut-fits {v} {u} m f s h = part-fits v (pending p b v (lowerOn o l x) u) m f (pending-next p b o v l x u s h)
@@ -232,7 +221,7 @@ module _ {p : ℕ → Bool} {a b : ℕ} {writing : Bool} {out₀ : List ℕ} {t�
       Left writing out₀ t₀ (between p a b) out′ t′ r
   left-next v r out′ t′ e q =
       by-test (closes o v)
-      (λ k. left-put writing out₀ t₀ (between p a b) out t l (x - 1) r out′ t′ (rw (e, k) at (c .left)) (q .0 k))
+      (λ k. left-put (rw (e, k) at (c .left)) (q .0 k))
       (λ k. rw (q .1 k .0, q .1 k .1) (rw (e, k) at (c .left)))
 
   pub cut-next : {v : Bool} {u : ℕ} {out′ : List ℕ} {t′ : Tally} → Steady p x v u → u ≤ b + 1 → PutWhere (closes o v) writing out out′ t (upTo l x) t′ →
@@ -247,4 +236,4 @@ module _ {p : ℕ → Bool} {a b : ℕ} {writing : Bool} {out₀ : List ℕ} {t�
       }
 
   pub cut-end : {out′ : List ℕ} {t′ : Tally} → b < x → PutWhere (closes o false) writing out out′ t (upTo l x) t′ → CellsPut writing out₀ out′ t₀ (between p a b) t′
-  cut-end {out′} {t′} h q = left-end writing out₀ t₀ (between p a b) out′ t′ (left-next false [] out′ t′ (pending-end p b o l x h) q)
+  cut-end {out′} {t′} h q = left-end (left-next false [] out′ t′ (pending-end p b o l x h) q)

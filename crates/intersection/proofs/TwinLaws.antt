@@ -19,7 +19,7 @@ use Rattle.heap.specs.Heap.{Pushed, Replaced}
 use Rattle.merge.specs.Request.{SoundRequest, listsOf}
 use Rattle.merge.specs.Places.{usedUp}
 use Rattle.merge.specs.Put.{Fitting, PutWhere}
-use Rattle.merge.specs.Sweep.{HasRoom, Sweeps}
+use Rattle.list.specs.Answer.{HasRoom, Sweeps}
 use Rattle.merge.proofs.ListsLaws.{asked-entry}
 use Rattle.merge.proofs.TallyLaws.{Tallied, Whole, tallied-start, tallied-skip, tallied-fits, tallied-put, tallied-end}
 use Rattle.merge.proofs.DueLaws.{
@@ -40,7 +40,7 @@ use Rattle.merge.proofs.DueLaws.{
   all-read-on,
 }
 use Rattle.intersection.specs.Probing.{inAll}
-use Rattle.intersection.specs.Twin.{nextLower, nextUpper, keyOf, limit, lackOf, Standing, Frontier, Lowers}
+use Rattle.intersection.specs.Twin.{nextLower, nextUpper, keyOf, lackOf, Standing, Frontier, Lowers}
 use Rattle.intersection.proofs.ProbingLaws.{every-out}
 use Rattle.intersection.proofs.FrontierLaws.{leastOf, whose, frontier-same, front-list, front-upper, front-below, frontier-moved, front-rises}
 use Rattle.intersection.proofs.LowersLaws.{Largest, lowers-moved, front-small, lowers-largest}
@@ -122,10 +122,10 @@ module _ {index entries : List ℕ} {writing : Bool} {out₀ out : List ℕ} {pl
   -- ---- the largest lower bound
 
   module _ {size : ℕ} {lowers : List ℕ} (v : Lowers index entries (λ i. getD places i start) (length entries) size lowers) (long : length lowers ≡ 32) (room : size < 32) where
-    pub turn-front : getD lowers 0 0 ≤ limit
+    pub turn-front : getD lowers 0 0 ≤ top + 1
     turn-front = front-small v (asked .some) (omega arith) (turn-standing .small)
 
-    pub turn-largest : Largest index entries (λ i. getD places i start) (length entries) (limit - getD lowers 0 0)
+    pub turn-largest : Largest index entries (λ i. getD places i start) (length entries) (top + 1 - getD lowers 0 0)
     turn-largest = lowers-largest v (asked .some) (omega arith) (turn-standing .small)
 
   module _ {largest : ℕ} (g : Largest index entries (λ i. getD places i start) (length entries) largest) where

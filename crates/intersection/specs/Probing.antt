@@ -6,6 +6,7 @@ use mathlib.Core.List.{List}
 use lib.ListN.{length, getD}
 use lib.Seq.{sets}
 use Rattle.list.specs.declared.answer.Tally.{Tally}
+use Rattle.list.specs.declared.reading.Interval.{Interval}
 use Rattle.list.specs.Interval.{top, names, intervals, records}
 use Rattle.list.specs.Stretches.{stretches}
 use Rattle.list.specs.Ginix.{inEvery}
@@ -36,6 +37,10 @@ pub record CellsPut (writing : Bool) (out out′ : List ℕ) (t : Tally) (c : Li
 -- the records in every list of a request
 abbrev pub inAll : List ℕ → List ℕ → ℕ → Bool
 inAll index entries = inEvery (listsOf index entries)
+
+-- what of an interval stands in every list
+abbrev pub piecesIn : List ℕ → List ℕ → Interval → List ℕ
+piecesIn index entries i = between (inAll index entries) (i .lower) (i .upper)
 
 -- [a, b] stands in list j of the request
 pub record Within (index entries : List ℕ) (j a b : ℕ) : Type 0 where

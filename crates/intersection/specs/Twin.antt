@@ -42,11 +42,8 @@ pub record Frontier (index entries : List ℕ) (at : ℕ → Place) (size : ℕ)
   pub bag : (y : ℕ) → countOf y (take size uppers) ≡ countOf y keys
 
 -- a lower bound by what it lacks to a number above them all: the least of these is of the largest lower bound
-abbrev pub limit : ℕ
-limit = 16777216
-
 abbrev pub lackOf : ℕ → ℕ
-lackOf l = limit - l
+lackOf l = top + 1 - l
 
 -- the lower bounds of the intervals that are next in the first `lists` lists, in a heap whose front is the largest:
 -- each is there, and whatever else is there is no larger than one of them

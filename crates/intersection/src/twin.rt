@@ -10,10 +10,11 @@ ghost use Rattle.list.specs.Interval.{top};
 ghost use Rattle.list.specs.Kept.{start};
 ghost use Rattle.merge.specs.Request.{SoundRequest, listsOf};
 ghost use Rattle.merge.specs.Put.{Fitting, PutWhere};
-ghost use Rattle.merge.specs.Sweep.{HasRoom, Sweeps};
+ghost use Rattle.list.specs.Answer.{HasRoom, Sweeps};
 ghost use Rattle.intersection.specs.Twin.{keyOf, StandingAt, Frontier, AllLowers};
 use heap::push;
 use heap::replace_least;
+use list::END;
 use list::PairAt;
 use list::Place;
 use list::SingleAt;
@@ -24,9 +25,6 @@ use merge::places::moved_on;
 use merge::places::next_interval;
 use merge::places::used_up;
 use merge::put::put;
-
-// Above every record's number.
-const LIMIT: u32 = 16_777_216;
 
 // The most lower bounds that stand in their heap: two of each list.
 const LOWERS: usize = 32;
@@ -62,7 +60,7 @@ fn first_uppers(index: &[u8], entries: &[u32], uppers: &mut [u32])
     }
 }
 
-// Fills the heap of lower bounds: one of each list, at its place. A heap has its least in front, so each stands by what it lacks to LIMIT.
+// Fills the heap of lower bounds: one of each list, at its place. A heap has its least in front, so each stands by what it lacks to END.
 fn fill_lowers(index: &[u8], entries: &[u32], places: [Place; 16], lowers: &mut [u32])
     requires sound { ⌜ SoundRequest (now index) (now entries) ⌝ }
     requires stands { ⌜ StandingAt (now index) (now entries) places ⌝ }
@@ -73,7 +71,7 @@ fn fill_lowers(index: &[u8], entries: &[u32], places: [Place; 16], lowers: &mut 
     let mut j = 0;
     while j < entries.len() {
         let next = next_interval(index, entries[j] as usize, places[j]);
-        push(lowers, j, LIMIT - next.lower);
+        push(lowers, j, END - next.lower);
         j += 1;
     }
 }
@@ -130,7 +128,7 @@ pub fn sweep_twin(index: &[u8], entries: &[u32], writing: bool, out: &mut [u32])
     };
     loop {
         size = with_room(index, entries, places, &mut lowers, size);
-        let largest = LIMIT - lowers[0];
+        let largest = END - lowers[0];
         let least = uppers[0];
         let overlap = Interval {
             lower: largest,
@@ -146,7 +144,7 @@ pub fn sweep_twin(index: &[u8], entries: &[u32], writing: bool, out: &mut [u32])
         }
         let next = next_interval(index, entry, at);
         replace_least(&mut uppers, entries.len(), key_of(next.upper, j));
-        push(&mut lowers, size, LIMIT - next.lower);
+        push(&mut lowers, size, END - next.lower);
         size += 1;
     }
 }

@@ -59,7 +59,8 @@ pub fn check_request(index: &[u8], entries: &[u32]) -> Checked
 // How many intervals the lists of a request have together.
 pub fn interval_sum(index: &[u8], entries: &[u32]) -> usize
     requires { ⌜ SoundRequest (now index) (now entries) ⌝ }
-    ensures { λ r. ⌜ (r ≡ intervalSum (listsOf (now (index .entry)) (now (entries .entry)))) × (r ≤ 67108864) ⌝ }
+    ensures sum { λ r. ⌜ r ≡ intervalSum (listsOf (now (index .entry)) (now (entries .entry))) ⌝ }
+    ensures few { λ r. ⌜ r ≤ 67108864 ⌝ }
 {
     let mut sum = 0;
     let mut j = 0;

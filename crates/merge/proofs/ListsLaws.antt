@@ -57,5 +57,5 @@ lists-proper index s (e ∷ es) f = (entry-proper (record { sound = s; below = f
 pub asked-entry : {index entries : List ℕ} → SoundRequest index entries → (j : ℕ) → j < length entries → EntryIn index (getD entries j 0)
 asked-entry a j h = record { sound = a .sound; below = a .below j h }
 
-pub asked-proper : (index entries : List ℕ) → SoundRequest index entries → AllProper top (listsOf index entries)
-asked-proper index entries a = lists-proper index (a .sound) entries (a .below)
+pub asked-proper : {index entries : List ℕ} → SoundRequest index entries → AllProper top (listsOf index entries)
+asked-proper {index} {entries} a = lists-proper index (a .sound) entries (a .below)

@@ -23,7 +23,7 @@ use Rattle.list.proofs.SweepLaws.{
   swept-written,
 }
 use Rattle.merge.specs.Put.{Fitting, Put}
-use Rattle.merge.specs.Sweep.{HasRoom, Sweeps}
+use Rattle.list.specs.Answer.{HasRoom, Sweeps}
 
 pub record Tallied (p : ℕ → Bool) (writing : Bool) (out₀ out : List ℕ) (t : Tally) (x : ℕ) : Type 0 where
   pub swept : Swept p top writing out₀ out false x (2 * t .intervals) (t .records)
@@ -50,14 +50,12 @@ module _ {p : ℕ → Bool} {writing : Bool} {out₀ out : List ℕ} {t : Tally}
 
   -- nothing is in from x to below y
   pub tallied-skip : {y : ℕ} → x ≤ y → y ≤ top + 1 → ((z : ℕ) → x ≤ z → z < y → p z ≡ false) → Tallied p writing out₀ out t y
-  tallied-skip {y} h g q = record { swept = swept-skip p top writing out₀ out x (2 * t .intervals) (t .records) (d .swept) y h g q }
+  tallied-skip {y} h g q = record { swept = swept-skip (d .swept) y h g q }
 
   module _ {i : Interval} (w : Whole p x i) where
     pub tallied-fits : HasRoom (cellsOf p top) writing out₀ → Fitting writing out t i
     tallied-fits r = record {
-      room = λ e.
-          swept-room p top writing out₀ out x (2 * t .intervals) (t .records) (d .swept) (i .lower) (i .upper)
-          (w .near) (w .order) (w .high) (w .none) (w .inside) (w .stop) e (r e);
+      room = λ e. swept-room (d .swept) (i .lower) (i .upper) (w .near) (w .order) (w .high) (w .none) (w .inside) (w .stop) e (r e);
       few = let a = swept-cells-few (d .swept) in omega arith;
       small = swept-records-few (d .swept);
       order = w .order;
@@ -69,15 +67,14 @@ module _ {p : ℕ → Bool} {writing : Bool} {out₀ out : List ℕ} {t : Tally}
         let a = q .intervals-more in
         record {
           swept = swept-as (q .cells) (omega arith) (q .records-more)
-              (swept-put p top writing out₀ out x (2 * t .intervals) (t .records) (d .swept) (i .lower) (i .upper)
-              (w .near) (w .order) (w .high) (w .none) (w .inside) (w .stop));
+              (swept-put (d .swept) (i .lower) (i .upper) (w .near) (w .order) (w .high) (w .none) (w .inside) (w .stop));
         }
 
 -- all is swept
 pub tallied-end : {p : ℕ → Bool} {writing : Bool} {out₀ out : List ℕ} {t : Tally} → Tallied p writing out₀ out t (top + 1) →
     HasRoom (cellsOf p top) writing out₀ → Sweeps (cellsOf p top) writing out₀ out t
 tallied-end {p} {writing} {out₀} {out} {t} s r =
-    let c = swept-count p top writing out₀ out (2 * t .intervals) (t .records) (s .swept) in
+    let c = swept-count (s .swept) in
     let v : t .intervals ≡ intervals (cellsOf p top) = omega arith in
-    let w : t .records ≡ records (cellsOf p top) = swept-records p top writing out₀ out (2 * t .intervals) (t .records) (s .swept) in
-    record { tally = rw (← v, ← w); cells = swept-written p top writing out₀ out (2 * t .intervals) (t .records) (s .swept) r }
+    let w : t .records ≡ records (cellsOf p top) = swept-records (s .swept) in
+    record { tally = rw (← v, ← w); cells = swept-written (s .swept) r }

@@ -15,7 +15,7 @@ use Rattle.list.specs.declared.answer.Answer.{Answer}
 use Rattle.list.specs.declared.answer.Answer.the-variants as answer
 use Rattle.list.specs.Interval.{intervals}
 use Rattle.list.specs.Stretches.{cellsOf}
-use Rattle.list.specs.Answer.{tallyOf}
+use Rattle.list.specs.Answer.{tallyOf, Listing, Sweeps}
 use Rattle.list.proofs.StretchLaws.{cells-same}
 use Rattle.index.specs.declared.Checked.the-variants.{Good, Refused}
 use Rattle.index.specs.Format.{highest}
@@ -36,7 +36,7 @@ use Rattle.slots.specs.Slots.{slotHas}
 use Rattle.slots.specs.declared.compile.Compiled.{Compiled}
 use Rattle.slots.specs.Compile.{Compiles}
 use Rattle.query.specs.Drive.{TreeOf, testOf, AskedBy, Tallied}
-use Rattle.query.specs.Prepared.{IsParsed, Prepared, Listing}
+use Rattle.query.specs.Prepared.{IsParsed, Prepared}
 use Rattle.query.proofs.QuestionBound.{question-bound}
 use Rattle.query.proofs.SatisfyLaws.{satisfying-even}
 use Rattle.slots.proofs.WholeLaws.{slot-fits, compiled-slots}

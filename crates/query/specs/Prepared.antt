@@ -1,11 +1,10 @@
 -- An accepted question made ready for the driver: what its codes and its slots' entries are to its tree.
-use Prim.Native.Nat.{ℕ, _/_, _≤_}
+use Prim.Native.Nat.{ℕ, _≤_}
 use mathlib.Core.Path.{_≡_}
 use mathlib.Core.List.{List}
-use lib.ListN.{length}
 use Rattle.list.specs.declared.answer.Answer.{Answer}
 use Rattle.list.specs.Interval.{intervals}
-use Rattle.list.specs.Answer.{listAnswer, listCells}
+use Rattle.list.specs.Answer.{Listing}
 use Rattle.directory.specs.Has.{has}
 use Rattle.question.specs.Grammar.{Tree, fromLeft}
 use Rattle.question.specs.Meaning.{fits}
@@ -31,11 +30,6 @@ pub record Prepared (codes index entries : List ℕ) (slots : ℕ) (t : Tree) : 
 pub record IsPrepared (codes index entries : List ℕ) (slots : ℕ) : Type 0 where
   pub tree : Tree
   pub prepared : Prepared codes index entries slots tree
-
--- what is left but for room: the list c, or refusal 12
-pub record Listing (c out out′ : List ℕ) (r : Answer) : Type 0 where
-  pub answer : r ≡ listAnswer c (length out / 2)
-  pub cells : out′ ≡ listCells c (length out / 2) out
 
 -- the list of each tree for which they are prepared, or refusal 12
 abbrev pub PutsAnswer : List ℕ → List ℕ → List ℕ → ℕ → List ℕ → List ℕ → Answer → Type 0

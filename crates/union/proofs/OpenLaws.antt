@@ -12,7 +12,7 @@ use Rattle.list.specs.declared.answer.Tally.{Tally}
 use Rattle.list.specs.Interval.{top}
 use Rattle.list.specs.Stretches.{cellsOf}
 use Rattle.merge.specs.Put.{Fitting, PutWhere, upTo}
-use Rattle.merge.specs.Sweep.{HasRoom}
+use Rattle.list.specs.Answer.{HasRoom}
 use Rattle.union.specs.Scan.{lowerFrom}
 use Rattle.merge.proofs.TallyLaws.{Tallied, Whole, tallied-skip, tallied-fits, tallied-put}
 

@@ -6,7 +6,7 @@ ghost use Rattle.list.specs.Ginix.{unionOf};
 ghost use Rattle.list.specs.Interval.{top};
 ghost use Rattle.merge.specs.Request.{SoundRequest, listsOf};
 ghost use Rattle.merge.specs.Put.{Fitting, PutWhere};
-ghost use Rattle.merge.specs.Sweep.{HasRoom, Sweeps};
+ghost use Rattle.list.specs.Answer.{HasRoom, Sweeps};
 ghost use Rattle.union.specs.Active.{isApart, Joined};
 use list::answer::Tally;
 use list::reading::Interval;

@@ -23,7 +23,7 @@ sense-at-requires : tie.Need-sense-at-requires
 sense-at-requires c κs =
     let at = c .before .before .before .before .before in
     let found = regions at in
-    (found .regions-of .ensures .kept, at .reading-place .ensures, begin (found .before .before) .pre .1 .1)
+    (found .regions-of .ensures .kept, (at .reading-place .ensures, begin (found .before .before) .pre .1 .1))
 
 same-length : tie.Need-same-length
 same-length c = search needs

@@ -9,7 +9,6 @@ returns : tie.Need-returns
 returns c =
     let start = c .before .before .before in
     let w = start .pre .0 in
-    let h = start .pre .1 in
     let m = w .high in
     record {
       later = omega arith;
@@ -21,9 +20,7 @@ sense-in-requires : tie.Need-sense-in-requires
 sense-in-requires c κs =
     let start = c .before .before .before .before in
     let w = start .pre .0 in
-    let h = start .pre .1 in
-    let m = w .high in
-    (asked-entry (w .asked) (start .args .k) (start .pre .2), omega arith)
+    (asked-entry (w .asked) (start .args .k) (start .pre .1 .1), omega (arith, w .high))
 
 pub sense-of-spec : {M : Type 1} → statement M
 sense-of-spec =

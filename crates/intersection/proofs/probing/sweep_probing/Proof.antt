@@ -73,7 +73,7 @@ put-within-requires c κs =
     let a = begin (first i) .pre .0 in
     let h = first i .shortest .ensures .inside in
     let g = i .before .loop .inv .1 in
-    rw (e .0, e .1, r .singles, r .lower, r .upper) (going-within a h g (left i), going-ordered a h g (left i), going-fits a h g (left i) (begin (first i) .pre .1))
+    rw (e .0, e .1, r .singles, r .lower, r .upper) (going-within a h g (left i), (going-ordered a h g (left i), going-fits a h g (left i) (begin (first i) .pre .1)))
 
 next-place-requires : tie.Need-next-place-requires Inv-loop μ-loop
 next-place-requires c κs =

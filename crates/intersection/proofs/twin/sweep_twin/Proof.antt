@@ -14,7 +14,7 @@ use Rattle.merge.proofs.TallyLaws.{Tallied, tallied-length}
 use Rattle.merge.proofs.ListsLaws.{asked-entry}
 use Rattle.merge.proofs.DueLaws.{on-fits}
 use Rattle.intersection.specs.Probing.{inAll}
-use Rattle.intersection.specs.Twin.{AllLowers, nextLower, nextUpper, limit}
+use Rattle.intersection.specs.Twin.{AllLowers, nextLower, nextUpper}
 use Rattle.intersection.proofs.FrontierLaws.{whose}
 use Rattle.intersection.proofs.LowersLaws.{Largest}
 use Rattle.intersection.proofs.TwinLaws.{
@@ -68,7 +68,7 @@ Roomy = tie.After-with-room Inv-loop μ-loop
 
 largest : (c : Roomy) → let i = c .before .before in
     Largest (now (begin i .args .index)) (now (begin i .args .entries)) (λ k. getD (i .loop .places) k start) (length (now (begin i .args .entries)))
-    (limit - getD (c .with-room .last .1 .1 .1 .0) 0 0)
+    (top + 1 - getD (c .with-room .last .1 .1 .1 .0) 0 0)
 largest c = let i = c .before .before in let room = c .with-room .ensures in turn-largest (asked i) (i .loop .inv .0) (room .0) (room .1 .0) (room .1 .1)
 
 -- the list has moved on
