@@ -69,12 +69,12 @@ three-parts x a b c bytes =
     regroup : (p q r t : List ℕ) → p ++ (q ++ (r ++ t)) ≡ (p ++ q ++ r) ++ t
     regroup p q r t = simp append-assoc
 
-five-cells : (bytes : List ℕ) (at : ℕ) → Below 256 bytes → at + 20 ≤ length bytes →
+cells-split : (bytes : List ℕ) (at : ℕ) → Below 256 bytes → at + 20 ≤ length bytes →
     drop at bytes
     ≡ cellsBytes (cellAt bytes at ∷ cellAt bytes (at + 4) ∷ cellAt bytes (at + 8) ∷ cellAt bytes (at + 12) ∷ cellAt bytes (at + 16) ∷ [])
     ++ drop (at + 20) bytes
 unfolding cellsBytes
-five-cells bytes at b h =
+cells-split bytes at b h =
     let p : at + 4 + 4 ≡ at + 8 = omega arith in
     let q : at + 8 + 4 ≡ at + 12 = omega arith in
     let r : at + 12 + 4 ≡ at + 16 = omega arith in
@@ -193,7 +193,7 @@ module _ (index : List ℕ) (s : Sound index) (b : Below 256 index) where
   entry-step i h =
       let e = sound-entry index s i h in
       rw (list-cells i h, single-count i h, pair-count i h, word-length index s i h, ← e .word-start, ← e .list-start, entry-next i)
-      (five-cells index (entryPlace index i) b (omega (arith, e .entry-within)))
+      (cells-split index (entryPlace index i) b (omega (arith, e .entry-within)))
 
   words-next : (i : ℕ) → i < wordCount index → wordsEnd index (i + 1) ≡ wordsEnd index i + length (wordOf index i)
   words-next i h = wordsEnd-next index i ∙ ap (λ (k : ℕ). wordsEnd index i + k) (sym (word-length index s i h))
@@ -236,7 +236,7 @@ module _ (index : List ℕ) (s : Sound index) (b : Below 256 index) where
       let f = cellAt index in
       rw (p₀, p₁, p₂, p₃)
       (
-      five-cells index at b (omega arith)
+      cells-split index at b (omega arith)
       ∙ rw (drop-of-length-le index {i = at + 20} (omega arith), append-nil (cellsBytes (f at ∷ f (at + 4) ∷ f (at + 8) ∷ f (at + 12) ∷ f (at + 16) ∷ [])))
       (ap (λ (k : ℕ). cellsBytes (f at ∷ f (at + 4) ∷ f (at + 8) ∷ f (at + 12) ∷ k ∷ [])) q)
       )

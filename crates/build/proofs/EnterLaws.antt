@@ -93,7 +93,7 @@ module _ {words counts numbers : List ℕ} {room : ℕ} {at : Spots} {start firs
     xss = listsFrom (drop (i + 1) counts) (drop last numbers)
 
     word-is : wordsFrom [] (drop start words) ≡ word ∷ ws
-    word-is = next-word words e (is .word) word-ended
+    word-is = next-word words e (is .word) word-ended .0
 
     list-is : listsFrom (drop i counts) (drop first numbers) ≡ list ∷ xss
     list-is = lists-next counts numbers i first h l
