@@ -11,7 +11,7 @@ use Rattle.list.specs.Interval.{top}
 use Rattle.convert.specs.Convert.{intervalsOf}
 use Rattle.build.specs.declared.entry.Spots.{Spots}
 use Rattle.build.specs.Lent.{wordsFrom, lentWords, sumTo, listsFrom}
-use Rattle.build.specs.Layout.{keptBytes, listsBytes, wordsBytes, entryBytes, directoryBytes, trailerBytes, indexOf}
+use Rattle.build.specs.Layout.{keptBytes, listsBytes, wordsBytes, directoryBytes, trailerBytes, indexOf}
 use Rattle.build.specs.Passes.{wordEnd, entered, enteredTo, EnteredWithin, allEntered, AllWithin}
 use Rattle.build.proofs.BytesLaws.{cells-length}
 use Rattle.build.proofs.LayoutLaws.{directoryCells, directory-bytes, directory-length}

@@ -8,7 +8,7 @@ use lib.Dec.{eqb, ltb}
 use lib.ListN.{length, getD, drop, length-append}
 use borrow.Author.Tests.{eqb-true, eqb-false, eq-eqb, ne-eqb, lt-ltb, ltb-true}
 use Rattle.laws.proofs.Tests.{and-both, both-and, leb-cases}
-use Rattle.laws.proofs.Lists.{drop-next, drop-none}
+use Rattle.laws.proofs.Lists.{drop-next}
 use Rattle.list.specs.Interval.{isProper}
 use Rattle.list.specs.Kept.{singleNext, moved, walkFrom, walked, areLonger, isKept}
 use Rattle.list.proofs.ProperLaws.{ProperFrom, proper-facts}
