@@ -2,10 +2,12 @@
 use mathlib.Core.Path.{_≡_, refl, sym, ap, _∙_}
 use Prim.Native.Nat.{ℕ, zero, suc, _+_, _*_, _/_, _%_, _≤_, _<_}
 use native.Mathlib.Omega.{arith}
+use native.Mathlib.Numerals.{add-one}
 use native.Mathlib.Nat.{div-div-eq-div-mul, div-add-mod', mod-eq-of-lt}
 use mathlib.Core.List.{List, [], _∷_, _++_}
-use lib.ListN.{length, getD, take, drop}
-use lib.Seq.{take-at, drop-at, getD-drop}
+use lib.ListN.{length, getD, take, drop, drop-of-length-le}
+use lib.Seq.{take-at, drop-at, getD-drop, drop-cons}
+use Rattle.laws.proofs.Tests.{leb-cases}
 use Rattle.laws.proofs.Lists.{drop-two}
 use Rattle.list.specs.Cell.{cell, cellAt, numbersIn}
 use Rattle.index.specs.Format.{part}
@@ -15,6 +17,18 @@ use Rattle.build.specs.ReadsBack.{Below}
 -- 2 to the 32: what a cell holds is below it
 abbrev pub cellLimit : ℕ
 cellLimit = 4294967296
+
+-- what stands at place p, and behind it
+pub record Next {A : Type 0} (d : A) (xs : List A) (p : ℕ) (x : A) (r : List A) : Type 0 where
+  pub below : p < length xs
+  pub is : getD xs p d ≡ x
+  pub rest : drop (p + 1) xs ≡ r
+
+pub next-of : {A : Type 0} (d : A) {xs : List A} {p : ℕ} {x : A} {r : List A} → drop p xs ≡ x ∷ r → Next d xs p x r
+next-of d {xs} {p} e =
+    leb-cases (length xs) p
+    (λ h. absurd (let f = sym (drop-of-length-le xs h) ∙ e in let z : _≡_ {A = ℕ} 0 1 = cc in omega arith))
+    (λ h. let f = sym (drop-cons xs p d h) ∙ e in record { below = h; is = cc; rest = rw (add-one p) (cc) })
 
 module _ (m : ℕ) where
   pub below-at : (xs : List ℕ) (i : ℕ) → Below m xs → i < length xs → getD xs i 0 < m

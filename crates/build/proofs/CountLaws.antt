@@ -1,5 +1,5 @@
 -- One count, and the list of one count: when each is bad, as the passes over counts and numbers find it.
-use mathlib.Core.Path.{_≡_, refl, ap, _∙_}
+use mathlib.Core.Path.{_≡_, refl, sym, ap, _∙_}
 use Prim.Native.Nat.{ℕ, zero, suc, _+_, _-_, _≤_, _<_}
 use native.Mathlib.Omega.{arith}
 use native.Mathlib.Numerals.{add-one}
@@ -99,6 +99,14 @@ module _ (n : ℕ) (counts numbers : List ℕ) (i : ℕ) (h : i < length counts)
   unfolding badListed badNumber
   listed-alone k g =
       rw (listed-before k g, getD-take (getD counts i 0) (drop begin numbers) k 0 g, getD-drop begin numbers k 0)
+
+  -- none of the list is bad where none of all is
+  pub list-none : begin + getD counts i 0 ≤ length numbers → first (badListed n counts (length counts) numbers) (length numbers) ≡ Nowhere →
+      first (badNumber n xs) (length xs) ≡ Nowhere
+  list-none r e =
+      let l = part-length begin (getD counts i 0) numbers r in
+      first-none-is (badNumber n xs) (length xs)
+      (λ k g. sym (listed-alone k (omega arith)) ∙ first-none (badListed n counts (length counts) numbers) (length numbers) e (begin + k) (omega arith))
 
 -- ---- the pass over the lists
 

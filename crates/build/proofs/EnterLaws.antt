@@ -11,7 +11,7 @@ use Rattle.list.specs.Interval.{top}
 use Rattle.convert.specs.Convert.{intervalsOf}
 use Rattle.build.specs.declared.entry.Spots.{Spots}
 use Rattle.build.specs.Lent.{wordsFrom, lentWords, sumTo, listsFrom}
-use Rattle.build.specs.Layout.{keptBytes, listsBytes, wordsBytes, entryBytes, directoryBytes, trailerBytes, indexOf}
+use Rattle.build.specs.Layout.{keptBytes, listsBytes, wordsBytes, directoryBytes, trailerBytes, indexOf}
 use Rattle.build.specs.Passes.{wordEnd, entered, enteredTo, EnteredWithin, allEntered, AllWithin}
 use Rattle.build.proofs.BytesLaws.{cells-length}
 use Rattle.build.proofs.LayoutLaws.{directoryCells, directory-bytes, directory-length}
@@ -93,7 +93,7 @@ module _ {words counts numbers : List ℕ} {room : ℕ} {at : Spots} {start firs
     xss = listsFrom (drop (i + 1) counts) (drop last numbers)
 
     word-is : wordsFrom [] (drop start words) ≡ word ∷ ws
-    word-is = next-word words e (is .word) word-ended
+    word-is = next-word words e (is .word) word-ended .0
 
     list-is : listsFrom (drop i counts) (drop first numbers) ≡ list ∷ xss
     list-is = lists-next counts numbers i first h l

@@ -19,19 +19,19 @@ use Rattle.list.specs.declared.Written.the-variants as written
 use Rattle.list.specs.Interval.{top}
 use Rattle.list.proofs.RecordLaws.{Ascends}
 use Rattle.convert.specs.Front.{inFront}
-use Rattle.convert.proofs.NumberLaws.{ascends-good}
+use Rattle.convert.proofs.NumberLaws.{good-ascends, ascends-good}
 use Rattle.index.specs.declared.Checked.{Checked}
 use Rattle.index.specs.declared.Checked.the-variants.{Good, Refused}
 use Rattle.index.specs.Format.{part}
 use Rattle.index.proofs.CheckLaws.{not-good, cond-good, place-none}
 use Rattle.build.specs.declared.words.Words.the-variants.{Counted, Bad}
 use Rattle.build.specs.declared.entry.Spots.{Spots}
-use Rattle.build.specs.Lent.{lentWords, wordTotal, badLent, badCount, badRest, badListed, sumTo, listsFrom}
+use Rattle.build.specs.Lent.{lentWords, wordTotal, badLent, badCount, badRest, sumTo, listsFrom}
 use Rattle.build.specs.Layout.{cellsBytes, listsBytes, wordsBytes}
 use Rattle.build.specs.Build.{badWords, badCounts, badNumbers, faultThen, lentOf, indexFrom, buildOf, Builds}
 use Rattle.build.specs.Passes.{wordsAnswer, countFault, Fair, Lists, GoodLent, allEntered, AllWithin}
-use Rattle.build.proofs.LentLaws.{LentWord, lent-word, LentCount, lent-count, lent-rest, lists-length, lists-at, lent-number, list-ascends}
-use Rattle.build.proofs.CountLaws.{fair-count}
+use Rattle.build.proofs.LentLaws.{LentWord, lent-word, LentCount, lent-count, lent-rest, lists-length, lists-at}
+use Rattle.build.proofs.CountLaws.{list-none, fair-count}
 use Rattle.build.proofs.WordsLaws.{words-bytes-length}
 use Rattle.build.proofs.IndexOfLaws.{index-length}
 use Rattle.build.proofs.ListsLaws.{ascends-more, lists-limit, directory-limit}
@@ -109,9 +109,8 @@ each-good {n} {words} {counts} {numbers} e =
     let f = fair-counts counts total k (c .0) in
     let limit = ltb-false top n (a .0) in
     let list : ℕ → List ℕ = λ i. part (sumTo counts i) (getD counts i 0) numbers in
-    let rises : (i : ℕ) → i < length counts → Ascends n 0 (list i) = λ i h.
-    list-ascends n counts k numbers i (fair-count (f .1) i h .room)
-    (λ j g. lent-number n counts k numbers j (first-none (badListed n counts k numbers) total (d .0) j g)) in
+    let none = rw (← f .0) at (d .0) in
+    let rises : (i : ℕ) → i < length counts → Ascends n 0 (list i) = λ i h. good-ascends n (list i) (list-none n counts numbers i h (fair-count (f .1) i h .room) none) in
     record {
       limit = limit;
       word = λ i h. lent-word (lentWords words) i (first-none (badLent (lentWords words)) (wordTotal words) (b .0) i h);
@@ -128,8 +127,8 @@ module _ {n : ℕ} {words counts numbers : List ℕ} (is : EachGood n words coun
   abbrev xss : List (List ℕ)
   xss = listsFrom counts numbers
 
-  good-ascends : (i : ℕ) → i < length xss → Ascends n 0 (getD xss i [])
-  good-ascends i h = is .ascends i (omega (arith, lists-length counts numbers))
+  lists-ascend : (i : ℕ) → i < length xss → Ascends n 0 (getD xss i [])
+  lists-ascend i h = is .ascends i (omega (arith, lists-length counts numbers))
 
   pub good-many : length xss ≡ length (lentWords words)
   good-many = lists-length counts numbers ∙ is .as-many
@@ -139,7 +138,7 @@ module _ {n : ℕ} {words counts numbers : List ℕ} (is : EachGood n words coun
   good-word i h = is .word i (omega arith)
 
   good-lists : listsBytes n xss ≡ listsBytes top xss
-  good-lists = lists-limit n (is .limit) xss good-ascends
+  good-lists = lists-limit n (is .limit) xss lists-ascend
 
 pub lent-good : {n : ℕ} {words counts numbers : List ℕ} → lentOf n words counts numbers ≡ Good → GoodLent n words counts numbers
 lent-good {n} {words} {counts} {numbers} e =
@@ -206,5 +205,5 @@ module _ {n : ℕ} {words counts numbers : List ℕ} (is : GoodLent n words coun
         let w : lists ≡ length (listsBytes n xss) = l ∙ sym (ap length same) in
         let d : lists + (length words - length counts) ≡ length (listsBytes n xss) + length (wordsBytes ws) = omega (arith, is .bytes) in
         ep
-        ∙ rw (eo, d, each .as-many, w, ← same, ← directory-limit n (each .limit) (length (listsBytes n xss)) 0 ws xss (good-ascends each))
+        ∙ rw (eo, d, each .as-many, w, ← same, ← directory-limit n (each .limit) (length (listsBytes n xss)) 0 ws xss (lists-ascend each))
         (index-written n ws xss (good-many each) out h)

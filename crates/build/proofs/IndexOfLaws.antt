@@ -24,7 +24,7 @@ use Rattle.build.specs.Lent.{lentBefore}
 use Rattle.build.specs.Layout.{cellsBytes, cellSingles, lowersIn, uppersIn, keptBytes, cellsIn, listsBytes, wordsBytes, directoryBytes, trailerBytes, indexOf}
 use Rattle.build.specs.ReadsBack.{Below, Indexable}
 use Rattle.build.proofs.BytesLaws.{cellLimit, below-append, cells-below, cells-length, cells-append, cells-numbers, cellAt-behind, part-between}
-use Rattle.build.proofs.KeptBytesLaws.{kept-length, uppers-length, cells-count, singles-below, lowers-below, uppers-below, walked-cells, cells-kept}
+use Rattle.build.proofs.KeptBytesLaws.{kept-length, uppers-length, cells-count, parts-below, walked-cells, cells-kept}
 use Rattle.build.proofs.LayoutLaws.{wordsTo, words-split, words-to-next, words-to-bound, words-to-end, word-below, words-below}
 use Rattle.build.proofs.LayoutLaws.{listsTo, lists-split, lists-to-next, lists-to-bound, lists-to-end, lists-below}
 use Rattle.build.proofs.LayoutLaws.{entryCells, directoryCells, directory-bytes, directory-length, directory-at, directory-below}
@@ -259,23 +259,17 @@ module _ {n : ℕ} {ws xss : List (List ℕ)} (is : Indexable n ws xss) where
       (omega (arith, length-append (bytesS i) (bytesL i), long-singles i h, long-lowers i h))
       (omega (arith, built-pair-count i h, uppers-length (listAt i), cells-length (uppersIn (listAt i))))
 
-  numbers-of : (xs : List ℕ) → Below cellLimit xs → (bs : List ℕ) → bs ≡ cellsBytes xs → numbersIn bs ≡ xs
-  numbers-of xs b bs e = ap numbersIn e ∙ cells-numbers xs b
+  below : (i : ℕ) → Below cellLimit (cellSingles (listAt i)) × Below cellLimit (lowersIn (listAt i)) × Below cellLimit (uppersIn (listAt i))
+  below i = parts-below n cellLimit (omega (arith, is .limit)) 1 (listAt i) (cells-proper-from (among (getD xss i [])) n n (omega arith))
 
-  small : n < cellLimit
-  small = omega (arith, is .limit)
+  built-single-numbers : (i : ℕ) → i < length ws → numbersIn (singlesOf index i) ≡ cellSingles (listAt i)
+  built-single-numbers i h = ap numbersIn (built-singles i h) ∙ cells-numbers (cellSingles (listAt i)) (below i .0)
 
-  pub built-single-numbers : (i : ℕ) → i < length ws → numbersIn (singlesOf index i) ≡ cellSingles (listAt i)
-  built-single-numbers i h =
-      numbers-of (cellSingles (listAt i)) (singles-below n cellLimit small 1 (listAt i) (cells-proper-from (among (getD xss i [])) n n (omega arith))) (singlesOf index i) (built-singles i h)
+  built-lower-numbers : (i : ℕ) → i < length ws → numbersIn (lowerOf index i) ≡ lowersIn (listAt i)
+  built-lower-numbers i h = ap numbersIn (built-lowers i h) ∙ cells-numbers (lowersIn (listAt i)) (below i .1)
 
-  pub built-lower-numbers : (i : ℕ) → i < length ws → numbersIn (lowerOf index i) ≡ lowersIn (listAt i)
-  built-lower-numbers i h =
-      numbers-of (lowersIn (listAt i)) (lowers-below n cellLimit small 1 (listAt i) (cells-proper-from (among (getD xss i [])) n n (omega arith))) (lowerOf index i) (built-lowers i h)
-
-  pub built-upper-numbers : (i : ℕ) → i < length ws → numbersIn (upperOf index i) ≡ uppersIn (listAt i)
-  built-upper-numbers i h =
-      numbers-of (uppersIn (listAt i)) (uppers-below n cellLimit small 1 (listAt i) (cells-proper-from (among (getD xss i [])) n n (omega arith))) (upperOf index i) (built-uppers i h)
+  built-upper-numbers : (i : ℕ) → i < length ws → numbersIn (upperOf index i) ≡ uppersIn (listAt i)
+  built-upper-numbers i h = ap numbersIn (built-uppers i h) ∙ cells-numbers (uppersIn (listAt i)) (below i .2)
 
   pub built-list : (i : ℕ) → i < length ws → listOf index i ≡ cellsIn n (getD xss i [])
   unfolding listOf

@@ -8,7 +8,7 @@ use lib.Dec.{eqb, ltb}
 use lib.ListN.{length, getD, drop, length-append}
 use borrow.Author.Tests.{eqb-true, eqb-false, eq-eqb, ne-eqb, lt-ltb, ltb-true}
 use Rattle.laws.proofs.Tests.{and-both, both-and, leb-cases}
-use Rattle.laws.proofs.Lists.{drop-next, drop-none}
+use Rattle.laws.proofs.Lists.{drop-next}
 use Rattle.list.specs.Interval.{isProper}
 use Rattle.list.specs.Kept.{singleNext, moved, walkFrom, walked, areLonger, isKept}
 use Rattle.list.proofs.ProperLaws.{ProperFrom, proper-facts}
@@ -16,7 +16,7 @@ use Rattle.list.proofs.KeptLaws.{longer-long}
 use Rattle.list.proofs.WalkLaws.{single-next-is, pair-next-is, placeAt, Weave, none, single, pair, walked-weaves}
 use Rattle.build.specs.Layout.{cellsBytes, cellSingles, lowersIn, uppersIn, keptBytes}
 use Rattle.build.specs.ReadsBack.{Below}
-use Rattle.build.proofs.BytesLaws.{cells-length, cells-below, below-append}
+use Rattle.build.proofs.BytesLaws.{Next, next-of, cells-length, cells-below, below-append}
 
 -- ---- how many there are
 
@@ -59,21 +59,15 @@ below-cond : (m x : ℕ) (t : Bool) (xs : List ℕ) → x < m → Below m xs →
 below-cond m x true xs h b = ((h, b), b)
 below-cond m x false xs h b = (b, (h, b))
 
-module _ (n m : ℕ) (h : n < m) where
-  pub singles-below : (k : ℕ) (c : List ℕ) → ProperFrom n k c → Below m (cellSingles c)
-  unfolding cellSingles
-  singles-below k [] p = tt
-  singles-below k (l ∷ u ∷ r) p = below-cond m l (eqb l u) (cellSingles r) (omega arith) (singles-below (u + 2) r (p .3)) .0
-
-  pub lowers-below : (k : ℕ) (c : List ℕ) → ProperFrom n k c → Below m (lowersIn c)
-  unfolding lowersIn
-  lowers-below k [] p = tt
-  lowers-below k (l ∷ u ∷ r) p = below-cond m l (eqb l u) (lowersIn r) (omega arith) (lowers-below (u + 2) r (p .3)) .1
-
-  pub uppers-below : (k : ℕ) (c : List ℕ) → ProperFrom n k c → Below m (uppersIn c)
-  unfolding uppersIn
-  uppers-below k [] p = tt
-  uppers-below k (l ∷ u ∷ r) p = below-cond m u (eqb l u) (uppersIn r) (omega arith) (uppers-below (u + 2) r (p .3)) .1
+pub parts-below : (n m : ℕ) → n < m → (k : ℕ) (c : List ℕ) → ProperFrom n k c → Below m (cellSingles c) × Below m (lowersIn c) × Below m (uppersIn c)
+unfolding cellSingles lowersIn uppersIn
+parts-below n m h k [] p = (tt, tt, tt)
+parts-below n m h k (l ∷ u ∷ r) p =
+    let w = parts-below n m h (u + 2) r (p .3) in (
+      below-cond m l (eqb l u) (cellSingles r) (omega arith) (w .0) .0,
+      below-cond m l (eqb l u) (lowersIn r) (omega arith) (w .1) .1,
+      below-cond m u (eqb l u) (uppersIn r) (omega arith) (w .2) .1,
+    )
 
 -- ---- where they begin
 
@@ -89,31 +83,17 @@ head-cond : (k m x : ℕ) (t : Bool) (xs : List ℕ) → k ≤ x → k ≤ m →
 head-cond k m x true xs h g p = (h, head-weaker k m xs g p)
 head-cond k m x false xs h g p = (head-weaker k m xs g p, h)
 
-singles-head : (n k : ℕ) (c : List ℕ) → ProperFrom n k c → HeadFrom k (cellSingles c)
-unfolding cellSingles
-singles-head n k [] p = tt
-singles-head n k (l ∷ u ∷ r) p = head-cond k (u + 2) l (eqb l u) (cellSingles r) (p .0) (omega arith) (singles-head n (u + 2) r (p .3)) .0
-
-lowers-head : (n k : ℕ) (c : List ℕ) → ProperFrom n k c → HeadFrom k (lowersIn c)
-unfolding lowersIn
-lowers-head n k [] p = tt
-lowers-head n k (l ∷ u ∷ r) p = head-cond k (u + 2) l (eqb l u) (lowersIn r) (p .0) (omega arith) (lowers-head n (u + 2) r (p .3)) .1
+heads : (n k : ℕ) (c : List ℕ) → ProperFrom n k c → HeadFrom k (cellSingles c) × HeadFrom k (lowersIn c)
+unfolding cellSingles lowersIn
+heads n k [] p = (tt, tt)
+heads n k (l ∷ u ∷ r) p =
+    let w = heads n (u + 2) r (p .3) in
+    (head-cond k (u + 2) l (eqb l u) (cellSingles r) (p .0) (omega arith) (w .0) .0, head-cond k (u + 2) l (eqb l u) (lowersIn r) (p .0) (omega arith) (w .1) .1)
 
 head-at : (k q : ℕ) (xs : List ℕ) → q < length xs → HeadFrom k (drop q xs) → k ≤ getD xs q 0
 head-at k q xs h p = rw (drop-next xs q h) at p
 
 -- ---- the walk puts them together
-
-record Next (xs : List ℕ) (p x : ℕ) (r : List ℕ) : Type 0 where
-  below : p < length xs
-  is : getD xs p 0 ≡ x
-  rest : drop (p + 1) xs ≡ r
-
-next-of : (xs : List ℕ) (p x : ℕ) (r : List ℕ) → drop p xs ≡ x ∷ r → Next xs p x r
-next-of xs p x r e =
-    leb-cases (length xs) p
-    (λ h. absurd (let f = sym (drop-none xs p h) ∙ e in let z : _≡_ {A = ℕ} 0 1 = cc in omega arith))
-    (λ h. let f = sym (drop-next xs p h) ∙ e in record { below = h; is = cc; rest = cc })
 
 module _ (n : ℕ) (S L U : List ℕ) where
   walk-step : (k l u : ℕ) (r : List ℕ) (m p q : ℕ) (t : Bool) → eqb l u ≡ t → ProperFrom n k (l ∷ u ∷ r) →
@@ -125,14 +105,14 @@ module _ (n : ℕ) (S L U : List ℕ) where
       ∷ walkFrom S L U (moved (singleNext S L p q) (placeAt p q)) m)
       (l ∷ u ∷ r)
   walk-step k l u r m p q true d w es el eu ih =
-      let s = next-of S p l (cellSingles r) es in
+      let s : Next 0 S p l (cellSingles r) = next-of 0 es in
       let e : l ≡ u = eqb-true l u d in
-      let f : singleNext S L p q ≡ true = single-next-is S L p q (s .below) (λ g. let b = head-at (u + 2) q L g (rw el (lowers-head n (u + 2) r (w .3))) in omega (arith, s .is)) in
+      let f : singleNext S L p q ≡ true = single-next-is S L p q (s .below) (λ g. let b = head-at (u + 2) q L g (rw el (heads n (u + 2) r (w .3) .1)) in omega (arith, s .is)) in
       rw (f, s .is, e, ih (p + 1) q (s .rest) el eu)
   walk-step k l u r m p q false d w es el eu ih =
-      let a = next-of L q l (lowersIn r) el in
-      let b = next-of U q u (uppersIn r) eu in
-      let f : singleNext S L p q ≡ false = pair-next-is S L p q (a .below) (λ g. let h = head-at (u + 2) p S g (rw es (singles-head n (u + 2) r (w .3))) in omega (arith, a .is)) in
+      let a : Next 0 L q l (lowersIn r) = next-of 0 el in
+      let b : Next 0 U q u (uppersIn r) = next-of 0 eu in
+      let f : singleNext S L p q ≡ false = pair-next-is S L p q (a .below) (λ g. let h = head-at (u + 2) p S g (rw es (heads n (u + 2) r (w .3) .0)) in omega (arith, a .is)) in
       rw (f, a .is, b .is, ih p (q + 1) es (a .rest) (b .rest))
 
   walk-cells : (k : ℕ) (c : List ℕ) (m p q : ℕ) → 2 * m ≡ length c → ProperFrom n k c → drop p S ≡ cellSingles c → drop q L ≡ lowersIn c → drop q U ≡ uppersIn c →

@@ -6,7 +6,7 @@ use native.Mathlib.Numerals.{add-one}
 use mathlib.Core.Bool.{Bool, true, false, cond, not, _&&_, _||_}
 use mathlib.Core.List.{List, [], _∷_, _++_, append-nil, append-assoc}
 use lib.Dec.{eqb, leb}
-use lib.ListN.{length, getD, take, drop, length-append, length-drop, drop-of-length-le}
+use lib.ListN.{length, getD, take, drop, length-append, length-drop}
 use lib.Seq.{drop-cons, drop-drop}
 use borrow.Author.Tests.{eq-eqb, ne-eqb, le-leb, lt-leb}
 use Rattle.laws.proofs.Tests.{and-both, leb-cases, true-false}
@@ -18,6 +18,7 @@ use Rattle.word.specs.Word.{before, isWord}
 use Rattle.build.specs.Lent.{wordsFrom, lentWords, restFrom, restOf, one-if-any, wordTotal, lentBefore, badLent}
 use Rattle.build.specs.Layout.{wordsBytes}
 use Rattle.build.specs.Passes.{wordEnd}
+use Rattle.build.proofs.BytesLaws.{Next, next-of}
 use Rattle.build.proofs.LentLaws.{LentWord}
 
 -- ---- one byte on
@@ -36,32 +37,23 @@ word-end-none bytes i h = rw (drop-none bytes i h)
 
 -- ---- one word on
 
+-- the first word ends at k, and behind it stand the other words and the rest
+abbrev Ended : List ℕ → List (List ℕ) → List ℕ → List ℕ → ℕ → Type 0
+Ended acc ws rest bs k = (ws ≡ (acc ++ take k bs) ∷ wordsFrom [] (drop (k + 1) bs)) × (rest ≡ restFrom [] (drop (k + 1) bs))
+
 ended-step : (acc : List ℕ) (b : ℕ) (bs : List ℕ) (t : Bool) → cond t 0 (suc (wordEnd bs)) < suc (length bs) →
-    ((acc : List ℕ) → wordEnd bs < length bs → wordsFrom acc bs ≡ (acc ++ take (wordEnd bs) bs) ∷ wordsFrom [] (drop (wordEnd bs + 1) bs)) →
-    cond t (acc ∷ wordsFrom [] bs) (wordsFrom (acc ++ b ∷ []) bs)
-    ≡ (acc ++ take (cond t 0 (suc (wordEnd bs))) (b ∷ bs)) ∷ wordsFrom [] (drop (cond t 0 (suc (wordEnd bs)) + 1) (b ∷ bs))
-ended-step acc b bs true h ih = rw (append-nil acc)
+    ((acc : List ℕ) → wordEnd bs < length bs → Ended acc (wordsFrom acc bs) (restFrom acc bs) bs (wordEnd bs)) →
+    Ended acc (cond t (acc ∷ wordsFrom [] bs) (wordsFrom (acc ++ b ∷ []) bs)) (cond t (restFrom [] bs) (restFrom (acc ++ b ∷ []) bs)) (b ∷ bs) (cond t 0 (suc (wordEnd bs)))
+ended-step acc b bs true h ih = (rw (append-nil acc), refl)
 ended-step acc b bs false h ih =
     let e : suc (wordEnd bs) + 1 ≡ suc (wordEnd bs + 1) = omega arith in
-    ih (acc ++ b ∷ []) (omega arith) ∙ rw (e, append-assoc acc (b ∷ []) (take (wordEnd bs) bs))
+    let w = ih (acc ++ b ∷ []) (omega arith) in
+    (w .0 ∙ rw (e, append-assoc acc (b ∷ []) (take (wordEnd bs) bs)), w .1 ∙ rw e)
 
-words-ended : (acc bs : List ℕ) → wordEnd bs < length bs → wordsFrom acc bs ≡ (acc ++ take (wordEnd bs) bs) ∷ wordsFrom [] (drop (wordEnd bs + 1) bs)
-unfolding wordsFrom wordEnd
+words-ended : (acc bs : List ℕ) → wordEnd bs < length bs → Ended acc (wordsFrom acc bs) (restFrom acc bs) bs (wordEnd bs)
+unfolding wordsFrom restFrom wordEnd
 words-ended acc [] h = absurd (omega arith)
 words-ended acc (b ∷ bs) h = ended-step acc b bs (eqb b 10) h (λ acc g. words-ended acc bs g)
-
-rest-ended-step : (acc : List ℕ) (b : ℕ) (bs : List ℕ) (t : Bool) → cond t 0 (suc (wordEnd bs)) < suc (length bs) →
-    ((acc : List ℕ) → wordEnd bs < length bs → restFrom acc bs ≡ restFrom [] (drop (wordEnd bs + 1) bs)) →
-    cond t (restFrom [] bs) (restFrom (acc ++ b ∷ []) bs) ≡ restFrom [] (drop (cond t 0 (suc (wordEnd bs)) + 1) (b ∷ bs))
-rest-ended-step acc b bs true h ih = refl
-rest-ended-step acc b bs false h ih =
-    let e : suc (wordEnd bs) + 1 ≡ suc (wordEnd bs + 1) = omega arith in
-    ih (acc ++ b ∷ []) (omega arith) ∙ rw e
-
-rest-ended : (acc bs : List ℕ) → wordEnd bs < length bs → restFrom acc bs ≡ restFrom [] (drop (wordEnd bs + 1) bs)
-unfolding restFrom wordEnd
-rest-ended acc [] h = absurd (omega arith)
-rest-ended acc (b ∷ bs) h = rest-ended-step acc b bs (eqb b 10) h (λ acc g. rest-ended acc bs g)
 
 open-step : (acc : List ℕ) (b : ℕ) (bs : List ℕ) (t : Bool) → suc (length bs) ≤ cond t 0 (suc (wordEnd bs)) →
     ((acc : List ℕ) → length bs ≤ wordEnd bs → (wordsFrom acc bs ≡ []) × (restFrom acc bs ≡ acc ++ bs)) →
@@ -76,19 +68,15 @@ words-open acc (b ∷ bs) h = open-step acc b bs (eqb b 10) h (λ acc g. words-o
 
 module _ (bytes : List ℕ) {start end : ℕ} (is : end ≡ start + wordEnd (drop start bytes)) where
   -- the word that starts at start, and those behind it
-  pub next-word : start ≤ length bytes → end < length bytes → wordsFrom [] (drop start bytes) ≡ take (end - start) (drop start bytes) ∷ wordsFrom [] (drop (end + 1) bytes)
+  pub next-word : start ≤ length bytes → end < length bytes →
+      (wordsFrom [] (drop start bytes) ≡ take (end - start) (drop start bytes) ∷ wordsFrom [] (drop (end + 1) bytes))
+      × (restFrom [] (drop start bytes) ≡ restFrom [] (drop (end + 1) bytes))
   next-word g h =
       let bs = drop start bytes in
       let e : wordEnd bs ≡ end - start = omega arith in
       let f : start + (end - start + 1) ≡ end + 1 = omega arith in
-      words-ended [] bs (omega (arith, length-drop start bytes)) ∙ rw (e, drop-drop (end - start + 1) start bytes, f)
-
-  pub next-rest : start ≤ length bytes → end < length bytes → restFrom [] (drop start bytes) ≡ restFrom [] (drop (end + 1) bytes)
-  next-rest g h =
-      let bs = drop start bytes in
-      let e : wordEnd bs ≡ end - start = omega arith in
-      let f : start + (end - start + 1) ≡ end + 1 = omega arith in
-      rest-ended [] bs (omega (arith, length-drop start bytes)) ∙ rw (e, drop-drop (end - start + 1) start bytes, f)
+      let w = words-ended [] bs (omega (arith, length-drop start bytes)) in
+      (w .0 ∙ rw (e, drop-drop (end - start + 1) start bytes, f), w .1 ∙ rw (e, drop-drop (end - start + 1) start bytes, f))
 
   -- nothing ends it
   pub last-word : start ≤ length bytes → end ≡ length bytes → (wordsFrom [] (drop start bytes) ≡ []) × (restFrom [] (drop start bytes) ≡ drop start bytes)
@@ -157,18 +145,6 @@ pass-start bytes =
       good = λ j h. absurd (omega arith);
     }
 
--- what stands next where something is left
-record Next (ws : List (List ℕ)) (i : ℕ) (w : List ℕ) (r : List (List ℕ)) : Type 0 where
-  below : i < length ws
-  is : getD ws i [] ≡ w
-  rest : r ≡ drop (i + 1) ws
-
-next-of : {ws : List (List ℕ)} {i : ℕ} {w : List ℕ} {r : List (List ℕ)} → w ∷ r ≡ drop i ws → Next ws i w r
-next-of {ws} {i} e =
-    leb-cases (length ws) i
-    (λ h. absurd (let f = e ∙ drop-of-length-le ws h in let z : _≡_ {A = ℕ} 0 1 = cc in omega arith))
-    (λ h. let f = e ∙ drop-cons ws i [] h in record { below = h; is = cc; rest = rw (add-one i) (cc) })
-
 none-left : (ws : List (List ℕ)) (i : ℕ) → [] ≡ drop i ws → length ws ≤ i
 none-left ws i e =
     leb-cases (length ws) i (λ h. h)
@@ -209,8 +185,8 @@ module _ {bytes : List ℕ} {prior priorEnd start count : ℕ} (at : Passing byt
         bad false n = rw (le-leb (length ws) count n)
 
     module _ (h : end < length bytes) where
-      here : Next ws count word (wordsFrom [] (drop (end + 1) bytes))
-      here = next-of (sym (next-word bytes is (at .within) h) ∙ at .words)
+      here : Next [] ws count word (wordsFrom [] (drop (end + 1) bytes))
+      here = next-of [] (sym (at .words) ∙ next-word bytes is (at .within) h .0)
 
       at-bad : badLent ws count ≡ true → first (badLent ws) (wordTotal bytes) ≡ At count
       at-bad e = first-is (badLent ws) count (wordTotal bytes) (record { below = words-within count (here .below); holds = e; before = at .good })
@@ -244,8 +220,8 @@ module _ {bytes : List ℕ} {prior priorEnd start count : ℕ} (at : Passing byt
             few = omega (arith, at .few);
             limit = omega arith;
             seen = omega (arith, n .below);
-            words = n .rest;
-            rest = sym (next-rest bytes is (at .within) h) ∙ at .rest;
+            words = sym (n .rest);
+            rest = sym (next-word bytes is (at .within) h .1) ∙ at .rest;
             last = rw (add-one count) (sym (n .is));
             good = λ j k. leb-cases count j
                 (λ g. let q : j ≡ count = omega arith in rw (q, lt-leb 65535 count l, lt-leb (length ws) count (n .below), n .is, b .0, ← at .last, b .1))

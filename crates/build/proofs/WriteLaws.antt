@@ -1,19 +1,19 @@
 -- Three regions that are written side by side: what is to be written into each of them is what is left to write, one piece on.
 use mathlib.Core.Path.{_≡_, refl, sym, ap, _∙_}
-use Prim.Native.Nat.{ℕ, suc, _+_, _-_, _*_, _≤_}
+use Prim.Native.Nat.{ℕ, suc, _+_, _-_, _*_, _≤_, _<_}
 use native.Mathlib.Omega.{arith}
 use native.Mathlib.Numerals.{add-one, add-two, add-three}
 use mathlib.Core.Bool.{Bool, true, false, cond}
 use mathlib.Core.List.{List, [], _∷_, _++_}
-use lib.Dec.{eqb}
-use lib.ListN.{length, set, drop, length-append}
+use lib.Dec.{eqb, ltb}
+use lib.ListN.{length, getD, set, drop, length-append}
 use lib.Seq.{sets, sets-eq, set-comm, length-sets}
 use borrow.Rule.Slice.PartMut.{putMid, midOf}
-use borrow.Author.Tests.{eq-eqb, ne-eqb}
-use Rattle.laws.proofs.Tests.{leb-cases}
-use Rattle.laws.proofs.Lists.{sets-append, sets-front}
+use borrow.Author.Tests.{eqb-true, eq-eqb, ne-eqb}
+use Rattle.laws.proofs.Lists.{drop-next, drop-none, sets-append, sets-front}
 use Rattle.laws.proofs.Parts.{tail-written}
 use Rattle.list.specs.Ginix.{one}
+use Rattle.convert.proofs.RunLaws.{closed, startOf, runsFrom, runs, runs-at}
 use Rattle.build.specs.declared.kept.Places.{Places}
 use Rattle.build.specs.declared.entry.Spots.{Spots}
 use Rattle.build.specs.Layout.{cellBytes, cellsBytes, cellSingles, lowersIn, uppersIn, keptBytes, cellsIn, listsBytes, wordsBytes, entryBytes, directoryBytes}
@@ -167,28 +167,55 @@ module _ (c : List ℕ) (singles pairs : ℕ) (s : singles ≡ length (cellSingl
 
 -- ---- how many singles and pairs
 
-single-step : (l : ℕ) (t : Bool) (S : List ℕ) → length (cond t (l ∷ S) S) ≡ one t + length S
-single-step l true S = omega arith
-single-step l false S = omega arith
-
 pair-step : (l : ℕ) (t : Bool) (L : List ℕ) → length (cond t L (l ∷ L)) ≡ 1 - one t + length L
 pair-step l true L = omega arith
 pair-step l false L = omega arith
 
-pub singles-next : (l u : ℕ) (r : List ℕ) → length (cellSingles (l ∷ u ∷ r)) ≡ one (eqb l u) + length (cellSingles r)
-unfolding cellSingles
-singles-next l u r = single-step l (eqb l u) (cellSingles r)
+-- how many runs of xs go on behind their first number; u is the number before xs, and b is 1 where it begins its run
+unfoldable pub pairsFrom : ℕ → ℕ → List ℕ → ℕ
+pairsFrom b u [] = 0
+pairsFrom b u (x ∷ xs) = one (ltb (cond (eqb x (u + 1)) 0 1) b) + pairsFrom (cond (eqb x (u + 1)) 0 1) x xs
 
-pub pairs-next : (l u : ℕ) (r : List ℕ) → length (lowersIn (l ∷ u ∷ r)) ≡ 1 - one (eqb l u) + length (lowersIn r)
+pub pairs-at : (b u : ℕ) (xs : List ℕ) (i : ℕ) → i < length xs →
+    pairsFrom b u (drop i xs)
+    ≡ one (ltb (cond (eqb (getD xs i 0) (u + 1)) 0 1) b) + pairsFrom (cond (eqb (getD xs i 0) (u + 1)) 0 1) (getD xs i 0) (drop (i + 1) xs)
+unfolding pairsFrom
+pairs-at b u xs i h = rw (drop-next xs i h)
+
+pub pairs-end : (b u : ℕ) (xs : List ℕ) (i : ℕ) → length xs ≤ i → pairsFrom b u (drop i xs) ≡ 0
+unfolding pairsFrom
+pairs-end b u xs i h = rw (drop-none xs i h)
+
+went-on : (t : Bool) (k : ℕ) → 1 - one t + (one (ltb 0 (one t)) + k) ≡ 1 + k
+went-on true k = omega arith
+went-on false k = omega arith
+
+broke-off : (t : Bool) (k : ℕ) → 1 - one t + (one (ltb 1 (one t)) + k) ≡ 1 - one t + k
+broke-off true k = omega arith
+broke-off false k = omega arith
+
+pairs-step : (l u x : ℕ) (xs : List ℕ) (t : Bool) → eqb x (u + 1) ≡ t → l ≤ u →
+    ((l : ℕ) → l ≤ x → length (lowersIn (runsFrom l x xs)) ≡ 1 - one (eqb l x) + pairsFrom (one (eqb l x)) x xs) →
+    length (lowersIn (closed t l u (runsFrom (startOf t l x) x xs)))
+    ≡ 1 - one (eqb l u) + (one (ltb (cond t 0 1) (one (eqb l u))) + pairsFrom (cond t 0 1) x xs)
 unfolding lowersIn
-pairs-next l u r = pair-step l (eqb l u) (lowersIn r)
+pairs-step l u x xs true e h ih =
+    let q = eqb-true x (u + 1) e in
+    (rw (ne-eqb l x (λ (g : l ≡ x). omega arith)) at (ih l (omega arith))) ∙ sym (went-on (eqb l u) (pairsFrom 0 x xs))
+pairs-step l u x xs false e h ih =
+    let r = rw (eq-eqb x x refl) at (ih x (omega arith)) in
+    omega (arith, pair-step l (eqb l u) (lowersIn (runsFrom x x xs)), broke-off (eqb l u) (pairsFrom 1 x xs))
 
--- an interval takes no more cells than it names numbers
-pub kept-width : (l u : ℕ) → l ≤ u → one (eqb l u) + 2 * (1 - one (eqb l u)) ≤ u + 1 - l
-kept-width l u h =
-    leb-cases u l
-    (λ g. rw (eq-eqb l u (omega arith)) (omega arith))
-    (λ g. rw (ne-eqb l u (λ (e : l ≡ u). omega arith)) (omega arith))
+pairs-from : (l u : ℕ) (xs : List ℕ) → l ≤ u → length (lowersIn (runsFrom l u xs)) ≡ 1 - one (eqb l u) + pairsFrom (one (eqb l u)) u xs
+unfolding runsFrom pairsFrom lowersIn
+pairs-from l u [] h = pair-step l (eqb l u) []
+pairs-from l u (x ∷ xs) h = pairs-step l u x xs (eqb x (u + 1)) refl h (λ l g. pairs-from l x xs g)
+
+pub runs-pairs : (xs : List ℕ) → 0 < length xs → length (lowersIn (runs xs)) ≡ pairsFrom 1 (getD xs 0 0) (drop 1 xs)
+runs-pairs xs h =
+    let x = getD xs 0 0 in
+    let e = ap (λ (c : List ℕ). length (lowersIn c)) (runs-at xs 0 h) in
+    omega (arith, rw (eq-eqb x x refl) at (pairs-from x x (drop 1 xs) (omega arith)))
 
 pub none-kept : (length (cellSingles []) ≡ 0) × (length (lowersIn []) ≡ 0) × (keptBytes [] ≡ [])
 unfolding cellSingles lowersIn uppersIn keptBytes cellsBytes

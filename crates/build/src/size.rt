@@ -1,7 +1,7 @@
 // How much the lists take.
 ghost use mathlib.Core.Path.{_≡_};
 ghost use Prim.Native.Nat.{_+_, _*_, _≤_};
-ghost use lib.Dec.{eqb};
+ghost use lib.Dec.{ltb};
 ghost use lib.ListN.{length};
 ghost use Rattle.list.specs.Interval.{top};
 ghost use Rattle.list.specs.Ginix.{one};
@@ -9,7 +9,7 @@ ghost use Rattle.convert.specs.Convert.{badNumberOf};
 ghost use Rattle.build.specs.Lent.{listsFrom};
 ghost use Rattle.build.specs.Layout.{listsBytes};
 ghost use Rattle.build.specs.Passes.{Lists, ListCountsOf};
-use convert::runs::next_run;
+use convert::runs::gap;
 use refusal::Found;
 
 // How many singles and how many pairs a list has.
@@ -18,31 +18,44 @@ pub struct ListCounts {
     pub pairs: usize,
 }
 
-// 1 where an interval is a single, else 0.
-fn single(l: u32, u: u32) -> usize
-    ensures is { λ r. ⌜ r ≡ one (eqb l u) ⌝ }
-    ensures most { λ r. ⌜ r ≤ 1 ⌝ }
+// 1 where a run goes on behind its first number: whether the number before begins its run, and whether a gap stands behind it.
+fn goes_on(begins: usize, apart: usize) -> usize
+    requires flag { ⌜ begins ≤ 1 ⌝ }
+    requires gap { ⌜ apart ≤ 1 ⌝ }
+    ensures is { λ r. ⌜ r ≡ one (ltb apart begins) ⌝ }
+    ensures begun { λ r. ⌜ r ≤ begins ⌝ }
+    ensures either { λ r. ⌜ r + apart ≤ 1 ⌝ }
 {
-    if l == u { 1 } else { 0 }
+    if apart < begins { 1 } else { 0 }
 }
 
-// How many singles and pairs ascending numbers make.
+// How many singles and pairs ascending numbers make. No branch hangs on a number, since where runs end cannot be foretold.
 pub fn count_kept(numbers: &[u32]) -> ListCounts
     requires { ⌜ badNumberOf (now numbers) ≡ Found.Nowhere ⌝ }
     ensures { λ r. ⌜ ListCountsOf (now (numbers .entry)) r ⌝ }
 {
-    let mut singles: usize = 0;
+    if numbers.len() == 0 {
+        return ListCounts {
+            singles: 0,
+            pairs: 0,
+        };
+    }
+    let mut upper = numbers[0];
+    let mut begins: usize = 1;
+    let mut n: usize = 1;
     let mut pairs: usize = 0;
-    let mut i = 0;
+    let mut i = 1;
     while i < numbers.len() {
-        let run = next_run(numbers, i);
-        let alone = single(run.lower, run.upper);
-        singles += alone;
-        pairs += 1 - alone;
-        i = run.next;
+        let x = numbers[i];
+        let apart = gap(upper, x);
+        n += apart;
+        pairs += goes_on(begins, apart);
+        begins = apart;
+        upper = x;
+        i += 1;
     }
     ListCounts {
-        singles: singles,
+        singles: n - pairs,
         pairs: pairs,
     }
 }

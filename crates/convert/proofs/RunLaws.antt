@@ -21,12 +21,12 @@ use Rattle.list.proofs.RecordLaws.{Ascends}
 use Rattle.convert.proofs.NumberLaws.{good-ascends, ascends-good, good-rest}
 
 -- the cells l, u in front of r, unless the stretch goes on
-abbrev closed : Bool → ℕ → ℕ → List ℕ → List ℕ
+abbrev pub closed : Bool → ℕ → ℕ → List ℕ → List ℕ
 closed true l u r = r
 closed false l u r = l ∷ u ∷ r
 
 -- where the stretch starts that x belongs to: at l if it goes on, else at x
-abbrev startOf : Bool → ℕ → ℕ → ℕ
+abbrev pub startOf : Bool → ℕ → ℕ → ℕ
 startOf true l x = l
 startOf false l x = x
 

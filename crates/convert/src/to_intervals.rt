@@ -1,27 +1,17 @@
 // Numbers to intervals: a fault is looked for, then room is asked for, and only then is anything written.
 use crate::numbers::first_bad_number;
+use crate::runs::gap;
 use crate::runs::next_run;
 use list::TOP;
 use list::Written;
 use refusal::Found;
 use refusal::Refusal;
 ghost use mathlib.Core.Path.{_≡_};
-ghost use mathlib.Core.Bool.{cond};
-ghost use Prim.Native.Nat.{_+_, _≤_, _<_};
-ghost use lib.Dec.{eqb};
+ghost use Prim.Native.Nat.{_≤_};
 ghost use lib.ListN.{length};
-ghost use Rattle.list.specs.Interval.{top, intervals};
+ghost use Rattle.list.specs.Interval.{intervals};
 ghost use Rattle.convert.specs.Convert.{badNumberOf, intervalsOf, ToIntervals};
 ghost use Rattle.convert.specs.Front.{inFront};
-
-// 0 where x goes on with the stretch that ends with u, else 1.
-fn gap(u: u32, x: u32) -> usize
-    requires { ⌜ u ≤ top ⌝ }
-    ensures is { λ r. ⌜ r ≡ cond (eqb x (u + 1)) 0 1 ⌝ }
-    ensures most { λ r. ⌜ r ≤ 1 ⌝ }
-{
-    if x == u + 1 { 0 } else { 1 }
-}
 
 // How many intervals the numbers listed make.
 fn count_intervals(listed: &[u32]) -> usize

@@ -1,55 +1,84 @@
--- The invariant: the singles and pairs are those passed and those to come. Rests on the next run, and on one interval (WriteLaws).
-use mathlib.Core.Path.{_≡_, ap, _∙_}
-use Prim.Native.Nat.{ℕ, _≤_, _-_, _+_, _*_}
+-- The invariant: the runs are those begun and one for each break to come, the pairs those that went on and those that will. Rests on one number (RunLaws, WriteLaws).
+use mathlib.Core.Path.{_≡_, sym, _∙_}
+use Prim.Native.Nat.{_≤_, _<_, _-_, _+_}
 use native.Mathlib.Omega.{arith}
-use mathlib.Core.List.{List}
 use lib.ListN.{length, drop}
 use denote.Ref.{now}
 use borrow.Author.Needs.{needs}
+use Rattle.list.specs.Interval.{top, intervals}
+use Rattle.list.specs.Among.{among}
+use Rattle.list.proofs.StretchLaws.{cells-proper-from}
 use Rattle.convert.specs.Convert.{intervalsOf}
-use Rattle.convert.proofs.RunLaws.{intervals-none}
-use Rattle.build.specs.Layout.{cellSingles, lowersIn}
-use Rattle.build.proofs.WriteLaws.{singles-next, pairs-next, kept-width, none-kept}
+use Rattle.convert.proofs.NumberLaws.{good-number-small}
+use Rattle.convert.proofs.RunLaws.{runs, breaks, runs-none, runs-cells, runs-count, breaks-at, breaks-end}
+use Rattle.build.specs.Layout.{lowersIn}
+use Rattle.build.proofs.KeptBytesLaws.{cells-count}
+use Rattle.build.proofs.WriteLaws.{pairsFrom, pairs-at, pairs-end, runs-pairs, none-kept}
 use Rattle.build.proofs.size.count_kept.Statement.{statement}
 use Rattle.build.proofs.size.count_kept.Tie as tie
 
 abbrev Inv-loop : tie.InvT-loop
-Inv-loop numbers singles₀ pairs₀ i₀ singles pairs i =
+Inv-loop numbers upper₀ begins₀ n₀ pairs₀ i₀ upper begins n pairs i =
     (i ≤ length numbers)
-    × (singles + 2 * pairs ≤ i)
-    × (length (cellSingles (intervalsOf numbers)) ≡ singles + length (cellSingles (intervalsOf (drop i numbers))))
-    × (length (lowersIn (intervalsOf numbers)) ≡ pairs + length (lowersIn (intervalsOf (drop i numbers))))
+    × (upper ≤ top)
+    × (begins ≤ 1)
+    × (n + pairs ≤ i)
+    × (pairs + begins ≤ n)
+    × (intervals (runs numbers) ≡ n + breaks upper (drop i numbers))
+    × (length (lowersIn (runs numbers)) ≡ pairs + pairsFrom begins upper (drop i numbers))
 
 abbrev μ-loop : tie.MeasureT-loop
-μ-loop numbers singles₀ pairs₀ i₀ singles pairs i = length numbers - i
-
-loop-again : tie.Need-loop-again Inv-loop μ-loop
-loop-again c =
-    let at = c .before .before .before .loop in
-    let run = c .before .next-run .result in
-    let is = c .before .next-run .ensures in
-    let rest = intervalsOf (drop (run .next) (now (c .before .before .before .before .before .args .numbers))) in
-    let s = at .inv .2 ∙ ap (λ (cells : List ℕ). at .singles + length (cellSingles cells)) (is .cells) in
-    let m = at .inv .3 ∙ ap (λ (cells : List ℕ). at .pairs + length (lowersIn cells)) (is .cells) in
-    let width = kept-width (run .lower) (run .upper) (is .forward) in (
-      is .within,
-      omega (arith, is .width),
-      omega (arith, singles-next (run .lower) (run .upper) rest),
-      omega (arith, pairs-next (run .lower) (run .upper) rest),
-    )
+μ-loop numbers upper₀ begins₀ n₀ pairs₀ i₀ upper begins n pairs i = length numbers - i
 
 returns : tie.Need-returns Inv-loop μ-loop
 returns c =
+    let start = c .before .before in
+    let xs = now (start .args .numbers) in
+    let e = sym (runs-cells top xs (start .pre)) ∙ runs-none xs (c .if1 .taken) in
+    record { singles = rw e (sym (none-kept .0)); pairs = rw e (sym (none-kept .1)); most = omega arith }
+
+loop-holds : tie.Need-loop-holds Inv-loop μ-loop
+loop-holds c =
+    let start = c .before .before .before in
+    let xs = now (start .args .numbers) in
+    let some : 0 < length xs = omega arith in
+    (omega arith, good-number-small top xs (start .pre) 0 some, omega arith, omega arith, omega arith, runs-count xs some, omega (arith, runs-pairs xs some))
+
+loop-again : tie.Need-loop-again Inv-loop μ-loop
+loop-again c =
+    let at = c .before .before .before .before .loop in
+    let start = c .before .before .before .before .before .before .before .before in
+    let xs = now (start .args .numbers) in
+    let some = c .before .before .before .loop-test .taken in
+    let apart = c .before .gap .ensures in
+    let on = c .goes-on .ensures in
+    let next = rw (← apart .0) at (pairs-at (at .begins) (at .upper) xs (at .i) some) in (
+      omega arith,
+      good-number-small top xs (start .pre) (at .i) some,
+      apart .1,
+      omega (arith, at .inv .3, on .1 .1),
+      omega (arith, at .inv .4, on .1 .0),
+      omega (arith, at .inv .5, breaks-at (at .upper) xs (at .i) some, apart .0),
+      omega (arith, at .inv .6, on .0),
+    )
+
+returns-2 : tie.Need-returns-2 Inv-loop μ-loop
+returns-2 c =
     let at = c .before .loop in
-    let none = intervals-none (now (c .before .before .before .args .numbers)) (at .i) (c .loop-test .left) in
-    let s = at .inv .2 ∙ ap (λ (cells : List ℕ). at .singles + length (cellSingles cells)) none in
-    let m = at .inv .3 ∙ ap (λ (cells : List ℕ). at .pairs + length (lowersIn cells)) none in
-    record { singles = omega (arith, none-kept .0); pairs = omega (arith, none-kept .1); most = omega arith }
+    let start = c .before .before .before .before .before in
+    let xs = now (start .args .numbers) in
+    let e = runs-cells top xs (start .pre) in
+    let n = rw e at (at .inv .5) in
+    let pairs = rw e at (at .inv .6) in
+    let both = cells-count top 1 (intervalsOf xs) (cells-proper-from (among xs) top top (omega arith)) in
+    let none = breaks-end (at .upper) xs (at .i) (c .loop-test .left) in
+    let no-more = pairs-end (at .begins) (at .upper) xs (at .i) (c .loop-test .left) in
+    record { singles = omega arith; pairs = omega arith; most = omega arith }
 
 pub count-kept-spec : {M : Type 1} → statement M
 count-kept-spec =
     tie.close
     (tie.spec
-    Inv-loop μ-loop (λ c. (omega arith, omega arith, omega arith, omega arith)) (λ c κs. search needs) (λ c κs. search needs)
-    (λ c. search needs) (λ c. search needs) (λ c. search needs)
-    (λ c. omega (arith, c .before .next-run .ensures .forward, c .before .next-run .ensures .width)) loop-again returns)
+    Inv-loop μ-loop returns (λ c. search needs) loop-holds (λ c. search needs) (λ c. search needs) (λ c κs. search needs)
+    (λ c. search needs) (λ c κs. search needs) (λ c. search needs) (λ c. search needs) (λ c. search needs) loop-again
+    (λ c. search needs) returns-2)

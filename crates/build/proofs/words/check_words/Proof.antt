@@ -1,5 +1,5 @@
 -- The invariant: all words before `start` are passed, and none is bad. Rests on one word of the pass (WordsLaws).
-use mathlib.Core.Path.{_≡_, sym, _∙_}
+use mathlib.Core.Path.{sym, _∙_}
 use Prim.Native.Nat.{_-_, _<_}
 use native.Mathlib.Omega.{arith}
 use lib.ListN.{length}

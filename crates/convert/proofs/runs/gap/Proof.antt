@@ -2,8 +2,8 @@
 use Prim.Native.Nat.{_+_}
 use borrow.Author.Tests.{eq-eqb, ne-eqb}
 use borrow.Author.Needs.{needs}
-use Rattle.convert.proofs.to_intervals.gap.Statement.{statement}
-use Rattle.convert.proofs.to_intervals.gap.Tie as tie
+use Rattle.convert.proofs.runs.gap.Statement.{statement}
+use Rattle.convert.proofs.runs.gap.Tie as tie
 
 returns : tie.Need-returns
 returns c =
