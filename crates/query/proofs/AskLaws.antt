@@ -1,5 +1,4 @@
--- Laws of the whole call: an accepted question made ready, its answer by what the driver tallied, and the refusals before it; and that the promise
--- leaves one outcome only.
+-- Laws of the whole call: an accepted question made ready, its answer by what the driver tallied, and the refusals before it.
 use Prim.Native.Nat.{ℕ, _+_, _-_, _*_, _/_, _≤_, _<_}
 use native.Mathlib.Nat.{sub-zero}
 use native.Mathlib.Omega.{arith}
@@ -110,7 +109,3 @@ module _ (rule : Rule) (index question out : List ℕ) where
 
   pub refused-asks : (x : Refusal) → checkOf index ≡ Refused x → Asks rule index question out out (answer.Refused x)
   refused-asks x e = record { answer = rw e; cells = rw e }
-
-  -- two outcomes that the promise allows are equal
-  pub asks-once : (out′ out″ : List ℕ) (r s : Answer) → Asks rule index question out out′ r → Asks rule index question out out″ s → (r ≡ s) × (out′ ≡ out″)
-  asks-once out′ out″ r s p q = (p .answer ∙ sym (q .answer), p .cells ∙ sym (q .cells))
