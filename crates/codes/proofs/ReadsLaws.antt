@@ -9,7 +9,6 @@ use lib.ListN.{length, getD, drop, drop-of-length-le, length-append, List·getD-
 use borrow.Author.Tests.{lt-ltb, le-ltb, eqb-false}
 use Rattle.laws.proofs.Tests.{by-test, leb-cases}
 use Rattle.question.specs.declared.token.Op.{Op}
-use Rattle.question.specs.declared.token.Op.the-variants.{And, Or, Not}
 use Rattle.question.specs.Token.{Tok, wordT, opT, openT, closeT, otherT}
 use Rattle.question.specs.Grammar.{Tree, word, pair, part, Link, link, good, bind, closed, fromLeft, question, operand, links, treeWords}
 use Rattle.question.proofs.LevelLaws.{bad-good, bind-first, question-level}
@@ -58,9 +57,7 @@ code-within codes i h = leb-cases (length codes) i (λ g. absurd (let e = List·
 
 pub code-word : (t : Tok) → codeOf t ≡ wordCode → (w : List ℕ) × (p : ℕ) × (t ≡ wordT w p)
 code-word (wordT w p) e = (w, p, refl)
-code-word (opT And p) e = absurd (omega arith)
-code-word (opT Or p) e = absurd (omega arith)
-code-word (opT Not p) e = absurd (omega arith)
+code-word (opT o p) e = absurd (let r = op-range o in omega arith)
 code-word (openT p) e = absurd (omega arith)
 code-word (closeT p) e = absurd (omega arith)
 code-word (otherT p) e = absurd (omega arith)
@@ -68,9 +65,7 @@ code-word (otherT p) e = absurd (omega arith)
 pub code-open : (t : Tok) → codeOf t ≡ openCode → (p : ℕ) × (t ≡ openT p)
 code-open (openT p) e = (p, refl)
 code-open (wordT w p) e = absurd (omega arith)
-code-open (opT And p) e = absurd (omega arith)
-code-open (opT Or p) e = absurd (omega arith)
-code-open (opT Not p) e = absurd (omega arith)
+code-open (opT o p) e = absurd (let r = op-range o in omega arith)
 code-open (closeT p) e = absurd (omega arith)
 code-open (otherT p) e = absurd (omega arith)
 
@@ -120,9 +115,7 @@ none-closed (otherT p) y r k x z j a e = bad-good 9 (otherT p ∷ r) x z j e
 some-closed : (t : Tok) (y : Tree) (r : List Tok) (k : ℕ) → codeOf t ≡ closeCode → closed y (t ∷ r) k ≡ good (part y) r k
 some-closed (closeT p) y r k e = refl
 some-closed (wordT w p) y r k e = absurd (omega arith)
-some-closed (opT And p) y r k e = absurd (omega arith)
-some-closed (opT Or p) y r k e = absurd (omega arith)
-some-closed (opT Not p) y r k e = absurd (omega arith)
+some-closed (opT o p) y r k e = absurd (let r = op-range o in omega arith)
 some-closed (openT p) y r k e = absurd (omega arith)
 some-closed (otherT p) y r k e = absurd (omega arith)
 

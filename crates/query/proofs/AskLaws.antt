@@ -1,9 +1,8 @@
--- Laws of the whole call: an accepted question made ready, its answer by what the driver tallied, and the refusals before it; and that the promise
--- leaves one outcome only.
+-- Laws of the whole call: an accepted question made ready, its answer by what the driver tallied, and the refusals before it.
 use Prim.Native.Nat.{ℕ, _+_, _-_, _*_, _/_, _≤_, _<_}
 use native.Mathlib.Nat.{sub-zero}
 use native.Mathlib.Omega.{arith}
-use mathlib.Core.Path.{_≡_, refl, sym, ap, _∙_}
+use mathlib.Core.Path.{_≡_, sym, ap, _∙_}
 use mathlib.Core.Bool.{Bool, true, false}
 use mathlib.Core.List.{List, _++_}
 use lib.ListN.{length, take, drop}
@@ -22,12 +21,10 @@ use Rattle.index.specs.Format.{highest}
 use Rattle.index.specs.Sound.{Sound}
 use Rattle.directory.specs.Has.{has}
 use Rattle.index.specs.Check.{checkOf}
-use Rattle.question.specs.declared.reader.Reading.the-variants as reading
 use Rattle.question.specs.Token.{tokens}
 use Rattle.question.specs.Grammar.{Tree, Rule, fromLeft}
 use Rattle.question.specs.Meaning.{fits}
-use Rattle.question.specs.Reading.{Parsed, parses, refuses, parsed, readingOf}
-use Rattle.question.specs.Reading as read
+use Rattle.question.specs.Reading.{parses, refuses, parsed}
 use Rattle.question.proofs.ParsedLaws.{asked-accepts, accepted-within}
 use Rattle.query.specs.Ask.{satisfying, Answers, Asks}
 use Rattle.codes.specs.Code.{codesOf, wordCodes}
@@ -36,7 +33,7 @@ use Rattle.slots.specs.Slots.{slotHas}
 use Rattle.slots.specs.declared.compile.Compiled.{Compiled}
 use Rattle.slots.specs.Compile.{Compiles}
 use Rattle.query.specs.Drive.{TreeOf, testOf, AskedBy, Tallied}
-use Rattle.query.specs.Prepared.{IsParsed, Prepared}
+use Rattle.query.specs.Prepared.{Prepared}
 use Rattle.query.proofs.QuestionBound.{question-bound}
 use Rattle.query.proofs.SatisfyLaws.{satisfying-even}
 use Rattle.slots.proofs.WholeLaws.{slot-fits, compiled-slots}
@@ -112,23 +109,3 @@ module _ (rule : Rule) (index question out : List ℕ) where
 
   pub refused-asks : (x : Refusal) → checkOf index ≡ Refused x → Asks rule index question out out (answer.Refused x)
   refused-asks x e = record { answer = rw e; cells = rw e }
-
-  -- two outcomes that the promise allows are equal
-  pub asks-once : (out′ out″ : List ℕ) (r s : Answer) → Asks rule index question out out′ r → Asks rule index question out out″ s → (r ≡ s) × (out′ ≡ out″)
-  asks-once out′ out″ r s p q = (p .answer ∙ sym (q .answer), p .cells ∙ sym (q .cells))
-
-refused-step : (a : Parsed) (x : Refusal) → read.answer a ≡ reading.Refused x → a ≡ refuses x
-refused-step (parses t k) x e = absurd (let z : _≡_ {A = ℕ} 0 1 = cc in omega arith)
-refused-step (refuses r) x e = let f : r ≡ x = cc in ap refuses f
-
-pub reading-refuses : (s : List ℕ) (x : Refusal) → readingOf s ≡ reading.Refused x → parsed fromLeft s ≡ refuses x
-unfolding readingOf
-reading-refuses s x e = refused-step (parsed fromLeft s) x e
-
-accepted-step : (s : List ℕ) (k : ℕ) (a : Parsed) → parsed fromLeft s ≡ a → read.answer a ≡ reading.Accepted k → IsParsed s
-accepted-step s k (parses t n) e h = record { tree = t; words = n; is = e }
-accepted-step s k (refuses r) e h = absurd (let z : _≡_ {A = ℕ} 0 1 = cc in omega arith)
-
-pub reading-parsed : (s : List ℕ) (k : ℕ) → readingOf s ≡ reading.Accepted k → IsParsed s
-unfolding readingOf
-reading-parsed s k h = accepted-step s k (parsed fromLeft s) refl h

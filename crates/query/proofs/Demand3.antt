@@ -41,8 +41,8 @@ use Rattle.question.specs.Exchange.{around, Matched, Exchangeable, AcceptedToo}
 use Rattle.question.proofs.RuleLaws.{from-left-respects}
 use Rattle.question.proofs.ParsedLaws.{accepted-within}
 use Rattle.question.proofs.Exchange.{exchange, inside-accepted}
-use Rattle.query.specs.Ask.{satisfying, Asks}
-use Rattle.query.specs.Demand3.{written, Answered, SameRecords, Exchanging, ExchangingPair, writtenBy, OnlyWritten, ListOrRoom, SameAnswers}
+use Rattle.query.specs.Ask.{satisfying}
+use Rattle.query.specs.Demand3.{written, Answered, SameRecords, Exchanging, ExchangingPair, writtenBy, OnlyWritten, ListOrRoom, CallsAgree}
 use Rattle.query.proofs.SatisfyLaws.{same-everywhere, satisfying-even, satisfying-same, same-satisfying}
 
 -- ---- what an answered question writes: the one proper list of its records
@@ -125,10 +125,7 @@ module _ (rule : Rule) (respects : Respects rule) (index before a b behind : Lis
       } in
       exchange rule respects (has index) a b parts before behind (e .tree) (e .words) (e .accepted) .accepted (e .within)
 
-  pub exchange-answers : Exchanging rule index before a b behind →
-      (out out′ other other′ : List ℕ) (r r′ : Answer) → length out / 2 ≡ length other / 2 →
-      Asks rule index (around before a behind) out out′ r → Asks rule index (around before b behind) other other′ r′ →
-      SameAnswers rule (around before b behind) out out′ other other′ r r′
+  pub exchange-answers : Exchanging rule index before a b behind → CallsAgree rule index (around before a behind) (around before b behind)
   exchange-answers e out out′ other other′ r r′ room one-call other-call =
       let too = changed e in
       let one = e .tree in
@@ -170,14 +167,11 @@ module _ (rule : Rule) (respects : Respects rule) (index before a b behind : Lis
         within = e .within;
       }
 
-  pub exchange-pair : ExchangingPair rule index before a b behind →
-      (out out′ other other′ : List ℕ) (r r′ : Answer) → length out / 2 ≡ length other / 2 →
-      Asks rule index (around before a behind) out out′ r → Asks rule index (around before b behind) other other′ r′ →
-      SameAnswers rule (around before b behind) out out′ other other′ r r′
+  pub exchange-pair : ExchangingPair rule index before a b behind → CallsAgree rule index (around before a behind) (around before b behind)
   exchange-pair e = exchange-answers (pair-exchanging e)
 
-asks-once : (rule : Rule) (s : List ℕ) (t u : Tree) (n m : ℕ) → parsed rule s ≡ parses t n → parsed rule s ≡ parses u m → t ≡ u
-asks-once rule s t u n m e f = cc
+parsed-once : (rule : Rule) (s : List ℕ) (t u : Tree) (n m : ℕ) → parsed rule s ≡ parses t n → parsed rule s ≡ parses u m → t ≡ u
+parsed-once rule s t u n m e f = cc
 
 -- no premise is empty: any pair of brackets in an accepted question may be exchanged, for itself if for nothing else
 pub exchanging-itself : (rule : Rule) (index before a behind : List ℕ) → checkOf index ≡ Good → (t : Tree) (n : ℕ) → parsed rule (around before a behind) ≡ parses t n → Matched a →
@@ -193,23 +187,17 @@ exchanging-itself rule index before a behind sound t n accepted matched =
       tree-b = by .tree;
       words-b = length (tokenWords (tokens a));
       b-accepted = by .accepted;
-      same = λ u m e x h g. ap (λ (y : Tree). fits (has index) y x) (asks-once rule a u (by .tree) m (length (tokenWords (tokens a))) e (by .accepted));
+      same = λ u m e x h g. ap (λ (y : Tree). fits (has index) y x) (parsed-once rule a u (by .tree) m (length (tokenWords (tokens a))) e (by .accepted));
       within = accepted-within rule (around before a behind) t n accepted;
     }
 
 -- ---- by the published rule
 
 module _ (index before a b behind : List ℕ) where
-  pub exchange-answers-from-left : Exchanging fromLeft index before a b behind →
-      (out out′ other other′ : List ℕ) (r r′ : Answer) → length out / 2 ≡ length other / 2 →
-      Asks fromLeft index (around before a behind) out out′ r → Asks fromLeft index (around before b behind) other other′ r′ →
-      SameAnswers fromLeft (around before b behind) out out′ other other′ r r′
+  pub exchange-answers-from-left : Exchanging fromLeft index before a b behind → CallsAgree fromLeft index (around before a behind) (around before b behind)
   exchange-answers-from-left = exchange-answers fromLeft from-left-respects index before a b behind
 
-  pub exchange-pair-from-left : ExchangingPair fromLeft index before a b behind →
-      (out out′ other other′ : List ℕ) (r r′ : Answer) → length out / 2 ≡ length other / 2 →
-      Asks fromLeft index (around before a behind) out out′ r → Asks fromLeft index (around before b behind) other other′ r′ →
-      SameAnswers fromLeft (around before b behind) out out′ other other′ r r′
+  pub exchange-pair-from-left : ExchangingPair fromLeft index before a b behind → CallsAgree fromLeft index (around before a behind) (around before b behind)
   exchange-pair-from-left = exchange-pair fromLeft from-left-respects index before a b behind
 
 pub exchanging-itself-from-left : (index before a behind : List ℕ) → checkOf index ≡ Good → (t : Tree) (n : ℕ) → parsed fromLeft (around before a behind) ≡ parses t n → Matched a →
