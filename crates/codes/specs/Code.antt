@@ -5,6 +5,9 @@ use mathlib.Core.List.{List, [], _∷_}
 use lib.Dec.{eqb}
 use Rattle.question.specs.declared.token.Op.{Op}
 use Rattle.question.specs.declared.token.Op.the-variants.{And, Or, Not}
+use Rattle.question.specs.declared.token.Token.{Token}
+use Rattle.question.specs.declared.token.Token.the-variants as token
+use Rattle.question.specs.declared.token.Token.the-variants.{End, Word, Open, Close, Other}
 use Rattle.question.specs.Token.{Tok, wordT, opT, openT, closeT, otherT}
 
 -- the code of a word, of each operator and of each bracket
@@ -48,6 +51,15 @@ codeOf (opT o p) = opCode o
 codeOf (openT p) = openCode
 codeOf (closeT p) = closeCode
 codeOf (otherT p) = noCode
+
+-- the code of the token that the reader found; the end has none
+abbrev pub tokenCode : Token → ℕ
+tokenCode (End p) = noCode
+tokenCode (Word p q) = wordCode
+tokenCode (token.Op o p q) = opCode o
+tokenCode (Open p) = openCode
+tokenCode (Close p) = closeCode
+tokenCode (Other p) = noCode
 
 unfoldable pub codesOf : List Tok → List ℕ
 codesOf [] = []

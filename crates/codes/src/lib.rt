@@ -2,4 +2,3 @@
 
 pub mod code;
 pub mod read;
-pub mod write;

@@ -4,3 +4,4 @@ pub mod fill;
 pub mod flips;
 pub mod members;
 pub mod steps;
+pub mod tuning;

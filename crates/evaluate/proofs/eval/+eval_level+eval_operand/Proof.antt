@@ -8,6 +8,7 @@ use lib.Seq.{length-take-le}
 use borrow.Author.Tests.{not-true, not-false}
 use borrow.Rule.Slice.PartMut.{same-len-mid}
 use borrow.Author.Needs.{needs}
+use Rattle.window.specs.Tuning.{windowMost}
 use Rattle.window.specs.Window.{Holds}
 use Rattle.slots.specs.Slots.{slotHas, slotFits}
 use Rattle.codes.proofs.ReadsLaws.{Level, level-start, level-step, level-end, operand-none, operand-word, operand-many, operand-deep, operand-part, operand-unclosed}
@@ -95,7 +96,7 @@ module _ (t : ℕ) where
       let l = c .before .before .before in
       operator-here (begun l .args .codes .now) (l .loop .at) (c .before .before .code-at .ensures) (sym (c .before .is-operator .ensures) ∙ not-false (c .before .is-operator .result) (c .if1 .left))
 
-  -- the window of the right side is as long as the left one, of at most 128 words
+  -- the window of the right side is as long as the left one, and no longer than any
   abbrev RightRead : Type 0
   RightRead = eval-level-lts.After-eval-operand2 (level-claims t) (eval-level-at t) eval-level.Post eval-level-Inv-loop eval-level-μ-loop
 
@@ -108,11 +109,11 @@ module _ (t : ℕ) where
   abbrev size : Loop → ℕ
   size c = length (first c .eval-operand .last .1 .1 .1 .1 .1 .1 .1 .1 .0)
 
-  size-most : (c : Loop) → size c ≤ 128
+  size-most : (c : Loop) → size c ≤ windowMost
   size-most c = omega (arith, first c .eval-operand .ensures .ws-long, begun c .pre .1 .size)
 
   right-long : (c : RightRead) → length (right c) ≡ size (loop c) - 0
-  right-long c = c .eval-operand2 .ensures .ws-long ∙ length-take-le (size (loop c) - 0) (replicate 128 0) (omega (arith, size-most (loop c)))
+  right-long c = c .eval-operand2 .ensures .ws-long ∙ length-take-le (size (loop c) - 0) (replicate windowMost 0) (omega (arith, size-most (loop c)))
 
   level-loop-holds : eval-level-lts.Need-loop-holds (level-claims t) (eval-level-at t) eval-level.Post eval-level-Inv-loop eval-level-μ-loop
   level-loop-holds c =
@@ -148,8 +149,8 @@ module _ (t : ℕ) where
         record {
           lent = record { sound = p .lent .sound; entries-long = p .lent .entries-long; hints-long = looped .loop .inv .2 };
           inside = omega (arith, operator (c .before .before) .1);
-          blank = front-blank (size looped - 0) 128;
-          size = rw (length-take-le {A = ℕ} (size looped - 0) (replicate 128 0) (omega arith)) (omega arith);
+          blank = front-blank (size looped - 0) windowMost;
+          size = rw (length-take-le {A = ℕ} (size looped - 0) (replicate windowMost 0) (omega arith)) (omega arith);
           near = p .near;
         },
       )
@@ -159,7 +160,7 @@ module _ (t : ℕ) where
       let read = c .before .before .before .before .before in
       let n = size (loop read) in
       let most = size-most (loop read) in
-      let whole : length (right read ++ drop (n - 0) (replicate 128 0)) ≡ 128 = same-len-mid 0 (n - 0) (replicate 128 0) (right read) (read .eval-operand2 .ensures .ws-long) in
+      let whole : length (right read ++ drop (n - 0) (replicate windowMost 0)) ≡ windowMost = same-len-mid 0 (n - 0) (replicate windowMost 0) (right read) (read .eval-operand2 .ensures .ws-long) in
       omega arith
 
   level-combine-into-requires : eval-level-lts.Need-combine-into-requires (level-claims t) (eval-level-at t) eval-level.Post eval-level-Inv-loop eval-level-μ-loop

@@ -1,8 +1,7 @@
 -- The reading refuses first; of an accepted question, what its answer is.
 use mathlib.Core.Path.{sym, _∙_}
 use Rattle.question.specs.Grammar.{fromLeft}
-use Rattle.slots.proofs.FindLaws.{reading-asked}
-use Rattle.query.proofs.AskLaws.{refused-answers, reading-refuses}
+use Rattle.query.proofs.AskLaws.{refused-answers, reading-refuses, reading-parsed}
 use borrow.Author.Needs.{needs}
 use Rattle.query.proofs.ask.answer_question.Statement.{statement}
 use Rattle.query.proofs.ask.answer_question.Tie as tie
@@ -10,7 +9,7 @@ use Rattle.query.proofs.ask.answer_question.Tie as tie
 answer-accepted-requires : tie.Need-answer-accepted-requires
 answer-accepted-requires c κs =
     let start = c .before .before .before .before .before .before .before in
-    (start .pre, reading-asked (start .args .question .now) (c .before .enum-told .given .0 .0) (sym (c .before .before .before .read-question .ensures) ∙ c .before .enum-told .given .1))
+    (start .pre, reading-parsed (start .args .question .now) (c .before .enum-told .given .0 .0) (sym (c .before .before .before .read-question .ensures) ∙ c .before .enum-told .given .1))
 
 returns-2 : tie.Need-returns-2
 returns-2 c =
