@@ -23,10 +23,10 @@ use Rattle.evaluate.proofs.eval.+eval_level+eval_operand.Lts-eval_level
 use Rattle.evaluate.proofs.eval.eval_operand.Reads as eval-operand
 use Rattle.evaluate.proofs.eval.eval_operand.Kinds as eval-operand-kinds
 use Rattle.evaluate.proofs.eval.+eval_level+eval_operand.Lts-eval_operand as eval-operand-lts
-use Rattle.codes.proofs.read.code_at.Reads as code-at-reads
-use Rattle.codes.proofs.read.is_operator.Reads as is-operator-reads
-use Rattle.evaluate.proofs.combine.combine_into.Reads as combine-into-reads
-use Rattle.evaluate.proofs.slot.fill_slot.Reads as fill-slot-reads
+use Rattle.codes.proofs.read.code_at.Reads as code-at
+use Rattle.codes.proofs.read.is_operator.Reads as is-operator
+use Rattle.evaluate.proofs.combine.combine_into.Reads as combine-into
+use Rattle.evaluate.proofs.slot.fill_slot.Reads as fill-slot
 use Rattle.evaluate.proofs.eval.+eval_level+eval_operand.{statement}
 use Rattle.evaluate.proofs.eval.+eval_level+eval_operand.Tie.{close}
 
@@ -37,31 +37,23 @@ abbrev μ-eval-operand : Measures 5 eval-operand-kinds.ps ℕ
 μ-eval-operand κs a = 2 * (a .1 .1 .1 .0)
 
 abbrev eval-level-at : ℕ → In 5 eval-level-kinds.ps
-eval-level-at t =
-    and 5 eval-level-kinds.ps (is 5 eval-level-kinds.ps μ-eval-level t) eval-level.Pre
+eval-level-at t = and 5 eval-level-kinds.ps (is 5 eval-level-kinds.ps μ-eval-level t) eval-level.Pre
 
 abbrev eval-level-below : ℕ → In 5 eval-level-kinds.ps
-eval-level-below t =
-    and 5 eval-level-kinds.ps (falls 5 eval-level-kinds.ps _<_ μ-eval-level t) eval-level.Pre
+eval-level-below t = and 5 eval-level-kinds.ps (falls 5 eval-level-kinds.ps _<_ μ-eval-level t) eval-level.Pre
 
 abbrev eval-operand-at : ℕ → In 5 eval-operand-kinds.ps
-eval-operand-at t =
-    and 5 eval-operand-kinds.ps (is 5 eval-operand-kinds.ps μ-eval-operand t) eval-operand.Pre
+eval-operand-at t = and 5 eval-operand-kinds.ps (is 5 eval-operand-kinds.ps μ-eval-operand t) eval-operand.Pre
 
 abbrev eval-operand-below : ℕ → In 5 eval-operand-kinds.ps
-eval-operand-below t =
-    and
-    5
-    eval-operand-kinds.ps
-    (falls 5 eval-operand-kinds.ps _<_ μ-eval-operand t)
-    eval-operand.Pre
+eval-operand-below t = and 5 eval-operand-kinds.ps (falls 5 eval-operand-kinds.ps _<_ μ-eval-operand t) eval-operand.Pre
 
 -- what the calls of each promise
 abbrev level-claims : ℕ → eval-level-lts.Claims
-level-claims t = (eval-operand-below t, eval-operand.Post, code-at-reads.Asked, code-at-reads.Learnt, is-operator-reads.Asked, is-operator-reads.Learnt, combine-into-reads.Asked, combine-into-reads.Learnt)
+level-claims t = (eval-operand-below t, eval-operand.Post, code-at.Asked, code-at.Learnt, is-operator.Asked, is-operator.Learnt, combine-into.Asked, combine-into.Learnt)
 
 abbrev operand-claims : ℕ → eval-operand-lts.Claims
-operand-claims t = (code-at-reads.Asked, code-at-reads.Learnt, fill-slot-reads.Asked, fill-slot-reads.Learnt, eval-level-below t, eval-level.Post)
+operand-claims t = (code-at.Asked, code-at.Learnt, fill-slot.Asked, fill-slot.Learnt, eval-level-below t, eval-level.Post)
 
 abbrev eval-level-Inv-loop : eval-level-lts.InvT-loop
 eval-level-Inv-loop codes i k d index entries base hints₀ ws₀ at₀ slot₀ n hints ws at slot =
@@ -94,7 +86,8 @@ module _ (t : ℕ) where
   operator : (c : GoesOn) → let l = c .before .before .before in Here (begun l .args .codes .now) (l .loop .at) (opCode (opOf (c .before .before .code-at .result)))
   operator c =
       let l = c .before .before .before in
-      operator-here (begun l .args .codes .now) (l .loop .at) (c .before .before .code-at .ensures) (sym (c .before .is-operator .ensures) ∙ not-false (c .before .is-operator .result) (c .if1 .left))
+      operator-here (begun l .args .codes .now) (l .loop .at) (c .before .before .code-at .ensures)
+      (sym (c .before .is-operator .ensures) ∙ not-false (c .before .is-operator .result) (c .if1 .left))
 
   -- the window of the right side is as long as the left one, and no longer than any
   abbrev RightRead : Type 0
@@ -121,7 +114,8 @@ module _ (t : ℕ) where
       let a = start .args in
       let r = c .before .before .before .before .eval-operand in
       let e = r .ensures in
-      (e .ahead, e .inside, e .hints-long ∙ start .pre .1 .lent .hints-long, refl, level-start (a .codes .now) (a .d) (a .k) (a .i) (r .result .code) (r .result .slot) _ (e .reads))
+      let started = level-start (a .codes .now) (a .d) (a .k) (a .i) (r .result .code) (r .result .slot) _ (e .reads) in
+      (e .ahead, e .inside, e .hints-long ∙ start .pre .1 .lent .hints-long, refl, started)
 
   level-returns : eval-level-lts.Need-returns (level-claims t) (eval-level-at t) eval-level.Post eval-level-Inv-loop eval-level-μ-loop
   level-returns c =
@@ -186,7 +180,8 @@ module _ (t : ℕ) where
         f .hints-long ∙ l .inv .2,
         both .long ∙ w,
         level-step (a .codes .now) (a .d) (a .k) (a .i) (l .at) (l .slot) (r .result .code) (r .result .slot) _ _ _ o
-            (operator (read .before .before .before) .0) (l .inv .4) (f .reads) (λ u v g h m. holds-pair (slotHas (a .index .now) (a .entries .now)) (a .k) o u v g (omega arith) both h m),
+            (operator (read .before .before .before) .0) (l .inv .4) (f .reads)
+            (λ u v g h m. holds-pair (slotHas (a .index .now) (a .entries .now)) (a .k) o u v g (omega arith) both h m),
       )
 
 -- ---- an operand
@@ -221,7 +216,8 @@ module _ (t : ℕ) where
 
   close-here : (c : AtClose) → Here (open-start (opened c) .args .codes .now) (c .before .before .before .before .before .before .eval-level .result .code) closeCode
   close-here c =
-      code-here (open-start (opened c) .args .codes .now) (c .before .before .before .before .before .before .eval-level .result .code) (c .before .code-at2 .ensures) (c .if5 .left) (omega arith)
+      code-here (open-start (opened c) .args .codes .now) (c .before .before .before .before .before .before .eval-level .result .code)
+      (c .before .code-at2 .ensures) (c .if5 .left) (omega arith)
 
   operand-fill-slot-requires : eval-operand-lts.Need-fill-slot-requires (operand-claims t) (eval-operand-at t) eval-operand.Post
   operand-fill-slot-requires c κs =
@@ -239,7 +235,8 @@ module _ (t : ℕ) where
         inside = omega (arith, word-here at .1);
         hints-long = f .0;
         ws-long = f .1 .long;
-        reads = λ n. operand-word (a .codes .now) n (a .d) (a .k) (a .i) (word-here at .0) _ (λ u. holds-word (slotHas (a .index .now) (a .entries .now)) (a .k) u (word-start at .pre .1 .blank) (f .1));
+        reads = λ n. operand-word (a .codes .now) n (a .d) (a .k) (a .i) (word-here at .0) _
+            (λ u. holds-word (slotHas (a .index .now) (a .entries .now)) (a .k) u (word-start at .pre .1 .blank) (f .1));
       }
 
   operand-returns-2 : eval-operand-lts.Need-returns-2 (operand-claims t) (eval-operand-at t) eval-operand.Post
@@ -283,7 +280,8 @@ module _ (t : ℕ) where
         inside = open-start at .pre .1 .inside;
         hints-long = e .hints-long;
         ws-long = e .ws-long;
-        reads = λ n. operand-unclosed (a .codes .now) n (a .d) (a .k) (a .i) (open-here at .0) (r .result .code) (r .result .slot) _ (e .reads) (a .i) (a .k) _ (λ h. c .if5 .taken (c .before .code-at2 .ensures ∙ h));
+        reads = λ n. operand-unclosed (a .codes .now) n (a .d) (a .k) (a .i) (open-here at .0) (r .result .code) (r .result .slot) _ (e .reads) (a .i) (a .k) _
+            (λ h. c .if5 .taken (c .before .code-at2 .ensures ∙ h));
       }
 
   operand-returns-6 : eval-operand-lts.Need-returns-6 (operand-claims t) (eval-operand-at t) eval-operand.Post
@@ -296,7 +294,8 @@ module _ (t : ℕ) where
         inside = omega (arith, close-here c .1);
         hints-long = e .hints-long;
         ws-long = e .ws-long;
-        reads = λ n. operand-part (a .codes .now) n (a .d) (a .k) (a .i) (open-here (opened c) .0) (r .result .code) (r .result .slot) _ (e .reads) _ (close-here c .0) (λ u h. holds-part (slotHas (a .index .now) (a .entries .now)) (a .k) u h);
+        reads = λ n. operand-part (a .codes .now) n (a .d) (a .k) (a .i) (open-here (opened c) .0) (r .result .code) (r .result .slot) _ (e .reads) _ (close-here c .0)
+            (λ u h. holds-part (slotHas (a .index .now) (a .entries .now)) (a .k) u h);
       }
 
 pub +eval-level+eval-operand-spec : {M : Type 1} → statement M
