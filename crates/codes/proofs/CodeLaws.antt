@@ -7,7 +7,7 @@ use mathlib.Core.List.{List, [], _∷_}
 use lib.Dec.{leb}
 use lib.ListN.{length, getD}
 use borrow.Author.Tests.{leb-true, le-leb}
-use Rattle.laws.proofs.Tests.{true-false, and-both, both-and, leb-cases}
+use Rattle.laws.proofs.Tests.{true-false, and-both, both-and}
 use Rattle.question.specs.declared.token.Op.{Op}
 use Rattle.question.specs.declared.token.Op.the-variants.{And, Or, Not}
 use Rattle.question.specs.Token.{Tok, wordT, opT, openT, closeT, otherT}
@@ -35,13 +35,6 @@ op-not zero h = absurd (omega arith)
 op-not (suc zero) h = absurd (omega arith)
 op-not (suc (suc zero)) h = absurd (omega arith)
 op-not (suc (suc (suc c))) h = refl
-
-pub positive : (d : ℕ) → (d ≡ 0 → ⊥) → 1 ≤ d
-positive zero n = absurd (n refl)
-positive (suc d) n = omega arith
-
-pub above-two : (c : ℕ) → 1 < c → (c ≡ 2 → ⊥) → 2 < c
-above-two c h n = leb-cases c 2 (λ g. absurd (n (omega arith))) (λ g. g)
 
 pub op-back : (o : Op) → opOf (opCode o) ≡ o
 op-back And = refl

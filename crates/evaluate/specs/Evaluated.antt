@@ -3,6 +3,7 @@ use mathlib.Core.Path.{_≡_}
 use Prim.Native.Nat.{ℕ, _≤_}
 use mathlib.Core.List.{List}
 use lib.ListN.{length, replicate}
+use Rattle.window.specs.Tuning.{windowMost}
 use Rattle.window.specs.Window.{Holds}
 use Rattle.question.specs.Token.{Tok}
 use Rattle.question.specs.Grammar.{Tree, Out}
@@ -15,7 +16,7 @@ pub record Ready (codes : List ℕ) (i : ℕ) (index entries : List ℕ) (base :
   pub lent : ReadBy index entries hints
   pub inside : i ≤ length codes
   pub blank : ws ≡ replicate (length ws) 0
-  pub size : length ws ≤ 128
+  pub size : length ws ≤ windowMost
   pub near : base ≤ 16777216
 
 -- what it comes to, where k words stand before: the window holds what fits the tree that the codes read as

@@ -7,6 +7,7 @@ use codes::code::CLOSE_CODE;
 use codes::code::OPEN_CODE;
 use codes::code::WORD_CODE;
 use codes::read::code_at;
+use window::tuning::MOST;
 
 // The code behind what was evaluated, and the slot of the next word.
 pub struct Step {
@@ -38,7 +39,7 @@ pub fn eval_level(
         if !codes::read::is_operator(code) {
             return Step { code: at, slot };
         }
-        let mut other: [u64; 128] = [0; 128];
+        let mut other: [u64; MOST] = [0; MOST];
         let next = eval_operand(
             codes,
             at + 1,

@@ -3,6 +3,7 @@ ghost use mathlib.Core.Path.{_≡_};
 ghost use Prim.Native.Nat.{_≤_, _<_};
 ghost use lib.ListN.{length};
 ghost use Rattle.slots.specs.Slots.{slotHas, ReadBy};
+ghost use Rattle.window.specs.Tuning.{windowMost};
 ghost use Rattle.fill.specs.Added.{Added};
 use directory::parts::Regions;
 use directory::parts::regions_of;
@@ -21,7 +22,7 @@ pub fn fill_slot(
 )
     requires lends { ⌜ ReadBy (now index) (now entries) (now hints) ⌝ }
     requires within { ⌜ k < 16 ⌝ }
-    requires size { ⌜ length (now ws) ≤ 128 ⌝ }
+    requires size { ⌜ length (now ws) ≤ windowMost ⌝ }
     requires near { ⌜ base ≤ 16777216 ⌝ }
     ensures keeps { λ _. ⌜ length (now (hints .exit)) ≡ length (now (hints .entry)) ⌝ }
     ensures adds { λ _. ⌜ Added (slotHas (now (index .entry)) (now (entries .entry)) k) base (now (ws .entry)) (now (ws .exit)) ⌝ }

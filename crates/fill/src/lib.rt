@@ -9,6 +9,7 @@ ghost use Rattle.list.specs.Interval.{top, names};
 ghost use Rattle.list.specs.Kept.{walked};
 ghost use Rattle.list.specs.Reading.{KeptIn, listIn, readingPlace};
 ghost use Rattle.list.specs.Seek.{Ascends, countBelow};
+ghost use Rattle.window.specs.Tuning.{windowMost};
 ghost use Rattle.fill.specs.Added.{Added, Apart};
 use list::PairAt;
 use list::Place;
@@ -19,7 +20,7 @@ use list::cell::number_at;
 fn fill_singles(singles: &[u8], from: SingleAt, base: u32, ws: &mut [u64]) -> SingleAt
     requires ascends { ⌜ Ascends (numbersIn (now singles)) ⌝ }
     requires begins { ⌜ from .0 ≡ countBelow base (numbersIn (now singles)) ⌝ }
-    requires size { ⌜ length (now ws) ≤ 128 ⌝ }
+    requires size { ⌜ length (now ws) ≤ windowMost ⌝ }
     requires near { ⌜ base ≤ 16777216 ⌝ }
     ensures { λ r. ⌜ Added (among (numbersIn (now (singles .entry)))) base (now (ws .entry)) (now (ws .exit)) ⌝ }
 {
@@ -48,7 +49,7 @@ fn above(l: u32, base: u32) -> u32
 fn fill_pairs(lower: &[u8], upper: &[u8], from: PairAt, base: u32, ws: &mut [u64]) -> PairAt
     requires apart { ⌜ Apart (numbersIn (now lower)) (numbersIn (now upper)) ⌝ }
     requires begins { ⌜ from .0 ≡ countBelow base (numbersIn (now upper)) ⌝ }
-    requires size { ⌜ length (now ws) ≤ 128 ⌝ }
+    requires size { ⌜ length (now ws) ≤ windowMost ⌝ }
     requires near { ⌜ base ≤ 16777216 ⌝ }
     ensures { λ r. ⌜ Added (names (walked [] (numbersIn (now (lower .entry))) (numbersIn (now (upper .entry))))) base (now (ws .entry)) (now (ws .exit)) ⌝ }
 {
@@ -87,7 +88,7 @@ pub fn fill_list(
 ) -> Place
     requires kept { ⌜ KeptIn top (now singles) (now lower) (now upper) ⌝ }
     requires begins { ⌜ at ≡ readingPlace base (numbersIn (now singles)) (numbersIn (now upper)) ⌝ }
-    requires size { ⌜ length (now ws) ≤ 128 ⌝ }
+    requires size { ⌜ length (now ws) ≤ windowMost ⌝ }
     requires near { ⌜ base ≤ 16777216 ⌝ }
     ensures { λ r. ⌜ Added (names (listIn (now (singles .entry)) (now (lower .entry)) (now (upper .entry)))) base (now (ws .entry)) (now (ws .exit)) ⌝ }
 {

@@ -89,6 +89,18 @@ module _ {p : ℕ → Bool} {n : ℕ} {writing : Bool} {out₀ out : List ℕ} {
         length-sets out₀ 0 (s .done),
       )
 
+  -- and the sweep goes on behind them, from y on, where b says whether y - 1 is in
+  more-swept : (vs : List ℕ) {b : Bool} {y recs′ : ℕ} → stretches p (odd k) x (n + 1 - x) ≡ vs ++ stretches p b y (n + 1 - y) →
+      recs′ ≡ length (recordsFrom p 1 (y - 1)) → (1 ≤ y) × (y ≤ n + 1) → Swept p n writing out₀ (cond writing (sets out k vs) out) b y (k + length vs) recs′
+  more-swept vs {b} {y} e members near = record {
+    done = s .done ++ vs;
+    count = more-length vs;
+    left = s .left ∙ ap (λ (r : List ℕ). s .done ++ r) e ∙ sym (append-assoc (s .done) vs (stretches p b y (n + 1 - y)));
+    written = more-written vs;
+    members = members;
+    near = near;
+  }
+
   module _ (ends : (y : ℕ) → n < y → p y ≡ false) (m : ℕ) (some : 1 ≤ m) (xn : x ≤ n) where
     abbrev vs : List ℕ
     vs = flips p (odd k) x m
@@ -96,23 +108,18 @@ module _ {p : ℕ → Bool} {n : ℕ} {writing : Bool} {out₀ out : List ℕ} {
     abbrev next : ℕ
     next = min (x + m) (n + 1)
 
-    past-left : n + 1 < x + m → stretches p (odd k) x (n + 1 - x) ≡ vs ++ []
-    past-left h =
-        let l : n + 1 - x + (m - (n + 1 - x)) ≡ m = omega arith in
-        let o : odd (k + length vs) ≡ false = flips-parity p (odd k) x m k refl ∙ before-last p (odd k) x m (x + m - 1) (omega arith) some ∙ ends (x + m - 1) (omega arith) in
-        sym (stretches-past p (odd k) x (n + 1 - x) (m - (n + 1 - x)) (λ i g. ends (x + (n + 1 - x) + i) (omega arith)))
-        ∙ ap (stretches p (odd k) x) l
-        ∙ part-turn p x m m k (omega arith) vs refl
-        ∙ ap (λ (r : List ℕ). vs ++ r) (stretches-none p (odd (k + length vs)) (x + m) (m - m) o (omega arith))
-
+    -- where the step goes past n, nothing is left and nothing is open
     step-left : stretches p (odd k) x (n + 1 - x) ≡ vs ++ stretches p (odd (k + length vs)) next (n + 1 - next)
     step-left = leb-cases (x + m) (n + 1)
         (λ h. let e : min (x + m) (n + 1) ≡ x + m = omega arith in
         let f : n + 1 - (x + m) ≡ n + 1 - x - m = omega arith in
-        rw (e, f) (part-turn p x m (n + 1 - x) k (omega arith) vs refl))
-        (λ h. let e : min (x + m) (n + 1) ≡ n + 1 = omega arith in
+        rw (e, f) (part-turn p x m (n + 1 - x) k (omega arith)))
+        (λ h. let l : n + 1 - x + (m - (n + 1 - x)) ≡ m = omega arith in
         let o : odd (k + length vs) ≡ false = flips-parity p (odd k) x m k refl ∙ before-last p (odd k) x m (x + m - 1) (omega arith) some ∙ ends (x + m - 1) (omega arith) in
-        past-left h ∙ ap (λ (r : List ℕ). vs ++ r) (sym (stretches-none p (odd (k + length vs)) next (n + 1 - next) o (omega arith))))
+        sym (stretches-past p (odd k) x (n + 1 - x) (m - (n + 1 - x)) (λ i g. ends (x + (n + 1 - x) + i) (omega arith)))
+        ∙ ap (stretches p (odd k) x) l
+        ∙ part-turn p x m m k (omega arith)
+        ∙ ap (λ (r : List ℕ). vs ++ r) (stretches-none p (odd (k + length vs)) (x + m) (m - m) o (omega arith) ∙ sym (stretches-none p (odd (k + length vs)) next (n + 1 - next) o (omega arith))))
 
     step-members : recs + length (recordsFrom p x m) ≡ length (recordsFrom p 1 (next - 1))
     step-members =
@@ -127,20 +134,8 @@ module _ {p : ℕ → Bool} {n : ℕ} {writing : Bool} {out₀ out : List ℕ} {
     pub step-room : writing ≡ true → length (cellsOf p n) ≤ length out₀ → k + length (flips p (odd k) x m) ≤ length out
     step-room w h = more-room vs (stretches p (odd (k + length vs)) next (n + 1 - next)) step-left w h
 
-    step-swept : Swept p n writing out₀ (cond writing (sets out k vs) out) (odd (k + length vs)) next (k + length vs) (recs + length (recordsFrom p x m))
-    step-swept = record {
-      done = s .done ++ vs;
-      count = more-length vs;
-      left =
-          s .left ∙ ap (λ (r : List ℕ). s .done ++ r) step-left
-          ∙ sym (append-assoc (s .done) vs (stretches p (odd (k + length vs)) next (n + 1 - next)));
-      written = more-written vs;
-      members = step-members;
-      near = (let a = s .near in omega arith, omega arith);
-    }
-
     pub swept-step : {out′ : List ℕ} {k′ recs′ : ℕ} → Stepped p x m writing k recs out out′ k′ recs′ → Swept p n writing out₀ out′ (odd k′) (min (x + m) (n + 1)) k′ recs′
-    swept-step t = rw (t .cells, t .records, t .written) step-swept
+    swept-step t = rw (t .cells, t .records, t .written) (more-swept vs step-left step-members (let a = s .near in omega arith, omega arith))
 
 -- ---- the end: a stretch that is still open ends with n
 
@@ -157,12 +152,4 @@ module _ {p : ℕ → Bool} {n : ℕ} {writing : Bool} {out₀ out : List ℕ} {
   close-room w h = more-room s last (stretches p false (n + 1) (n + 1 - (n + 1))) end-left w h
 
   pub swept-close : {out′ : List ℕ} {r : ℕ} → PutCells (turned (odd k) false (n + 1) []) k writing out out′ r → Swept p n writing out₀ out′ false (n + 1) r recs
-  swept-close put = record {
-    done = s .done ++ last;
-    count = more-length s last ∙ sym (put .count);
-    left =
-        s .left ∙ ap (λ (r : List ℕ). s .done ++ r) end-left ∙ sym (append-assoc (s .done) last (stretches p false (n + 1) (n + 1 - (n + 1))));
-    written = put .written ∙ more-written s last;
-    members = s .members;
-    near = s .near;
-  }
+  swept-close put = rw (put .count, put .written) (more-swept s last end-left (s .members) (s .near))

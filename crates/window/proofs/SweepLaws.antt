@@ -11,14 +11,11 @@ use Rattle.window.specs.Flips.{odd, flips, windowCells}
 use Rattle.window.proofs.FlipLaws.{stretches-add, flips-constant, flips-parity}
 use Rattle.window.proofs.MemberLaws.{flips-held}
 
--- the cells vs are those of the first m numbers
-module _ (p : ℕ → Bool) (x m n k : ℕ) (le : m ≤ n) (vs : List ℕ) (same : vs ≡ flips p (odd k) x m) where
-  pub part-turn : stretches p (odd k) x n ≡ vs ++ stretches p (odd (k + length vs)) (x + m) (n - m)
-  part-turn =
-      let e : n ≡ m + (n - m) = omega arith in
-      rw same
-      (ap (stretches p (odd k) x) e ∙ stretches-add p (odd k) x m (n - m)
-      ∙ ap (λ (b : Bool). flips p (odd k) x m ++ stretches p b (x + m) (n - m)) (sym (flips-parity p (odd k) x m k refl)))
+pub part-turn : (p : ℕ → Bool) (x m n k : ℕ) → m ≤ n → stretches p (odd k) x n ≡ flips p (odd k) x m ++ stretches p (odd (k + length (flips p (odd k) x m))) (x + m) (n - m)
+part-turn p x m n k le =
+    let e : n ≡ m + (n - m) = omega arith in
+    ap (stretches p (odd k) x) e ∙ stretches-add p (odd k) x m (n - m)
+    ∙ ap (λ (b : Bool). flips p (odd k) x m ++ stretches p b (x + m) (n - m)) (sym (flips-parity p (odd k) x m k refl))
 
 -- the cells of a window that holds p, and of a jump over numbers at which p is v
 pub window-part : (p : ℕ → Bool) (x k m : ℕ) (ws : List ℕ) → m ≡ 64 * length ws → Holds p x ws → windowCells ws x k ≡ flips p (odd k) x m

@@ -8,6 +8,7 @@ use lib.Seq.{length-take-le}
 use borrow.Author.Tests.{not-true, not-false}
 use borrow.Rule.Slice.PartMut.{same-len-mid}
 use borrow.Author.Needs.{needs}
+use Rattle.window.specs.Tuning.{windowMost}
 use Rattle.window.specs.Window.{Holds}
 use Rattle.slots.specs.Slots.{slotHas, slotFits}
 use Rattle.codes.proofs.ReadsLaws.{Level, level-start, level-step, level-end, operand-none, operand-word, operand-many, operand-deep, operand-part, operand-unclosed}
@@ -22,10 +23,10 @@ use Rattle.evaluate.proofs.eval.+eval_level+eval_operand.Lts-eval_level
 use Rattle.evaluate.proofs.eval.eval_operand.Reads as eval-operand
 use Rattle.evaluate.proofs.eval.eval_operand.Kinds as eval-operand-kinds
 use Rattle.evaluate.proofs.eval.+eval_level+eval_operand.Lts-eval_operand as eval-operand-lts
-use Rattle.codes.proofs.read.code_at.Reads as code-at-reads
-use Rattle.codes.proofs.read.is_operator.Reads as is-operator-reads
-use Rattle.evaluate.proofs.combine.combine_into.Reads as combine-into-reads
-use Rattle.evaluate.proofs.slot.fill_slot.Reads as fill-slot-reads
+use Rattle.codes.proofs.read.code_at.Reads as code-at
+use Rattle.codes.proofs.read.is_operator.Reads as is-operator
+use Rattle.evaluate.proofs.combine.combine_into.Reads as combine-into
+use Rattle.evaluate.proofs.slot.fill_slot.Reads as fill-slot
 use Rattle.evaluate.proofs.eval.+eval_level+eval_operand.{statement}
 use Rattle.evaluate.proofs.eval.+eval_level+eval_operand.Tie.{close}
 
@@ -36,31 +37,23 @@ abbrev μ-eval-operand : Measures 5 eval-operand-kinds.ps ℕ
 μ-eval-operand κs a = 2 * (a .1 .1 .1 .0)
 
 abbrev eval-level-at : ℕ → In 5 eval-level-kinds.ps
-eval-level-at t =
-    and 5 eval-level-kinds.ps (is 5 eval-level-kinds.ps μ-eval-level t) eval-level.Pre
+eval-level-at t = and 5 eval-level-kinds.ps (is 5 eval-level-kinds.ps μ-eval-level t) eval-level.Pre
 
 abbrev eval-level-below : ℕ → In 5 eval-level-kinds.ps
-eval-level-below t =
-    and 5 eval-level-kinds.ps (falls 5 eval-level-kinds.ps _<_ μ-eval-level t) eval-level.Pre
+eval-level-below t = and 5 eval-level-kinds.ps (falls 5 eval-level-kinds.ps _<_ μ-eval-level t) eval-level.Pre
 
 abbrev eval-operand-at : ℕ → In 5 eval-operand-kinds.ps
-eval-operand-at t =
-    and 5 eval-operand-kinds.ps (is 5 eval-operand-kinds.ps μ-eval-operand t) eval-operand.Pre
+eval-operand-at t = and 5 eval-operand-kinds.ps (is 5 eval-operand-kinds.ps μ-eval-operand t) eval-operand.Pre
 
 abbrev eval-operand-below : ℕ → In 5 eval-operand-kinds.ps
-eval-operand-below t =
-    and
-    5
-    eval-operand-kinds.ps
-    (falls 5 eval-operand-kinds.ps _<_ μ-eval-operand t)
-    eval-operand.Pre
+eval-operand-below t = and 5 eval-operand-kinds.ps (falls 5 eval-operand-kinds.ps _<_ μ-eval-operand t) eval-operand.Pre
 
 -- what the calls of each promise
 abbrev level-claims : ℕ → eval-level-lts.Claims
-level-claims t = (eval-operand-below t, eval-operand.Post, code-at-reads.Asked, code-at-reads.Learnt, is-operator-reads.Asked, is-operator-reads.Learnt, combine-into-reads.Asked, combine-into-reads.Learnt)
+level-claims t = (eval-operand-below t, eval-operand.Post, code-at.Asked, code-at.Learnt, is-operator.Asked, is-operator.Learnt, combine-into.Asked, combine-into.Learnt)
 
 abbrev operand-claims : ℕ → eval-operand-lts.Claims
-operand-claims t = (code-at-reads.Asked, code-at-reads.Learnt, fill-slot-reads.Asked, fill-slot-reads.Learnt, eval-level-below t, eval-level.Post)
+operand-claims t = (code-at.Asked, code-at.Learnt, fill-slot.Asked, fill-slot.Learnt, eval-level-below t, eval-level.Post)
 
 abbrev eval-level-Inv-loop : eval-level-lts.InvT-loop
 eval-level-Inv-loop codes i k d index entries base hints₀ ws₀ at₀ slot₀ n hints ws at slot =
@@ -93,9 +86,10 @@ module _ (t : ℕ) where
   operator : (c : GoesOn) → let l = c .before .before .before in Here (begun l .args .codes .now) (l .loop .at) (opCode (opOf (c .before .before .code-at .result)))
   operator c =
       let l = c .before .before .before in
-      operator-here (begun l .args .codes .now) (l .loop .at) (c .before .before .code-at .ensures) (sym (c .before .is-operator .ensures) ∙ not-false (c .before .is-operator .result) (c .if1 .left))
+      operator-here (begun l .args .codes .now) (l .loop .at) (c .before .before .code-at .ensures)
+      (sym (c .before .is-operator .ensures) ∙ not-false (c .before .is-operator .result) (c .if1 .left))
 
-  -- the window of the right side is as long as the left one, of at most 128 words
+  -- the window of the right side is as long as the left one, and no longer than any
   abbrev RightRead : Type 0
   RightRead = eval-level-lts.After-eval-operand2 (level-claims t) (eval-level-at t) eval-level.Post eval-level-Inv-loop eval-level-μ-loop
 
@@ -108,11 +102,11 @@ module _ (t : ℕ) where
   abbrev size : Loop → ℕ
   size c = length (first c .eval-operand .last .1 .1 .1 .1 .1 .1 .1 .1 .0)
 
-  size-most : (c : Loop) → size c ≤ 128
+  size-most : (c : Loop) → size c ≤ windowMost
   size-most c = omega (arith, first c .eval-operand .ensures .ws-long, begun c .pre .1 .size)
 
   right-long : (c : RightRead) → length (right c) ≡ size (loop c) - 0
-  right-long c = c .eval-operand2 .ensures .ws-long ∙ length-take-le (size (loop c) - 0) (replicate 128 0) (omega (arith, size-most (loop c)))
+  right-long c = c .eval-operand2 .ensures .ws-long ∙ length-take-le (size (loop c) - 0) (replicate windowMost 0) (omega (arith, size-most (loop c)))
 
   level-loop-holds : eval-level-lts.Need-loop-holds (level-claims t) (eval-level-at t) eval-level.Post eval-level-Inv-loop eval-level-μ-loop
   level-loop-holds c =
@@ -120,7 +114,8 @@ module _ (t : ℕ) where
       let a = start .args in
       let r = c .before .before .before .before .eval-operand in
       let e = r .ensures in
-      (e .ahead, e .inside, e .hints-long ∙ start .pre .1 .lent .hints-long, refl, level-start (a .codes .now) (a .d) (a .k) (a .i) (r .result .code) (r .result .slot) _ (e .reads))
+      let started = level-start (a .codes .now) (a .d) (a .k) (a .i) (r .result .code) (r .result .slot) _ (e .reads) in
+      (e .ahead, e .inside, e .hints-long ∙ start .pre .1 .lent .hints-long, refl, started)
 
   level-returns : eval-level-lts.Need-returns (level-claims t) (eval-level-at t) eval-level.Post eval-level-Inv-loop eval-level-μ-loop
   level-returns c =
@@ -148,8 +143,8 @@ module _ (t : ℕ) where
         record {
           lent = record { sound = p .lent .sound; entries-long = p .lent .entries-long; hints-long = looped .loop .inv .2 };
           inside = omega (arith, operator (c .before .before) .1);
-          blank = front-blank (size looped - 0) 128;
-          size = rw (length-take-le {A = ℕ} (size looped - 0) (replicate 128 0) (omega arith)) (omega arith);
+          blank = front-blank (size looped - 0) windowMost;
+          size = rw (length-take-le {A = ℕ} (size looped - 0) (replicate windowMost 0) (omega arith)) (omega arith);
           near = p .near;
         },
       )
@@ -159,7 +154,7 @@ module _ (t : ℕ) where
       let read = c .before .before .before .before .before in
       let n = size (loop read) in
       let most = size-most (loop read) in
-      let whole : length (right read ++ drop (n - 0) (replicate 128 0)) ≡ 128 = same-len-mid 0 (n - 0) (replicate 128 0) (right read) (read .eval-operand2 .ensures .ws-long) in
+      let whole : length (right read ++ drop (n - 0) (replicate windowMost 0)) ≡ windowMost = same-len-mid 0 (n - 0) (replicate windowMost 0) (right read) (read .eval-operand2 .ensures .ws-long) in
       omega arith
 
   level-combine-into-requires : eval-level-lts.Need-combine-into-requires (level-claims t) (eval-level-at t) eval-level.Post eval-level-Inv-loop eval-level-μ-loop
@@ -185,7 +180,8 @@ module _ (t : ℕ) where
         f .hints-long ∙ l .inv .2,
         both .long ∙ w,
         level-step (a .codes .now) (a .d) (a .k) (a .i) (l .at) (l .slot) (r .result .code) (r .result .slot) _ _ _ o
-            (operator (read .before .before .before) .0) (l .inv .4) (f .reads) (λ u v g h m. holds-pair (slotHas (a .index .now) (a .entries .now)) (a .k) o u v g (omega arith) both h m),
+            (operator (read .before .before .before) .0) (l .inv .4) (f .reads)
+            (λ u v g h m. holds-pair (slotHas (a .index .now) (a .entries .now)) (a .k) o u v g (omega arith) both h m),
       )
 
 -- ---- an operand
@@ -220,7 +216,8 @@ module _ (t : ℕ) where
 
   close-here : (c : AtClose) → Here (open-start (opened c) .args .codes .now) (c .before .before .before .before .before .before .eval-level .result .code) closeCode
   close-here c =
-      code-here (open-start (opened c) .args .codes .now) (c .before .before .before .before .before .before .eval-level .result .code) (c .before .code-at2 .ensures) (c .if5 .left) (omega arith)
+      code-here (open-start (opened c) .args .codes .now) (c .before .before .before .before .before .before .eval-level .result .code)
+      (c .before .code-at2 .ensures) (c .if5 .left) (omega arith)
 
   operand-fill-slot-requires : eval-operand-lts.Need-fill-slot-requires (operand-claims t) (eval-operand-at t) eval-operand.Post
   operand-fill-slot-requires c κs =
@@ -238,7 +235,8 @@ module _ (t : ℕ) where
         inside = omega (arith, word-here at .1);
         hints-long = f .0;
         ws-long = f .1 .long;
-        reads = λ n. operand-word (a .codes .now) n (a .d) (a .k) (a .i) (word-here at .0) _ (λ u. holds-word (slotHas (a .index .now) (a .entries .now)) (a .k) u (word-start at .pre .1 .blank) (f .1));
+        reads = λ n. operand-word (a .codes .now) n (a .d) (a .k) (a .i) (word-here at .0) _
+            (λ u. holds-word (slotHas (a .index .now) (a .entries .now)) (a .k) u (word-start at .pre .1 .blank) (f .1));
       }
 
   operand-returns-2 : eval-operand-lts.Need-returns-2 (operand-claims t) (eval-operand-at t) eval-operand.Post
@@ -282,7 +280,8 @@ module _ (t : ℕ) where
         inside = open-start at .pre .1 .inside;
         hints-long = e .hints-long;
         ws-long = e .ws-long;
-        reads = λ n. operand-unclosed (a .codes .now) n (a .d) (a .k) (a .i) (open-here at .0) (r .result .code) (r .result .slot) _ (e .reads) (a .i) (a .k) _ (λ h. c .if5 .taken (c .before .code-at2 .ensures ∙ h));
+        reads = λ n. operand-unclosed (a .codes .now) n (a .d) (a .k) (a .i) (open-here at .0) (r .result .code) (r .result .slot) _ (e .reads) (a .i) (a .k) _
+            (λ h. c .if5 .taken (c .before .code-at2 .ensures ∙ h));
       }
 
   operand-returns-6 : eval-operand-lts.Need-returns-6 (operand-claims t) (eval-operand-at t) eval-operand.Post
@@ -295,7 +294,8 @@ module _ (t : ℕ) where
         inside = omega (arith, close-here c .1);
         hints-long = e .hints-long;
         ws-long = e .ws-long;
-        reads = λ n. operand-part (a .codes .now) n (a .d) (a .k) (a .i) (open-here (opened c) .0) (r .result .code) (r .result .slot) _ (e .reads) _ (close-here c .0) (λ u h. holds-part (slotHas (a .index .now) (a .entries .now)) (a .k) u h);
+        reads = λ n. operand-part (a .codes .now) n (a .d) (a .k) (a .i) (open-here (opened c) .0) (r .result .code) (r .result .slot) _ (e .reads) _ (close-here c .0)
+            (λ u h. holds-part (slotHas (a .index .now) (a .entries .now)) (a .k) u h);
       }
 
 pub +eval-level+eval-operand-spec : {M : Type 1} → statement M

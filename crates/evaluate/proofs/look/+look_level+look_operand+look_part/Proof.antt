@@ -22,11 +22,11 @@ use Rattle.evaluate.proofs.look.+look_level+look_operand+look_part.Lts-
 use Rattle.evaluate.proofs.look.look_part.Reads as look-part
 use Rattle.evaluate.proofs.look.look_part.Kinds as look-part-kinds
 use Rattle.evaluate.proofs.look.+look_level+look_operand+look_part.Lts-look_part as look-part-lts
-use Rattle.codes.proofs.read.code_at.Reads as code-at-reads
-use Rattle.codes.proofs.read.is_operator.Reads as is-operator-reads
-use Rattle.evaluate.proofs.senses.sense_of.Reads as sense-of-reads
-use Rattle.evaluate.proofs.look.unread.Reads as unread-reads
-use Rattle.evaluate.proofs.sense_pair.pair_senses.Reads as pair-senses-reads
+use Rattle.codes.proofs.read.code_at.Reads as code-at
+use Rattle.codes.proofs.read.is_operator.Reads as is-operator
+use Rattle.evaluate.proofs.senses.sense_of.Reads as sense-of
+use Rattle.evaluate.proofs.look.unread.Reads as unread
+use Rattle.evaluate.proofs.sense_pair.pair_senses.Reads as pair-senses
 use Rattle.evaluate.proofs.look.+look_level+look_operand+look_part.{statement}
 use Rattle.evaluate.proofs.look.+look_level+look_operand+look_part.Tie.{close}
 
@@ -59,13 +59,13 @@ look-part-below t = and 2 look-part-kinds.ps (falls 2 look-part-kinds.ps _<_ μ-
 
 -- what the calls of each promise
 abbrev level-claims : ℕ → look-level-lts.Claims
-level-claims t = (look-operand-below t, look-operand.Post, code-at-reads.Asked, code-at-reads.Learnt, is-operator-reads.Asked, is-operator-reads.Learnt, pair-senses-reads.Asked, pair-senses-reads.Learnt)
+level-claims t = (look-operand-below t, look-operand.Post, code-at.Asked, code-at.Learnt, is-operator.Asked, is-operator.Learnt, pair-senses.Asked, pair-senses.Learnt)
 
 abbrev operand-claims : ℕ → look-operand-lts.Claims
-operand-claims t = (code-at-reads.Asked, code-at-reads.Learnt, look-part-below t, look-part.Post, unread-reads.Asked, unread-reads.Learnt, sense-of-reads.Asked, sense-of-reads.Learnt)
+operand-claims t = (code-at.Asked, code-at.Learnt, look-part-below t, look-part.Post, unread.Asked, unread.Learnt, sense-of.Asked, sense-of.Learnt)
 
 abbrev part-claims : ℕ → look-part-lts.Claims
-part-claims t = (code-at-reads.Asked, code-at-reads.Learnt, unread-reads.Asked, unread-reads.Learnt, look-level-below t, look-level.Post)
+part-claims t = (code-at.Asked, code-at.Learnt, unread.Asked, unread.Learnt, look-level-below t, look-level.Post)
 
 abbrev look-level-Inv-loop : look-level-lts.InvT-loop
 look-level-Inv-loop codes i k d senses at₀ slot₀ inside₀ until₀ at slot inside until =
@@ -88,7 +88,8 @@ module _ (t : ℕ) where
       let l = c .before .before .before in Here (begun l .args .codes .now) (l .loop .at) (opCode (opOf (c .before .before .code-at .result)))
   operator c =
       let l = c .before .before .before in
-      operator-here (begun l .args .codes .now) (l .loop .at) (c .before .before .code-at .ensures) (sym (c .before .is-operator .ensures) ∙ not-false (c .before .is-operator .result) (c .if1 .left))
+      operator-here (begun l .args .codes .now) (l .loop .at) (c .before .before .code-at .ensures)
+      (sym (c .before .is-operator .ensures) ∙ not-false (c .before .is-operator .result) (c .if1 .left))
 
   level-loop-holds : look-level-lts.Need-loop-holds (level-claims t) (look-level-at t) look-level.Post look-level-Inv-loop look-level-μ-loop
   level-loop-holds c =
@@ -121,7 +122,8 @@ module _ (t : ℕ) where
         omega (arith, next .ensures .ahead),
         next .ensures .inside,
         level-step (a .codes .now) (a .d) (a .k) (a .i) (at .at) (at .slot) (n .code) (n .slot) _ _ _ o (operator on .0) (at .inv .2) (next .ensures .reads)
-            (λ x y h s u. tells-pair (a .senses .now) (a .k) (r .inside) (r .until) o x y (at .slot) h (at .inside) (n .inside) (at .until) (n .until) (c .pair-senses .ensures o (code .ensures ∙ operator on .0)) s u),
+            (λ x y h s u. tells-pair (a .senses .now) (a .k) (r .inside) (r .until) o x y (at .slot) h (at .inside) (n .inside) (at .until) (n .until)
+            (c .pair-senses .ensures o (code .ensures ∙ operator on .0)) s u),
       )
 
 -- ---- an operand
@@ -153,7 +155,8 @@ module _ (t : ℕ) where
       record {
         ahead = omega arith;
         inside = omega (arith, here .1);
-        reads = λ f. operand-word (a .codes .now) f (a .d) (a .k) (a .i) (here .0) _ (tells-word (a .senses .now) (a .k) (r .result .inside) (r .result .until) (r .ensures .0) (r .ensures .1));
+        reads = λ f. operand-word (a .codes .now) f (a .d) (a .k) (a .i) (here .0) _
+            (tells-word (a .senses .now) (a .k) (r .result .inside) (r .result .until) (r .ensures .0) (r .ensures .1));
       }
 
 -- ---- a part
@@ -190,7 +193,8 @@ module _ (t : ℕ) where
   part-returns-2 c =
       let start = asked (c .before .before) in
       let a = start .args in
-      looks-none (start .pre .1 .0) (c .unread2 .ensures) (λ f. operand-deep (a .codes .now) f (a .d) (a .k) (a .i) (open-here (c .before .before) .0) _ _ _ (c .before .if2 .taken))
+      looks-none (start .pre .1 .0) (c .unread2 .ensures)
+      (λ f. operand-deep (a .codes .now) f (a .d) (a .k) (a .i) (open-here (c .before .before) .0) _ _ _ (c .before .if2 .taken))
 
   part-returns-3 : look-part-lts.Need-returns-3 (part-claims t) (look-part-at t) look-part.Post
   part-returns-3 c =
@@ -201,7 +205,8 @@ module _ (t : ℕ) where
       record {
         ahead = omega (arith, inner .ensures .ahead, r .ensures);
         inside = omega (arith, inner .ensures .inside, r .ensures);
-        reads = λ f. operand-unclosed (a .codes .now) f (a .d) (a .k) (a .i) (open-here at .0) (inner .result .code) (inner .result .slot) _ (inner .ensures .reads) _ _ _ (λ e. c .before .if3 .taken (c .before .before .code-at2 .ensures ∙ e));
+        reads = λ f. operand-unclosed (a .codes .now) f (a .d) (a .k) (a .i) (open-here at .0) (inner .result .code) (inner .result .slot) _ (inner .ensures .reads) _ _ _
+            (λ e. c .before .if3 .taken (c .before .before .code-at2 .ensures ∙ e));
       }
 
   part-returns-4 : look-part-lts.Need-returns-4 (part-claims t) (look-part-at t) look-part.Post
@@ -212,7 +217,8 @@ module _ (t : ℕ) where
       record {
         ahead = omega (arith, inner .ensures .ahead);
         inside = omega (arith, close-here c .1);
-        reads = λ f. operand-part (a .codes .now) f (a .d) (a .k) (a .i) (open-here (opened c) .0) (p .code) (p .slot) _ (inner .ensures .reads) _ (close-here c .0) (tells-part (a .senses .now) (a .k) (p .inside) (p .until));
+        reads = λ f. operand-part (a .codes .now) f (a .d) (a .k) (a .i) (open-here (opened c) .0) (p .code) (p .slot) _ (inner .ensures .reads) _ (close-here c .0)
+            (tells-part (a .senses .now) (a .k) (p .inside) (p .until));
       }
 
 pub +look-level+look-operand+look-part-spec : {M : Type 1} → statement M

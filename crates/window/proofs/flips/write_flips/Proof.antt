@@ -25,7 +25,8 @@ loop-holds c =
     (search needs, search needs, refl, rw all, rw all)
 
 -- what is left in a turn: the cells of its word, and those of the words behind it
-turn : (c : tie.In-loop Inv-loop μ-loop) → let l = c .before .loop in let a = c .before .before .before .before .args in let marks = length (flipMarks (getD (a .ws .now) (l .i) 0) (l .k)) in
+turn : (c : tie.In-loop Inv-loop μ-loop) → let l = c .before .loop in let a = c .before .before .before .before .args in
+    let marks = length (flipMarks (getD (a .ws .now) (l .i) 0) (l .k)) in
     l .k + length (cellsLeft (a .ws .now) (a .base) (l .k) (l .i)) ≡ l .k + marks + length (cellsLeft (a .ws .now) (a .base) (l .k + marks) (l .i + 1))
 turn c = let l = c .before .loop in let a = c .before .before .before .before .args in left-count (a .ws .now) (a .base) (l .k) (l .i) (omega arith)
 
