@@ -22,14 +22,15 @@ use Rattle.index.proofs.CheckLaws.{good-sound}
 use Rattle.question.specs.Grammar.{fromLeft}
 use Rattle.question.specs.Reading.{Parsed, parses, refuses, parsed}
 use Rattle.query.specs.Ask.{satisfying, askAnswer, askCells}
+use Rattle.parts.proofs.PartLaws.{counts-within}
+use Rattle.lines.specs.Room.{answerCells, lineRoom}
 use Rattle.lines.specs.Line.{shown, lineOf, PutFirst}
 use Rattle.lines.proofs.TextLaws.{line-short}
-use Rattle.ask.specs.Output.{fileCheck, AnswersLine, questionLine}
-use Rattle.ask.proofs.TransferLaws.{within-counts}
+use Rattle.ask.specs.Output.{indexMost, fileCheck, AnswersLine, questionLine}
 
 pub file-sound : (index : List ℕ) → fileCheck index ≡ Good → Sound index
 file-sound index e =
-    by-test (ltb 65536 (length index))
+    by-test (ltb indexMost (length index))
     (λ t. absurd (let r = rw t at e in let z : _≡_ {A = ℕ} 0 1 = cc in omega arith))
     (λ t. good-sound index (rw t at e))
 
@@ -58,20 +59,18 @@ line-same number (Refused r) index a room out = refl
 line-same number Good index (refuses r) room out = refl
 line-same number Good index (parses t k) room out = listed-same number (satisfying index t) (leb (intervals (satisfying index t)) room) out
 
-module _ (index question out out′ : List ℕ) (r : Answer) (p : AnswersLine index question out out′ r) where
+module _ {index question out out′ : List ℕ} {r : Answer} (p : AnswersLine index question out out′ r) where
   pub answer-within : shown r ≤ length out
   answer-within = rw (p .answer) (omega (arith, shown-within (fileCheck index) index (parsed fromLeft question) (length out / 2)))
 
-  pub line-room : (number : ℕ) → length out′ ≤ 16384 → length (lineOf number r out′) ≤ 344169
+  pub line-room : (number : ℕ) → length out′ ≤ answerCells → length (lineOf number r out′) ≤ lineRoom
   line-room number h = line-short number r out′ h
 
-  pub question-line : (number : ℕ) → length out ≡ 16384 → lineOf number r out′ ≡ questionLine index number question
+  pub question-line : (number : ℕ) → length out ≡ answerCells → lineOf number r out′ ≡ questionLine index number question
   question-line number h =
       let room : length out / 2 ≡ 8192 = omega arith in
       rw (p .answer, p .cells, room) (line-same number (fileCheck index) index (parsed fromLeft question) 8192 out)
 
 -- the bytes of a text that was written are bytes of what it was written into
-pub written-counts : (out text out′ : List ℕ) (r : ℕ) → PutFirst out text out′ r → Counts r out′
-written-counts out text out′ r w =
-    let h : r ≤ length out′ = omega (arith, w .size, ap length (w .bytes), length-append text (drop (length text) out)) in
-    within-counts r out′ h
+pub written-counts : {out text out′ : List ℕ} {r : ℕ} → PutFirst out text out′ r → Counts r out′
+written-counts {out} {text} {out′} {r} w = counts-within r out′ (omega (arith, w .size, ap length (w .bytes), length-append text (drop (length text) out)))

@@ -23,13 +23,6 @@ puts-byte out at x = record { end = refl; bytes = refl }
 pub puts-length : {out mid : List ℕ} {at k : ℕ} {a : List ℕ} → PutText out at a mid k → length mid ≡ length out
 puts-length {out} {mid} {at} {k} {a} p = ap length (p .bytes) ∙ length-sets out at a
 
--- room for two texts is room for the first, and behind it for the second
-pub room-front : (a b : List ℕ) (at n : ℕ) → at + length (a ++ b) ≤ n → at + length a ≤ n
-room-front a b at n h = omega (arith, length-append a b)
-
-pub room-behind : {out mid : List ℕ} {at k : ℕ} {a : List ℕ} (b : List ℕ) → PutText out at a mid k → at + length (a ++ b) ≤ length out → k + length b ≤ length mid
-room-behind {out} {mid} {at} {k} {a} b p h = omega (arith, length-append a b, p .end, puts-length p)
-
 -- all put from byte 0 on
 pub puts-written : {out out′ : List ℕ} {r : ℕ} (text : List ℕ) → PutText out 0 text out′ r → length text ≤ length out → PutFirst out text out′ r
 puts-written {out} {out′} {r} text p h = record { size = omega (arith, p .end); bytes = p .bytes ∙ sets-front text out h }

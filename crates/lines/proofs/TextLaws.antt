@@ -15,6 +15,7 @@ use Rattle.list.specs.declared.answer.Answer.{Answer}
 use Rattle.list.specs.declared.answer.Answer.the-variants.{Listed, Refused}
 use Rattle.refusal.specs.declared.Refusal.{Refusal}
 use Rattle.refusal.specs.Refusal.{numberOf, valueOf}
+use Rattle.lines.specs.Room.{answerCells, lineRoom}
 use Rattle.lines.specs.Line.{numeralIn, numeral, intervalText, intervalsText, headText, tallyText, lineOf}
 
 -- a number that needs two digits or more, and its digits but the last
@@ -51,7 +52,8 @@ unfolding numeral
 digits-are k n h w = digits-numeral 19 k n (omega arith) w
 
 -- the intervals from cell i on: one and the rest, or none
-pub intervals-next : (cells : List ℕ) (i : ℕ) → i + 1 < length cells → intervalsText (drop i cells) ≡ intervalText (getD cells i 0) (getD cells (i + 1) 0) ++ intervalsText (drop (i + 2) cells)
+pub intervals-next : (cells : List ℕ) (i : ℕ) → i + 1 < length cells →
+    intervalsText (drop i cells) ≡ intervalText (getD cells i 0) (getD cells (i + 1) 0) ++ intervalsText (drop (i + 2) cells)
 unfolding intervalsText
 intervals-next cells i h = rw (drop-two cells i h)
 
@@ -84,15 +86,16 @@ intervals-short (l ∷ []) = omega arith
 intervals-short (l ∷ u ∷ r) = simp length-append (omega (arith, intervals-short r, numeral-short l, numeral-short u))
 
 -- the line by the answer's case
-pub listed-line : (number : ℕ) (answer : Answer) (cells : List ℕ) (tally : Tally) → answer ≡ Listed tally → lineOf number answer cells ≡ headText number 0 0 ++ tallyText tally cells ++ (10 ∷ [])
+pub listed-line : (number : ℕ) (answer : Answer) (cells : List ℕ) (tally : Tally) → answer ≡ Listed tally →
+    lineOf number answer cells ≡ headText number 0 0 ++ tallyText tally cells ++ (10 ∷ [])
 listed-line number answer cells tally e = rw e
 
-pub refused-line : (number : ℕ) (answer : Answer) (cells : List ℕ) (refusal : Refusal) (a b : ℕ) → answer ≡ Refused refusal → a ≡ numberOf refusal → b ≡ valueOf refusal →
-    lineOf number answer cells ≡ headText number a b ++ (10 ∷ [])
+pub refused-line : (number : ℕ) (answer : Answer) (cells : List ℕ) (refusal : Refusal) (a b : ℕ) →
+    answer ≡ Refused refusal → a ≡ numberOf refusal → b ≡ valueOf refusal → lineOf number answer cells ≡ headText number a b ++ (10 ∷ [])
 refused-line number answer cells refusal a b e f g = rw (e, f, g)
 
--- the line of an answer of at most 16,384 cells
-pub line-short : (number : ℕ) (answer : Answer) (cells : List ℕ) → length cells ≤ 16384 → length (lineOf number answer cells) ≤ 344169
+-- the line of an answer in the cells that are lent
+pub line-short : (number : ℕ) (answer : Answer) (cells : List ℕ) → length cells ≤ answerCells → length (lineOf number answer cells) ≤ lineRoom
 line-short number (Listed tally) cells h =
     simp length-append
     (omega (

@@ -22,9 +22,6 @@ loop-holds c =
     let e : c .args .at + 0 ≡ c .args .at = omega arith in
     (omega arith, refl, rw e)
 
-slice-write-out : tie.Need-slice-write-out Inv-loop μ-loop
-slice-write-out c = omega arith
-
 loop-again : tie.Need-loop-again Inv-loop μ-loop
 loop-again c =
     let turn = c .before .before in
@@ -38,9 +35,6 @@ loop-again c =
       turn .loop .inv .2 ∙ ap (sets out (at + i)) (drop-next text i (omega arith)) ∙ sets-one out (at + i) (getD text i 0) (drop (i + 1) text) ∙ rw e,
     )
 
-same-length : tie.Need-same-length Inv-loop μ-loop
-same-length c = c .before .loop .inv .1
-
 returns : tie.Need-returns Inv-loop μ-loop
 returns c =
     let turn = c .before in
@@ -53,5 +47,5 @@ pub put-bytes-spec : {M : Type 1} → statement M
 put-bytes-spec =
     tie.close
     (tie.spec
-    Inv-loop μ-loop loop-holds (λ c. search needs) (λ c. search needs) slice-write-out (λ c. search needs)
-    (λ c. search needs) loop-again (λ c. search needs) same-length returns)
+    Inv-loop μ-loop loop-holds (λ c. search needs) (λ c. search needs) (λ c. omega arith) (λ c. search needs) (λ c. search needs) loop-again
+    (λ c. search needs) (λ c. c .before .loop .inv .1) returns)

@@ -8,7 +8,7 @@ use lib.ListN.{length, drop, getD, length-append}
 use lib.Seq.{sets}
 use Rattle.lines.specs.Line.{intervalText, intervalsText}
 use Rattle.lines.proofs.TextLaws.{intervals-next, intervals-end}
-use Rattle.lines.proofs.PutLaws.{puts-first, puts-length, room-front}
+use Rattle.lines.proofs.PutLaws.{puts-first, puts-length}
 use Rattle.lines.proofs.put.put_intervals.Statement.{statement}
 use Rattle.lines.proofs.put.put_intervals.Tie as tie
 
@@ -22,9 +22,6 @@ Inv-loop out₀ at cells k₀ i₀ out k i =
 abbrev μ-loop : tie.MeasureT-loop
 μ-loop out₀ at cells k₀ i₀ out k i = length cells - i
 
-loop-holds : tie.Need-loop-holds Inv-loop μ-loop
-loop-holds c = (omega arith, refl, refl, refl)
-
 put-interval-requires : tie.Need-put-interval-requires Inv-loop μ-loop
 put-interval-requires c κs =
     let turn = c .before .before .before .before in
@@ -32,7 +29,7 @@ put-interval-requires c κs =
     let cells = now (start .args .cells) in
     let i = turn .loop .i in
     let e = intervals-next cells i (omega arith) in
-    room-front (intervalText (getD cells i 0) (getD cells (i + 1) 0)) (intervalsText (drop (i + 2) cells)) (turn .loop .k) _ (omega (arith, ap length e))
+    omega (arith, ap length e, length-append (intervalText (getD cells i 0) (getD cells (i + 1) 0)) (intervalsText (drop (i + 2) cells)))
 
 loop-again : tie.Need-loop-again Inv-loop μ-loop
 loop-again c =
@@ -50,9 +47,6 @@ loop-again c =
       turn .loop .inv .3 ∙ ap (sets (turn .loop .out) (turn .loop .k)) e ∙ puts-first rest p,
     )
 
-same-length : tie.Need-same-length Inv-loop μ-loop
-same-length c = c .before .loop .inv .1
-
 returns : tie.Need-returns Inv-loop μ-loop
 returns c =
     let turn = c .before in
@@ -65,6 +59,6 @@ pub put-intervals-spec : {M : Type 1} → statement M
 put-intervals-spec =
     tie.close
     (tie.spec
-    Inv-loop μ-loop loop-holds (λ c. search needs) (λ c. search needs) (λ c. search needs) (λ c. search needs)
-    (λ c. search needs) (λ c. search needs) put-interval-requires (λ c. search needs) (λ c. search needs) loop-again
-    same-length returns)
+    Inv-loop μ-loop (λ c. (omega arith, refl, refl, refl)) (λ c. search needs) (λ c. search needs) (λ c. search needs) (λ c. search needs)
+    (λ c. search needs) (λ c. search needs) put-interval-requires (λ c. search needs) (λ c. search needs) loop-again (λ c. c .before .loop .inv .1)
+    returns)

@@ -22,7 +22,7 @@ returns c =
     let input = now (start .args .input) in
     let past : isPast input ≡ true = sym (at .is-past .ensures) ∙ c .before .if1 .taken in
     let most = ltb-true 65536 (length input) past in
-    (rw past (c .whole-end .ensures .0), omega arith, omega arith)
+    (rw past (c .whole-end .ensures .0), (omega arith, omega arith))
 
 returns-2 : tie.Need-returns-2
 returns-2 c =
@@ -30,7 +30,7 @@ returns-2 c =
     let input = now (at .before .before .args .input) in
     let past : isPast input ≡ false = sym (at .is-past .ensures) ∙ c .if1 .left in
     let most = ltb-false 65536 (length input) past in
-    (rw past, omega arith, omega arith)
+    (rw past, (omega arith, omega arith))
 
 pub answered-end-spec : {M : Type 1} → statement M
 answered-end-spec = tie.close (tie.spec (λ c κs. search needs) whole-end-requires returns returns-2)
