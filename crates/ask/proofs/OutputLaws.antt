@@ -39,7 +39,7 @@ listed-within : (c : List ℕ) (room : ℕ) (t : Bool) → leb (intervals c) roo
 listed-within c room true e = omega (arith, leb-true (intervals c) room e)
 listed-within c room false e = omega arith
 
-pub shown-within : (checked : Checked) (index : List ℕ) (a : Parsed) (room : ℕ) → shown (askAnswer checked index a room) ≤ 2 * room
+shown-within : (checked : Checked) (index : List ℕ) (a : Parsed) (room : ℕ) → shown (askAnswer checked index a room) ≤ 2 * room
 shown-within (Refused r) index a room = omega arith
 shown-within Good index (refuses r) room = omega arith
 shown-within Good index (parses t k) room = listed-within (satisfying index t) room (leb (intervals (satisfying index t)) room) refl

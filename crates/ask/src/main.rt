@@ -2,6 +2,7 @@
 mod answer;
 mod transfer;
 
+use answer::INDEX_MOST;
 use answer::check_file;
 use answer::write_answer;
 use index::Checked;
@@ -9,6 +10,7 @@ use libc::STDIN_FILENO;
 use libc::STDOUT_FILENO;
 use lines::line::ANSWER_CELLS;
 use lines::line::LINE_ROOM;
+use lines::split::INPUT_MOST;
 use lines::split::answered_end;
 use lines::split::is_past;
 use parts::part_end;
@@ -97,9 +99,9 @@ fn answer_input(index: &[u8], input: &[u8]) -> bool {
 
 // One byte more than is taken of each shows that there is more.
 fn main() {
-    let mut index = [0u8; 65_537];
+    let mut index = [0u8; INDEX_MOST + 1];
     let index_size = read_index(&mut index);
-    let mut input = [0u8; 65_537];
+    let mut input = [0u8; INPUT_MOST + 1];
     match read_file(STDIN_FILENO, &mut input) {
         Reading::Failed => os::fail(b"ask: cannot read the questions"),
         Reading::Bytes(size) => {

@@ -34,7 +34,7 @@ fewest-rest j n w =
     (omega arith, div-lt-iff-lt-mul {k = 10} (omega arith) .1 high, λ more. rw e₁ (le-div-iff-mul-le {k = 10} (omega arith) .1 low))
 
 -- the fewest digits, one digit at a time from the last
-pub digits-numeral : (f k n : ℕ) → n < 10 ^ suc f → Fewest 10 1 n k → digits 10 k n ≡ numeralIn (suc f) n
+digits-numeral : (f k n : ℕ) → n < 10 ^ suc f → Fewest 10 1 n k → digits 10 k n ≡ numeralIn (suc f) n
 unfolding numeralIn
 digits-numeral f zero n h w = absurd (omega (arith, w .0))
 digits-numeral f (suc zero) n h w =
@@ -70,16 +70,16 @@ length-step : (k n : ℕ) (t : Bool) → length (numeralIn k (n / 10)) ≤ k →
 length-step k n true h = omega arith
 length-step k n false h = rw (length-append (numeralIn k (n / 10)) ((48 + n % 10) ∷ [])) (omega arith)
 
-pub numeralIn-short : (k n : ℕ) → length (numeralIn k n) ≤ k
+numeralIn-short : (k n : ℕ) → length (numeralIn k n) ≤ k
 unfolding numeralIn
 numeralIn-short zero n = omega arith
 numeralIn-short (suc k) n = length-step k n (ltb n 10) (numeralIn-short k (n / 10))
 
-pub numeral-short : (n : ℕ) → length (numeral n) ≤ 20
+numeral-short : (n : ℕ) → length (numeral n) ≤ 20
 unfolding numeral
 numeral-short n = numeralIn-short 20 n
 
-pub intervals-short : (cells : List ℕ) → length (intervalsText cells) ≤ 21 * length cells
+intervals-short : (cells : List ℕ) → length (intervalsText cells) ≤ 21 * length cells
 unfolding intervalsText
 intervals-short [] = omega arith
 intervals-short (l ∷ []) = omega arith

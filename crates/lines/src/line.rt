@@ -26,7 +26,7 @@ fn put_head(out: &mut [u8], number: u64, refusal: u64, value: u64) -> usize
 
 // The fields of an answer.
 fn put_tally(out: &mut [u8], at: usize, tally: Tally, cells: &[u32]) -> usize
-    requires shows { ⌜ shown (Answer.Listed tally) ≤ length (now cells) ⌝ }
+    requires within { ⌜ shown (Answer.Listed tally) ≤ length (now cells) ⌝ }
     requires room { ⌜ at + length (tallyText tally (now cells)) ≤ length (now out) ⌝ }
     ensures { λ r. ⌜ PutText (now (out .entry)) at (tallyText tally (now (cells .entry))) (now (out .exit)) r ⌝ }
 {
@@ -37,7 +37,7 @@ fn put_tally(out: &mut [u8], at: usize, tally: Tally, cells: &[u32]) -> usize
 
 // Writes the line of the answer to line `number`, whose intervals stand in the cells, and answers how long it is.
 pub fn write_line(number: usize, answer: Answer, cells: &[u32], out: &mut [u8]) -> usize
-    requires shows { ⌜ shown answer ≤ length (now cells) ⌝ }
+    requires within { ⌜ shown answer ≤ length (now cells) ⌝ }
     requires room { ⌜ length (lineOf number answer (now cells)) ≤ length (now out) ⌝ }
     ensures { λ r. ⌜ PutFirst (now (out .entry)) (lineOf number answer (now (cells .entry))) (now (out .exit)) r ⌝ }
 {

@@ -11,7 +11,7 @@ use Rattle.parts.proofs.PartLaws.{counts-within}
 use Rattle.script.specs.Reads.{Reads}
 
 -- behind the end nothing is laid
-pub sets-out : (vs out : List ℕ) (k : ℕ) → length out ≤ k → sets out k vs ≡ out
+sets-out : (vs out : List ℕ) (k : ℕ) → length out ≤ k → sets out k vs ≡ out
 sets-out [] out k h = refl
 sets-out (v ∷ vs) out k h = rw (set-out out k v h) (sets-out vs out (suc k) (omega (arith, h)))
 
