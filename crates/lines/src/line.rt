@@ -16,7 +16,7 @@ pub const LINE_ROOM: usize = 344_169;
 
 // The three fields that every line has.
 fn put_head(out: &mut [u8], number: u64, refusal: u64, value: u64) -> usize
-    requires { ⌜ 0 + length (headText number refusal value) ≤ length (now out) ⌝ }
+    requires { ⌜ length (headText number refusal value) ≤ length (now out) ⌝ }
     ensures { λ r. ⌜ PutText (now (out .entry)) 0 (headText number refusal value) (now (out .exit)) r ⌝ }
 {
     let behind_number = put_number(out, 0, number);
