@@ -35,7 +35,8 @@ file-sound index e =
     (λ t. good-sound index (rw t at e))
 
 -- the cells that hold the intervals are within the room
-listed-within : (c : List ℕ) (room : ℕ) (t : Bool) → leb (intervals c) room ≡ t → shown (cond t (answer.Listed (tallyOf c)) (answer.Refused (Room (intervals c)))) ≤ 2 * room
+listed-within : (c : List ℕ) (room : ℕ) (t : Bool) → leb (intervals c) room ≡ t →
+    shown (cond t (answer.Listed (tallyOf c)) (answer.Refused (Room (intervals c)))) ≤ 2 * room
 listed-within c room true e = omega (arith, leb-true (intervals c) room e)
 listed-within c room false e = omega arith
 
@@ -54,7 +55,8 @@ listed-same number c true out =
 listed-same number c false out = refl
 
 line-same : (number : ℕ) (checked : Checked) (index : List ℕ) (a : Parsed) (room : ℕ) (out : List ℕ) →
-    lineOf number (askAnswer checked index a room) (askCells checked index a room out) ≡ lineOf number (askAnswer checked index a room) (askCells checked index a room [])
+    lineOf number (askAnswer checked index a room) (askCells checked index a room out)
+    ≡ lineOf number (askAnswer checked index a room) (askCells checked index a room [])
 line-same number (Refused r) index a room out = refl
 line-same number Good index (refuses r) room out = refl
 line-same number Good index (parses t k) room out = listed-same number (satisfying index t) (leb (intervals (satisfying index t)) room) out
