@@ -1,22 +1,18 @@
 -- Laws of reading: what a read put into a lent tail, said of the whole buffer, and what its answer says.
-use mathlib.Core.Path.{_≡_, refl, sym, ap}
+use mathlib.Core.Path.{_≡_, refl, ap}
 use Prim.Native.Nat.{ℕ, _+_, _-_, _≤_}
 use native.Mathlib.Omega.{arith}
 use mathlib.Core.Bool.{true, false}
 use mathlib.Core.List.{List}
 use lib.ListN.{length}
-use lib.Seq.{length-take-le}
 use lib.IntN.{ℤ, pos, negsuc}
 use lib.Signed.{ltZ}
 use borrow.Author.Tests.{ltb-true}
 use borrow.Rule.Slice.PartMut.{putMid, midOf, same-len-mid, mid-len, take-put}
-use Rattle.io.specs.Counts.{Counts, clamped}
+use Rattle.io.specs.Counts.{clamped}
 use Rattle.ask.specs.declared.transfer.Reading.{Reading}
 use Rattle.ask.specs.declared.transfer.Reading.the-variants.{Bytes, Failed}
 use Rattle.ask.specs.Transfer.{readCount, readingOf, ReadsOn}
-
-pub within-counts : (n : ℕ) (bytes : List ℕ) → n ≤ length bytes → Counts n bytes
-within-counts n bytes h = (h, sym (length-take-le n bytes h))
 
 pub tail-read : (done : ℕ) (bytes tail : List ℕ) (r : Reading) →
     done ≤ length bytes →

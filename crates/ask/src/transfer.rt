@@ -56,7 +56,8 @@ pub fn write_whole(fd: i32, bytes: &[u8]) -> usize
 
 // What a read into these bytes said by its answer.
 fn reading_of(got: isize, bytes: &[u8]) -> Reading
-    ensures { λ r. ⌜ (r ≡ readingOf got (length (now (bytes .entry)))) × Counts (readCount r) (now (bytes .entry)) ⌝ }
+    ensures reads { λ r. ⌜ r ≡ readingOf got (length (now (bytes .entry))) ⌝ }
+    ensures counts { λ r. ⌜ Counts (readCount r) (now (bytes .entry)) ⌝ }
 {
     if got < 0 {
         Reading::Failed

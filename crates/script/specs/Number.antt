@@ -3,7 +3,7 @@ use Prim.Native.Nat.{ℕ, _+_, _*_, _%_}
 use mathlib.Core.Bool.{Bool, cond, _||_}
 use mathlib.Core.List.{List, [], _∷_}
 use lib.Dec.{ltb}
-use Rattle.script.specs.Part.{partsOf}
+use Rattle.parts.specs.Part.{partsOf}
 
 abbrev pub noDigit : ℕ → Bool
 noDigit b = ltb b 48 || ltb 57 b

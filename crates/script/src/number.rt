@@ -4,7 +4,7 @@ ghost use Prim.Native.Nat.{_<_, _%_, min};
 ghost use Rattle.io.specs.Counts.{Counts};
 ghost use Rattle.script.specs.Number.{noDigit, numberOf, numbersOf};
 ghost use Rattle.script.specs.Reads.{Reads};
-use crate::part::part_end;
+use parts::part_end;
 
 fn no_digit(b: u8) -> bool
     ensures { λ r. ⌜ r ≡ noDigit b ⌝ }
@@ -13,14 +13,15 @@ fn no_digit(b: u8) -> bool
 }
 
 fn digit(b: u8) -> u64
-    ensures { λ r. ⌜ (r ≡ b % 16) × (r < 16) ⌝ }
+    ensures value { λ r. ⌜ r ≡ b % 16 ⌝ }
+    ensures small { λ r. ⌜ r < 16 ⌝ }
 {
     (b % 16) as u64
 }
 
 // The number that the digits at the front spell, of which the last 18 count.
 pub fn number(s: &[u8]) -> u64
-    ensures { λ r. ⌜ r ≡ numberOf (now (s .entry)) ⌝ }
+    ensures value { λ r. ⌜ r ≡ numberOf (now (s .entry)) ⌝ }
     ensures small { λ r. ⌜ r < 1000000000000000000 ⌝ }
 {
     let mut value: u64 = 0;

@@ -20,7 +20,8 @@ fn plain_byte(b: u8) -> u8
 
 // A hexadecimal digit's number: a letter is 9 above its last four bits.
 fn nibble_of(b: u8) -> u8
-    ensures { λ r. ⌜ (r ≡ nibble b) × (r < 16) ⌝ }
+    ensures value { λ r. ⌜ r ≡ nibble b ⌝ }
+    ensures small { λ r. ⌜ r < 16 ⌝ }
 {
     (b % 16 + b / 64 * 9) % 16
 }

@@ -8,5 +8,4 @@ pub plain-byte-spec : {M : Type 1} → statement M
 plain-byte-spec =
     tie.close
     (tie.spec
-    (λ c. rw (eq-eqb (c .before .args .b) 47 (c .if1 .taken)))
-    (λ c. rw (ne-eqb (c .before .args .b) 47 (c .if1 .left))))
+    (λ c. rw (eq-eqb (c .before .args .b) 47 (c .if1 .taken))) (λ c. rw (ne-eqb (c .before .args .b) 47 (c .if1 .left))))
