@@ -18,7 +18,9 @@ use list::sense::sense_at;
 
 // What the word of slot k says of record x; its hint keeps where the list is read on.
 fn look_slot(index: &[u8], entries: &[usize], k: usize, x: u32, hints: &mut [usize]) -> Sense
-    requires { ⌜ ReadBy (now index) (now entries) (now hints) × (k < 16) × (x ≤ 16777215) ⌝ }
+    requires read { ⌜ ReadBy (now index) (now entries) (now hints) ⌝ }
+    requires slot { ⌜ k < 16 ⌝ }
+    requires within { ⌜ x ≤ 16777215 ⌝ }
     ensures keeps { λ r. ⌜ length (now (hints .exit)) ≡ length (now (hints .entry)) ⌝ }
     ensures steady { λ r. ⌜ Steady (slotHas (now (index .entry)) (now (entries .entry)) k) x (r .inside) (r .until) ⌝ }
 {

@@ -19,7 +19,10 @@ pub fn fill_slot(
     hints: &mut [usize],
     ws: &mut [u64],
 )
-    requires { ⌜ ReadBy (now index) (now entries) (now hints) × (k < 16) × (length (now ws) ≤ 128) × (base ≤ 16777216) ⌝ }
+    requires read { ⌜ ReadBy (now index) (now entries) (now hints) ⌝ }
+    requires slot { ⌜ k < 16 ⌝ }
+    requires window { ⌜ length (now ws) ≤ 128 ⌝ }
+    requires base { ⌜ base ≤ 16777216 ⌝ }
     ensures keeps { λ _. ⌜ length (now (hints .exit)) ≡ length (now (hints .entry)) ⌝ }
     ensures adds { λ _. ⌜ Added (slotHas (now (index .entry)) (now (entries .entry)) k) base (now (ws .entry)) (now (ws .exit)) ⌝ }
 {

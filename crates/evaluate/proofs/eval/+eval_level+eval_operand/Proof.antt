@@ -255,7 +255,7 @@ eval-operand-fill-slot-requires : (t : ℕ) → eval-operand-lts.Need-fill-slot-
 eval-operand-fill-slot-requires t c κs =
     let p = c .before .before .before .before .before .before .before .before .before .before .pre .1 in
     let h = c .before .before .if2 .taken in
-    (p .lent, omega (arith, p .lent .entries-long), p .size, p .near)
+    (p .lent, (omega (arith, p .lent .entries-long), (p .size, p .near)))
 
 eval-operand-add-t21 : (t : ℕ) → eval-operand-lts.Need-add-t21 (operand-claims t) (eval-operand-at t) eval-operand.Post
 eval-operand-add-t21 t c =

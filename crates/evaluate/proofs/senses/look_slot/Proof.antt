@@ -17,13 +17,13 @@ regions c = c .before .before .before .before .before
 returns : tie.Need-returns
 returns c =
     let start = begin (c .before) in
-    (refl, slot-out (start .args .index .now) (start .args .entries .now) (start .args .k) (start .args .x) (omega (arith, c .before .word-count .ensures .0)) (start .pre .2))
+    (refl, slot-out (start .args .index .now) (start .args .entries .now) (start .args .k) (start .args .x) (omega (arith, c .before .word-count .ensures .0)) (start .pre .1 .1))
 
 sense-at-requires : tie.Need-sense-at-requires
 sense-at-requires c κs =
     let at = c .before .before .before .before .before in
     let found = regions at in
-    (found .regions-of .ensures .kept, (at .reading-place .ensures, begin (found .before .before) .pre .2))
+    (found .regions-of .ensures .kept, (at .reading-place .ensures, begin (found .before .before) .pre .1 .1))
 
 same-length : tie.Need-same-length
 same-length c = search needs

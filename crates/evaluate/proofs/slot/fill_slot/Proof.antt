@@ -17,7 +17,7 @@ abbrev regions : tie.After-fill-list → tie.After-regions-of
 regions c = c .before .before .before .before .before .before .before .before
 
 keep-hint-requires : tie.Need-keep-hint-requires
-keep-hint-requires c κs = let pre = begin (regions (c .before .before .before) .before .before) .pre in (pre .1, pre .0 .hints-long)
+keep-hint-requires c κs = let pre = begin (regions (c .before .before .before) .before .before) .pre in (pre .1 .0, pre .0 .hints-long)
 
 same-length : tie.Need-same-length
 same-length c = search needs
