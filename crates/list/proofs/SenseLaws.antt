@@ -1,7 +1,7 @@
 -- What a kept list says from x on, at the place of x: a single at x, a pair that has begun, or nothing before the next of either side.
 use mathlib.Core.Path.{_≡_, refl, sym, _∙_}
 use mathlib.Core.Logic.{_⊎_, inl, inr}
-use Prim.Native.Nat.{ℕ, zero, suc, _+_, _≤_, _<_, min}
+use Prim.Native.Nat.{ℕ, zero, suc, _+_, _/_, _≤_, _<_, min}
 use native.Mathlib.Omega.{arith}
 use mathlib.Core.Bool.{true, false, _&&_, and-false, or-true}
 use mathlib.Core.List.{List, [], _∷_}
@@ -11,9 +11,11 @@ use borrow.Author.Tests.{lt-ltb, le-ltb, le-leb, lt-leb, eq-eqb, ne-eqb}
 use Rattle.laws.proofs.Tests.{leb-cases}
 use Rattle.list.specs.Interval.{top, names}
 use Rattle.list.specs.Among.{among}
+use Rattle.list.specs.Cell.{numbersIn}
 use Rattle.list.specs.Kept.{walked}
 use Rattle.list.specs.Seek.{countBelow, Ascends}
 use Rattle.list.specs.Sense.{Steady, numberOrEnd}
+use Rattle.list.proofs.CellLaws.{numbersIn-length}
 use Rattle.list.proofs.SeekLaws.{count-length, count-under, count-passed, count-ahead}
 use Rattle.list.proofs.WalkLaws.{pairs, walked-names}
 use Rattle.list.proofs.KeptLaws.{Kept}
@@ -61,6 +63,13 @@ number-is xs i h = rw (lt-ltb i (length xs) h)
 
 pub end-is : (xs : List ℕ) (i : ℕ) → length xs ≤ i → numberOrEnd xs i ≡ top + 1
 end-is xs i h = rw (le-ltb i (length xs) h)
+
+-- of a region
+pub number-in : (region : List ℕ) (i : ℕ) → i < length region / 4 → numberOrEnd (numbersIn region) i ≡ getD (numbersIn region) i 0
+number-in region i h = number-is (numbersIn region) i (omega (arith, numbersIn-length region))
+
+pub end-in : (region : List ℕ) (i : ℕ) → length region / 4 ≤ i → numberOrEnd (numbersIn region) i ≡ top + 1
+end-in region i h = end-is (numbersIn region) i (omega (arith, numbersIn-length region))
 
 -- a number that a record may have is not the one behind the last
 pub number-inside : (xs : List ℕ) (i x : ℕ) → numberOrEnd xs i ≤ x → x ≤ top → i < length xs

@@ -16,6 +16,12 @@ begin c = c .before .before .before .before .before .before
 abbrev regions : tie.After-fill-list → tie.After-regions-of
 regions c = c .before .before .before .before .before .before .before .before
 
+fill-list-requires : tie.Need-fill-list-requires
+fill-list-requires c κs =
+    let found = c .before .before .before .before .before .before .before in
+    let pre = begin (found .before .before) .pre in
+    search needs
+
 keep-hint-requires : tie.Need-keep-hint-requires
 keep-hint-requires c κs = let pre = begin (regions (c .before .before .before) .before .before) .pre in (pre .1 .0, pre .0 .hints-long)
 
@@ -42,5 +48,5 @@ fill-slot-spec =
     (tie.spec
     (λ c. search needs) (λ c. search needs) (λ c κs. search needs) (λ c κs. search needs) (λ c. search needs)
     (λ c. search needs) (λ c. search needs) (λ c. search needs) (λ c. search needs) (λ c. search needs) (λ c κs. search needs)
-    (λ c κs. search needs) (λ c. search needs) (λ c. search needs) (λ c. search needs) (λ c κs. search needs) keep-hint-requires
+    (λ c κs. search needs) (λ c. search needs) (λ c. search needs) (λ c. search needs) fill-list-requires keep-hint-requires
     same-length (λ c. search needs) returns returns-2)
