@@ -24,7 +24,7 @@ use Rattle.question.specs.Stops.{Faultless}
 use Rattle.question.specs.Exchange.{around, Matched, AcceptedBy, AcceptedToo, Exchangeable, Exchanged}
 use Rattle.question.proofs.Lockstep as lock
 use Rattle.question.proofs.LimitLaws.{count, walk-kept, accepts-walk}
-use Rattle.question.proofs.PartLaws.{bracketed, Taken, inside-walk, exchange-walk, walk-bare, bare-walk, bare-count, bare-deepest, bare-open, bare-below}
+use Rattle.question.proofs.PartLaws.{bracketed, Taken, inside-walk, exchange-walk, walk-bare, bare-walk, as-bare}
 use Rattle.question.proofs.ParsedLaws.{asked-accepts, accepted-walk, accepted-within, walk-accepted}
 use Rattle.question.proofs.RuleLaws.{from-left-respects}
 use Rattle.question.proofs.SplitLaws.{bares, bareOut, bare-question, tokens-around, none-proper, proper-none, proper-around, proper-inside, none-short, short-none, short-around, short-inside}
@@ -64,10 +64,10 @@ module _ (rule : Rule) (before a behind : List ℕ) (t : Tree) (n : ℕ) (accept
   pub inside-accepted : Matched a → AcceptedBy rule a (count (tokens a))
   inside-accepted m =
       let w =
-      inside-walk (bares (tokens before)) (bares (tokens a)) (bares (tokens behind)) n parts-walked (bare-below 0 (tokens a) (m .above))
-      (bare-open 0 (tokens a) ∙ m .ends) in
+      inside-walk (bares (tokens before)) (bares (tokens a)) (bares (tokens behind)) n parts-walked (as-bare 0 (tokens a) .above (m .above))
+      (as-bare 0 (tokens a) .brackets ∙ m .ends) in
       walk-accepted rule a (count (tokens a)) inside-faultless
-      (accepts-walk (tokens a) (count (tokens a)) (bare-walk fresh (tokens a) (operatorNext 0 (count (tokens a))) (w ∙ ap (λ (i : ℕ). reached (operatorNext 0 i)) (bare-count (tokens a)))))
+      (accepts-walk (tokens a) (count (tokens a)) (bare-walk fresh (tokens a) (operatorNext 0 (count (tokens a))) (w ∙ ap (λ (i : ℕ). reached (operatorNext 0 i)) (as-bare 0 (tokens a) .words))))
 
 -- the brackets of an accepted question match
 pub accepted-matched : (rule : Rule) (a : List ℕ) (t : Tree) (n : ℕ) → parsed rule a ≡ parses t n → Matched a
@@ -104,10 +104,10 @@ module _ (rule : Rule) (respects : Respects rule) (has : List ℕ → ℕ → Bo
   second-taken : WithinLimits second → Taken (parts before b behind)
   second-taken limits =
       let m = accepted-matched rule a ta na a-accepted in
-      let deep : deepest 0 (bares (tokens second)) ≤ 8 = omega (arith, bare-deepest 0 (tokens second), limits .brackets) in
-      let words : count (bares (tokens second)) ≤ 16 = omega (arith, bare-count (tokens second), limits .words) in
+      let deep : deepest 0 (bares (tokens second)) ≤ 8 = omega (arith, as-bare 0 (tokens second) .deep, limits .brackets) in
+      let words : count (bares (tokens second)) ≤ 16 = omega (arith, as-bare 0 (tokens second) .words, limits .words) in
       exchange-walk (bares (tokens before)) (bares (tokens a)) (bares (tokens b)) (bares (tokens behind)) n nb (parts-walked rule before a behind t n accepted)
-      (bare-below 0 (tokens a) (m .above)) (bare-open 0 (tokens a) ∙ m .ends) (bares-walked rule b tb nb b-accepted)
+      (as-bare 0 (tokens a) .above (m .above)) (as-bare 0 (tokens a) .brackets ∙ m .ends) (bares-walked rule b tb nb b-accepted)
       (rw (tokens-around before b behind) at deep) (rw (tokens-around before b behind) at words)
 
   second-accepted : WithinLimits second → (w : Taken (parts before b behind)) → AcceptedBy rule second (w .words)

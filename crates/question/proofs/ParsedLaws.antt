@@ -22,7 +22,7 @@ use Rattle.refusal.specs.declared.Refusal.{Refusal}
 use Rattle.refusal.specs.declared.Refusal.the-variants.{QuestionLength, QuestionByte, LongWord, Grammar, WordLimit, BracketLimit}
 use Rattle.question.specs.declared.reader.Reading.{Reading}
 use Rattle.question.specs.declared.reader.Reading.the-variants.{Accepted, Refused}
-use Rattle.question.specs.Token.{choose, Tok, tokensAt, tokens}
+use Rattle.question.specs.Token.{choose, Tok, tokens}
 use Rattle.question.specs.Grammar.{Tree, Rule, fromLeft, Out, good, bad, bind, question, ended, whole}
 use Rattle.question.specs.Limits.{WithinLimits}
 use Rattle.question.specs.Reading.{Parsed, parses, refuses, foreignAt, longAt, tokenPlace, refusalOf, outcome, unless, parsed, answer, readingOf}
@@ -82,11 +82,6 @@ module _ (rule : Rule) (s : List ℕ) (t : Tree) (n : ℕ) where
   pub accepts-asked : Accepts rule s t n → parsed rule s ≡ parses t n
   unfolding whole
   accepts-asked a = faultless-asked rule s (a .faultless) ∙ rw (a .reads)
-
-  -- the level that whoever walks the question starts from
-  pub accepts-level : parsed rule s ≡ parses t n → question rule (2 * length s + 2) 8 0 (tokensAt s 0) ≡ good t [] n
-  unfolding tokens
-  accepts-level h = asked-accepts h .reads
 
   -- the walk takes all its words, and closes all its brackets
   pub accepted-walk : parsed rule s ≡ parses t n → walk fresh (tokens s) ≡ reached (operatorNext 0 n)

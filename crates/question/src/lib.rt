@@ -1,4 +1,4 @@
-// Reference 6: questions, their tokens, the readers, the refusals 6 to 11, and where their words stand.
+// Reference 6: questions, their tokens, the readers, and the refusals 6 to 11.
 ghost use mathlib.Core.Path.{_≡_};
 ghost use Rattle.question.specs.Reading.{readingOf};
 use refusal::Found;
@@ -7,11 +7,8 @@ use refusal::Refusal;
 pub mod faults;
 pub mod reader;
 pub mod token;
-pub mod words;
 
 pub use reader::Reading;
-pub use words::WordPlaces;
-pub use words::word_places;
 
 // Reference 8.10: whether the question is accepted, and with how many words; or the first refusal of 6 to 11 that holds.
 pub fn read_question(question: &[u8]) -> Reading

@@ -26,7 +26,8 @@ pub enum Read {
 
 // An operand and its links, where `room` brackets may still open and `words` words were read before.
 fn question(s: &[u8], room: usize, words: usize, at: usize) -> Read
-    requires { ⌜ (at ≤ length (now s)) × (words ≤ 16) ⌝ }
+    requires inside { ⌜ at ≤ length (now s) ⌝ }
+    requires few { ⌜ words ≤ 16 ⌝ }
     ensures { λ r. ⌜ ReadsQuestion (now (s .entry)) room words at r ⌝ }
 {
     match operand(s, room, words, at) {
@@ -36,7 +37,8 @@ fn question(s: &[u8], room: usize, words: usize, at: usize) -> Read
 }
 
 fn operand(s: &[u8], room: usize, words: usize, at: usize) -> Read
-    requires { ⌜ (at ≤ length (now s)) × (words ≤ 16) ⌝ }
+    requires inside { ⌜ at ≤ length (now s) ⌝ }
+    requires few { ⌜ words ≤ 16 ⌝ }
     ensures { λ r. ⌜ ReadsOperand (now (s .entry)) room words at r ⌝ }
 {
     let token = next_token(s, at);
@@ -68,7 +70,8 @@ fn operand(s: &[u8], room: usize, words: usize, at: usize) -> Read
 }
 
 fn links(s: &[u8], room: usize, words: usize, at: usize) -> Read
-    requires { ⌜ (at ≤ length (now s)) × (words ≤ 16) ⌝ }
+    requires inside { ⌜ at ≤ length (now s) ⌝ }
+    requires few { ⌜ words ≤ 16 ⌝ }
     ensures { λ r. ⌜ ReadsLinks (now (s .entry)) room words at r ⌝ }
 {
     let token = next_token(s, at);

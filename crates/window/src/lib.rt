@@ -5,3 +5,4 @@ pub mod fill;
 pub mod flips;
 pub mod members;
 pub mod steps;
+pub mod tuning;

@@ -1,7 +1,7 @@
 -- The entry that a search finds has what the index has of the word; without one the index has nothing of it.
-use Rattle.slots.proofs.FindLaws.{entry-at, entry-nowhere}
-use Rattle.slots.proofs.find.entry_for.Statement.{statement}
-use Rattle.slots.proofs.find.entry_for.Tie as tie
+use Rattle.slots.proofs.CompileLaws.{entry-at, entry-nowhere}
+use Rattle.slots.proofs.compile.entry_for.Statement.{statement}
+use Rattle.slots.proofs.compile.entry_for.Tie as tie
 use mathlib.Core.Path.{sym, _∙_}
 use borrow.Author.Needs.{needs}
 
