@@ -12,10 +12,6 @@ use Rattle.list.specs.declared.answer.Answer.the-variants as answer
 use Rattle.list.specs.Interval.{intervals}
 use Rattle.list.specs.Answer.{Listing, Sweeps}
 
--- room for the intervals is room for the cells
-pub room-cells : (c out : List ℕ) → 2 * intervals c ≡ length c → intervals c ≤ length out / 2 → length c ≤ length out
-room-cells c out e h = omega arith
-
 pub listed : {c out out′ : List ℕ} {t : Tally} → intervals c ≤ length out / 2 → Sweeps c true out out′ t → Listing c out out′ (answer.Listed t)
 listed {c} {out} h s = let f = le-leb (intervals c) (length out / 2) h in record { answer = rw (f, s .tally); cells = s .cells ∙ rw f }
 

@@ -1,20 +1,17 @@
 -- Laws of the whole call: an accepted question made ready, its answer by what the driver tallied, and the refusals before it.
-use Prim.Native.Nat.{ℕ, _+_, _-_, _*_, _/_, _≤_, _<_}
+use Prim.Native.Nat.{ℕ, _+_, _-_, _*_, _≤_}
 use native.Mathlib.Nat.{sub-zero}
 use native.Mathlib.Omega.{arith}
 use mathlib.Core.Path.{_≡_, sym, ap, _∙_}
-use mathlib.Core.Bool.{Bool, true, false}
-use mathlib.Core.List.{List, _++_}
-use lib.ListN.{length, take, drop}
-use borrow.Author.Tests.{le-leb, lt-leb}
+use mathlib.Core.Bool.{Bool}
+use mathlib.Core.List.{List}
+use lib.ListN.{length, take}
 use Rattle.refusal.specs.declared.Refusal.{Refusal}
-use Rattle.refusal.specs.declared.Refusal.the-variants.{Room}
 use Rattle.list.specs.declared.answer.Tally.{Tally}
 use Rattle.list.specs.declared.answer.Answer.{Answer}
 use Rattle.list.specs.declared.answer.Answer.the-variants as answer
-use Rattle.list.specs.Interval.{intervals}
 use Rattle.list.specs.Stretches.{cellsOf}
-use Rattle.list.specs.Answer.{tallyOf, Listing, Sweeps}
+use Rattle.list.specs.Answer.{Listing, Sweeps}
 use Rattle.list.proofs.StretchLaws.{cells-same}
 use Rattle.index.specs.declared.Checked.the-variants.{Good, Refused}
 use Rattle.index.specs.Format.{highest}
@@ -32,10 +29,9 @@ use Rattle.codes.proofs.CodeLaws.{codes-words}
 use Rattle.slots.specs.Slots.{slotHas}
 use Rattle.slots.specs.declared.compile.Compiled.{Compiled}
 use Rattle.slots.specs.Compile.{Compiles}
-use Rattle.query.specs.Drive.{TreeOf, testOf, AskedBy, Tallied}
+use Rattle.query.specs.Drive.{TreeOf, testOf, AskedBy}
 use Rattle.query.specs.Prepared.{Prepared}
 use Rattle.query.proofs.QuestionBound.{question-bound}
-use Rattle.query.proofs.SatisfyLaws.{satisfying-even}
 use Rattle.slots.proofs.WholeLaws.{slot-fits, compiled-slots}
 
 -- ---- an accepted question made ready
@@ -73,26 +69,13 @@ module _ {codes index entries : List ℕ} {slots n : ℕ} {t : Tree} (prepared :
   unfolding satisfying
   prepared-cells = rw limit (cells-same (testOf index entries t) (fits (has index) t) (highest index) (λ x h g. prepared .same x))
 
-  pub prepared-room : (out : List ℕ) → intervals (satisfying index t) ≤ length out / 2 → length (cellsOf (testOf index entries t) n) ≤ length out
-  prepared-room out h = omega (arith, ap length prepared-cells, satisfying-even index t)
+  -- a pass over the test's list is one over the answer
+  pub prepared-swept : {writing : Bool} {out out′ : List ℕ} {r : Tally} → Sweeps (cellsOf (testOf index entries t) n) writing out out′ r →
+      Sweeps (satisfying index t) writing out out′ r
+  prepared-swept s = rw prepared-cells at s
 
-  module _ {out out′ : List ℕ} {r : Tally} where
-    pub prepared-intervals : {writing : Bool} → Tallied (testOf index entries t) n writing out out′ r → r .intervals ≡ intervals (satisfying index t)
-    prepared-intervals s = ap (λ (w : Tally). w .intervals) (s .tally) ∙ ap intervals prepared-cells
-
-    pub counted-refused : Tallied (testOf index entries t) n false out out′ r → length out / 2 < r .intervals → Listing (satisfying index t) out out′ (answer.Refused (Room (r .intervals)))
-    counted-refused s h =
-        let e = prepared-intervals s in
-        let f = lt-leb (intervals (satisfying index t)) (length out / 2) (omega arith) in
-        record { answer = rw f (ap (λ (i : ℕ). answer.Refused (Room i)) e); cells = rw f (s .cells) }
-
-    pub written-listed : Tallied (testOf index entries t) n true out out′ r → intervals (satisfying index t) ≤ length out / 2 → Listing (satisfying index t) out out′ (answer.Listed r)
-    written-listed s h =
-        let f = le-leb (intervals (satisfying index t)) (length out / 2) h in
-        record {
-          answer = rw f (ap answer.Listed (s .tally ∙ ap tallyOf prepared-cells));
-          cells = rw f (s .cells ∙ ap (λ (c : List ℕ). c ++ drop (length c) out) prepared-cells);
-        }
+  pub prepared-room : (out : List ℕ) → length (satisfying index t) ≤ length out → length (cellsOf (testOf index entries t) n) ≤ length out
+  prepared-room out h = rw prepared-cells h
 
 -- ---- the question's promise
 

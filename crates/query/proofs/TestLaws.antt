@@ -12,6 +12,7 @@ use Rattle.laws.proofs.Tests.{by-test}
 use Rattle.list.specs.declared.answer.Tally.{Tally}
 use Rattle.list.specs.Interval.{records}
 use Rattle.list.specs.Sense.{Steady}
+use Rattle.list.specs.Answer.{HasRoom, Sweeps}
 use Rattle.list.specs.Stretches.{turned, cellsOf, recordsFrom}
 use Rattle.list.proofs.NamesLaws.{proper-names-above}
 use Rattle.list.proofs.RecordLaws.{recordsFrom-length}
@@ -35,7 +36,7 @@ use Rattle.evaluate.specs.Senses.{Known}
 use Rattle.evaluate.specs.Evaluated.{Evaluated}
 use Rattle.evaluate.specs.Look.{Looks}
 use Rattle.window.specs.Steps.{Constant}
-use Rattle.query.specs.Drive.{TreeOf, testOf, Tallied}
+use Rattle.query.specs.Drive.{TreeOf, testOf}
 use Rattle.codes.proofs.CodeLaws.{codes-words}
 use Rattle.slots.proofs.SlotLaws.{slots-none}
 
@@ -109,7 +110,7 @@ same-tally : (i j r q : ℕ) → i ≡ j → r ≡ q → _≡_ {A = Tally} (reco
 same-tally i j r q e f = rw (e, f)
 
 pub swept-tallied : {p : ℕ → Bool} {n : ℕ} {writing : Bool} {out₀ out : List ℕ} {k recs : ℕ} → Swept p n writing out₀ out false (n + 1) k recs →
-    (writing ≡ true → length (cellsOf p n) ≤ length out₀) → Tallied p n writing out₀ out (record { intervals = k / 2; records = recs })
+    HasRoom (cellsOf p n) writing out₀ → Sweeps (cellsOf p n) writing out₀ out (record { intervals = k / 2; records = recs })
 swept-tallied {p} {n} {writing} {out₀} {out} {k} {recs} s room = record {
   tally = same-tally (k / 2) (length (cellsOf p n) / 2) recs (records (cellsOf p n)) (ap (λ (m : ℕ). m / 2) (swept-count s)) (swept-records s);
   cells = swept-written s room;

@@ -1,13 +1,13 @@
 -- The driver, which passes the records from 1 to N step by step and counts, or writes, the cells of those that satisfy a question.
 use Prim.Native.Nat.{ℕ, _+_, _*_, _≤_, _<_, min}
 use mathlib.Core.Path.{_≡_}
-use mathlib.Core.Bool.{Bool, true, cond}
-use mathlib.Core.List.{List, [], _++_}
-use lib.ListN.{length, drop}
+use mathlib.Core.Bool.{Bool, true}
+use mathlib.Core.List.{List, []}
+use lib.ListN.{length}
 use Rattle.list.specs.declared.answer.Tally.{Tally}
 use Rattle.list.specs.Sense.{Steady}
 use Rattle.list.specs.Stretches.{cellsOf}
-use Rattle.list.specs.Answer.{tallyOf}
+use Rattle.list.specs.Answer.{Sweeps}
 use Rattle.index.specs.Sound.{Sound}
 use Rattle.window.specs.declared.steps.Done.{Done}
 use Rattle.window.specs.Tuning.{windowMost}
@@ -111,9 +111,5 @@ abbrev pub Moves : List ℕ → List ℕ → List ℕ → ℕ → Bool → At �
 Moves codes index entries n writing at out out′ r = OfEach codes index entries (λ p. Moved p n writing at out out′ r)
 
 -- the whole list, counted or written
-pub record Tallied (p : ℕ → Bool) (n : ℕ) (writing : Bool) (out out′ : List ℕ) (r : Tally) : Type 0 where
-  pub tally : r ≡ tallyOf (cellsOf p n)
-  pub cells : out′ ≡ cond writing (cellsOf p n ++ drop (length (cellsOf p n)) out) out
-
 abbrev pub Tallies : List ℕ → List ℕ → List ℕ → ℕ → Bool → List ℕ → List ℕ → Tally → Type 0
-Tallies codes index entries n writing out out′ r = OfEach codes index entries (λ p. Tallied p n writing out out′ r)
+Tallies codes index entries n writing out out′ r = OfEach codes index entries (λ p. Sweeps (cellsOf p n) writing out out′ r)

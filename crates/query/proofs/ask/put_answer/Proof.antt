@@ -1,10 +1,15 @@
 -- Where the bound fits one pass writes; else a pass counts, and leaves the cells as they were for the one that writes.
+use Prim.Native.Nat.{_≤_}
 use mathlib.Core.Path.{_≡_, sym}
 use native.Mathlib.Omega.{arith}
+use lib.ListN.{length}
 use Rattle.laws.proofs.Tests.{true-false}
 use Rattle.index.specs.Format.{highest}
 use Rattle.index.proofs.SoundLaws.{sound-length}
-use Rattle.query.proofs.AskLaws.{prepared-room, prepared-intervals, counted-refused, written-listed}
+use Rattle.list.proofs.ListingLaws.{listed, counted-refused, counted-room, counted-listed}
+use Rattle.query.specs.Ask.{satisfying}
+use Rattle.query.proofs.SatisfyLaws.{satisfying-even}
+use Rattle.query.proofs.AskLaws.{prepared-swept, prepared-room}
 use borrow.Author.Needs.{needs}
 use Rattle.query.proofs.ask.put_answer.Statement.{statement}
 use Rattle.query.proofs.ask.put_answer.Tie as tie
@@ -21,20 +26,17 @@ read-trailer-requires c κs = let start = c .before .before .before .before in s
 sweep-question-requires : tie.Need-sweep-question-requires
 sweep-question-requires c κs =
     let here = c .before .before .before in
+    let a = asked here .args in
     let is = asked here .pre .1 in
-    let sum = c .before .before .slots-sum .ensures in
-    let enough = c .before .if1 .taken in
-    let bound = is .prepared .bound in
-    let room = prepared-room (is .prepared) (limit here) (asked here .args .out .now) (omega arith) in
-    (asked here .pre .0, (limit here, record { tree = is .tree; reads = is .prepared .reads; room = λ w. room }))
+    let fits : length (satisfying (a .index .now) (is .tree)) ≤ length (a .out .now) =
+    omega (arith, satisfying-even (a .index .now) (is .tree), is .prepared .bound, c .before .before .slots-sum .ensures, c .before .if1 .taken) in
+    (asked here .pre .0, (limit here, record { tree = is .tree; reads = is .prepared .reads; room = λ w. prepared-room (is .prepared) (limit here) (a .out .now) fits }))
 
 returns : tie.Need-returns
 returns c t prepared =
     let here = c .before .before .before .before .before .before in
-    let sum = c .before .before .before .before .before .slots-sum .ensures in
-    let enough = c .before .before .before .before .if1 .taken in
-    let bound = prepared .bound in
-    written-listed prepared (limit here) (c .before .before .sweep-question .ensures t (prepared .reads)) (omega arith)
+    listed (omega (arith, prepared .bound, c .before .before .before .before .before .slots-sum .ensures, c .before .before .before .before .if1 .taken))
+    (prepared-swept prepared (limit here) (c .before .before .sweep-question .ensures t (prepared .reads)))
 
 sweep-question-requires-2 : tie.Need-sweep-question-requires-2
 sweep-question-requires-2 c κs =
@@ -44,25 +46,22 @@ sweep-question-requires-2 c κs =
 
 returns-2 : tie.Need-returns-2
 returns-2 c t prepared =
-    counted-refused prepared (limit (c .before .before .before .before .before .before .before)) (c .before .before .before .sweep-question2 .ensures t (prepared .reads)) (c .if2 .taken)
+    let here = c .before .before .before .before .before .before .before in
+    counted-refused (prepared-swept prepared (limit here) (c .before .before .before .sweep-question2 .ensures t (prepared .reads))) (c .if2 .taken)
 
 sweep-question-requires-3 : tie.Need-sweep-question-requires-3
 sweep-question-requires-3 c κs =
     let here = c .before .before .before .before .before .before .before .before in
     let is = asked here .pre .1 in
-    let enough = c .before .if2 .left in
-    let counted = c .before .before .before .before .sweep-question2 .ensures (is .tree) (is .prepared .reads) in
-    let needed = prepared-intervals (is .prepared) (limit here) counted in
-    let room = prepared-room (is .prepared) (limit here) (asked here .args .out .now) (omega arith) in
-    (asked here .pre .0, (limit here, record { tree = is .tree; reads = is .prepared .reads; room = λ w. rw (counted .cells) room }))
+    let counted = prepared-swept (is .prepared) (limit here) (c .before .before .before .before .sweep-question2 .ensures (is .tree) (is .prepared .reads)) in
+    let fits = counted-room counted (satisfying-even (asked here .args .index .now) (is .tree)) (c .before .if2 .left) in
+    (asked here .pre .0, (limit here, record { tree = is .tree; reads = is .prepared .reads; room = λ w. prepared-room (is .prepared) (limit here) _ fits }))
 
 returns-3 : tie.Need-returns-3
 returns-3 c t prepared =
     let here = c .before .before .before .before .before .before .before .before .before .before .before in
-    let enough = c .before .before .before .before .if2 .left in
-    let counted = c .before .before .before .before .before .before .before .sweep-question2 .ensures t (prepared .reads) in
-    let needed = prepared-intervals prepared (limit here) counted in
-    written-listed prepared (limit here) (rw (counted .cells) at (c .before .before .sweep-question3 .ensures t (prepared .reads))) (omega arith)
+    counted-listed (prepared-swept prepared (limit here) (c .before .before .before .before .before .before .before .sweep-question2 .ensures t (prepared .reads)))
+    (c .before .before .before .before .if2 .left) (prepared-swept prepared (limit here) (c .before .before .sweep-question3 .ensures t (prepared .reads)))
 
 pub put-answer-spec : {M : Type 1} → statement M
 put-answer-spec =
