@@ -147,5 +147,5 @@ drop-four bytes i h =
 pub cell-split : (bytes : List ℕ) (i : ℕ) → Below 256 bytes → i + 4 ≤ length bytes → drop i bytes ≡ cellBytes (cellAt bytes i) ++ drop (i + 4) bytes
 cell-split bytes i b h =
     let at : (k : ℕ) → k < length bytes → getD bytes k 0 < 256 = λ k g. below-at 256 bytes k b g in
-    let e = cell-bytes (getD bytes i 0) (getD bytes (i + 1) 0) (getD bytes (i + 2) 0) (getD bytes (i + 3) 0) (at i (omega arith)) (at (i + 1) (omega arith)) (at (i + 2) (omega arith)) (at (i + 3) (omega arith)) in
+    let e = cell-bytes _ _ _ _ (at i (omega arith)) (at (i + 1) (omega arith)) (at (i + 2) (omega arith)) (at (i + 3) (omega arith)) in
     drop-four bytes i h ∙ ap (λ (r : List ℕ). r ++ drop (i + 4) bytes) (sym e)

@@ -62,21 +62,23 @@ module _ (n : ℕ) (words counts numbers : List ℕ) where
   unfolding lentOf
   refused-limit h = rw (lt-ltb top n h)
 
-  pub refused-word : (i : ℕ) → n ≤ top → badWords words ≡ At i → lentOf n words counts numbers ≡ Refused (BuildWord i)
-  unfolding lentOf
-  refused-word i h e = rw (le-ltb top n h, e)
+  module _ (h : n ≤ top) where
+    pub refused-word : (i : ℕ) → badWords words ≡ At i → lentOf n words counts numbers ≡ Refused (BuildWord i)
+    unfolding lentOf
+    refused-word i e = rw (le-ltb top n h, e)
 
-  pub refused-count : (i : ℕ) → n ≤ top → badWords words ≡ Nowhere → badCounts words counts numbers ≡ At i → lentOf n words counts numbers ≡ Refused (BuildCount i)
-  unfolding lentOf
-  refused-count i h e f = rw (le-ltb top n h, e, f)
+    module _ (e : badWords words ≡ Nowhere) where
+      pub refused-count : (i : ℕ) → badCounts words counts numbers ≡ At i → lentOf n words counts numbers ≡ Refused (BuildCount i)
+      unfolding lentOf
+      refused-count i f = rw (le-ltb top n h, e, f)
 
-  pub refused-number : (i : ℕ) → n ≤ top → badWords words ≡ Nowhere → badCounts words counts numbers ≡ Nowhere → badNumbers n words counts numbers ≡ At i → lentOf n words counts numbers ≡ Refused (Number i)
-  unfolding lentOf
-  refused-number i h e f g = rw (le-ltb top n h, e, f, g)
+      pub refused-number : badCounts words counts numbers ≡ Nowhere → (i : ℕ) → badNumbers n words counts numbers ≡ At i → lentOf n words counts numbers ≡ Refused (Number i)
+      unfolding lentOf
+      refused-number f i g = rw (le-ltb top n h, e, f, g)
 
-  pub none-refused : n ≤ top → badWords words ≡ Nowhere → badCounts words counts numbers ≡ Nowhere → badNumbers n words counts numbers ≡ Nowhere → lentOf n words counts numbers ≡ Good
-  unfolding lentOf
-  none-refused h e f g = rw (le-ltb top n h, e, f, g)
+      pub none-refused : badCounts words counts numbers ≡ Nowhere → badNumbers n words counts numbers ≡ Nowhere → lentOf n words counts numbers ≡ Good
+      unfolding lentOf
+      none-refused f g = rw (le-ltb top n h, e, f, g)
 
   -- and the build's answer by it
   pub refused-lent : (r : Refusal) (room : ℕ) → lentOf n words counts numbers ≡ Refused r → buildOf n words counts numbers room ≡ written.Refused r
@@ -110,7 +112,8 @@ each-good {n} {words} {counts} {numbers} e =
     let limit = ltb-false top n (a .0) in
     let list : ℕ → List ℕ = λ i. part (sumTo counts i) (getD counts i 0) numbers in
     let none = rw (← f .0) at (d .0) in
-    let rises : (i : ℕ) → i < length counts → Ascends n 0 (list i) = λ i h. good-ascends n (list i) (list-none n counts numbers i h (fair-count (f .1) i h .room) none) in
+    let rises : (i : ℕ) → i < length counts → Ascends n 0 (list i) = λ i h.
+    good-ascends n (list i) (list-none n counts numbers i h (fair-count (f .1) i h .room) none) in
     record {
       limit = limit;
       word = λ i h. lent-word (lentWords words) i (first-none (badLent (lentWords words)) (wordTotal words) (b .0) i h);

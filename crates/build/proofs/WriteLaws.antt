@@ -58,9 +58,9 @@ sets-comm out a vs b (w ∷ ws) h =
     ap (λ (o : List ℕ). sets o (suc b) ws) (set-sets out a vs b w h) ∙ sets-comm (set out b w) a vs (suc b) ws (omega arith)
 
 -- what was written from the start of a lent tail, said of the whole
-pub tail-sets : (a : ℕ) (xs ys vs : List ℕ) → a + length vs ≤ length xs → ys ≡ vs ++ drop (length vs) (midOf a (length xs - a) xs) →
+pub tail-sets : (a : ℕ) (xs vs : List ℕ) {ys : List ℕ} → a + length vs ≤ length xs → ys ≡ vs ++ drop (length vs) (midOf a (length xs - a) xs) →
     putMid a (length xs - a) xs ys ≡ sets xs a vs
-tail-sets a xs ys vs h e = tail-written a xs ys vs e ∙ sym (sets-eq vs xs a h)
+tail-sets a xs vs {ys} h e = tail-written a xs ys vs e ∙ sym (sets-eq vs xs a h)
 
 pub tail-length : (a : ℕ) (xs ys vs : List ℕ) → putMid a (length xs - a) xs ys ≡ sets xs a vs → length (putMid a (length xs - a) xs ys) ≡ length xs
 tail-length a xs ys vs e = ap length e ∙ length-sets xs a vs
@@ -227,10 +227,10 @@ abbrev pub indexPlan : ℕ → List ℕ → Spots → List (List ℕ) → List (
 indexPlan n out at ws xss = plan out (at .list) (listsBytes n xss) (at .word) (wordsBytes ws) (at .entry) (directoryBytes n (at .word) (at .list) ws xss)
 
 -- a word's list, its bytes and its entry, written one after the other
-pub word-entered : (out : List ℕ) (at : Spots) (w c : List ℕ) (s m : ℕ) (o p q : List ℕ) → s ≡ length (cellSingles c) → m ≡ length (lowersIn c) →
+pub word-entered : (out : List ℕ) (at : Spots) (w c : List ℕ) {s m : ℕ} {o p q : List ℕ} → s ≡ length (cellSingles c) → m ≡ length (lowersIn c) →
     o ≡ sets out (at .list) (keptBytes c) → p ≡ sets o (at .word) w → q ≡ sets p (at .entry) (cellsBytes (at .word ∷ length w ∷ at .list ∷ s ∷ m ∷ [])) →
     q ≡ entered out at w c
-word-entered out at w c s m o p q es em eo ep eq = eq ∙ rw (ep, eo, es, em)
+word-entered out at w c es em eo ep eq = eq ∙ rw (ep, eo, es, em)
 
 pub index-entered : (n : ℕ) (out : List ℕ) (at : Spots) (w : List ℕ) (ws : List (List ℕ)) (xs : List ℕ) (xss : List (List ℕ)) →
     at .list + length (listsBytes n (xs ∷ xss)) ≤ at .word → at .word + length (wordsBytes (w ∷ ws)) ≤ at .entry →
@@ -242,4 +242,5 @@ index-entered n out at w ws xs xss h g =
     (directoryBytes n (at .word + length w) (at .list + length (keptBytes c)) ws xss)
     (omega (arith, length-append (keptBytes c) (listsBytes n xss))) (omega (arith, length-append w (wordsBytes ws)))
     ∙ ap (λ (k : ℕ). plan (entered out at w c) (at .list + length (keptBytes c)) (listsBytes n xss) (at .word + length w) (wordsBytes ws) k
-    (directoryBytes n (at .word + length w) (at .list + length (keptBytes c)) ws xss)) (ap (λ (k : ℕ). at .entry + k) (cells-length (at .word ∷ length w ∷ at .list ∷ length (cellSingles c) ∷ length (lowersIn c) ∷ [])))
+    (directoryBytes n (at .word + length w) (at .list + length (keptBytes c)) ws xss))
+    (ap (λ (k : ℕ). at .entry + k) (cells-length (at .word ∷ length w ∷ at .list ∷ length (cellSingles c) ∷ length (lowersIn c) ∷ [])))

@@ -38,20 +38,20 @@ same c = counted (words c) .1 ∙ sym (fair-counts _ _ _ (fair c) .0)
 returns-2 : tie.Need-returns-2
 returns-2 c =
     let bad = words-bad _ _ _ (sym (c .before .before .before .check-words .ensures) ∙ c .before .i .given .1) in
-    sym (refused-word _ _ _ _ _ (c .before .before .before .before .if1 .left) bad)
+    sym (refused-word _ _ _ _ (c .before .before .before .before .if1 .left) _ bad)
 
 returns-3 : tie.Need-returns-3
 returns-3 c =
     let w = c .before .before .before .before in
     let bad = sym (c .before .before .before .check-counts .ensures) ∙ c .before .i2 .given .1 in
-    sym (refused-count _ _ _ _ _ (w .before .before .before .before .if1 .left) (counted w .0) (rw (counted w .1) bad))
+    sym (refused-count _ _ _ _ (w .before .before .before .before .if1 .left) (counted w .0) _ (rw (counted w .1) bad))
 
 returns-4 : tie.Need-returns-4
 returns-4 c =
     let f = c .before .before .before .before in
     let w = words f in
     let bad = sym (c .before .before .before .check-numbers .ensures) ∙ c .before .i3 .given .1 in
-    sym (refused-number _ _ _ _ _ (w .before .before .before .before .if1 .left) (counted w .0) (rw (counted w .1) (fair f)) (rw (same f) bad))
+    sym (refused-number _ _ _ _ (w .before .before .before .before .if1 .left) (counted w .0) (rw (counted w .1) (fair f)) _ (rw (same f) bad))
 
 returns-5 : tie.Need-returns-5
 returns-5 c =

@@ -36,7 +36,9 @@ begin c = c .before .before
 
 hit : (c : Turn) → badCount (now (begin c .args .counts)) (begin c .args .total) (c .before .loop .i) ≡ true →
     At (c .before .loop .i) ≡ countFault (now (begin c .args .counts)) (begin c .args .total) (begin c .args .words)
-hit c bad = rw (c .before .loop .inv .2 ∙ first-hit (badCount (now (begin c .args .counts)) (begin c .args .total)) (c .before .loop .i) (begin c .args .words) (c .loop-test .taken) bad)
+hit c bad =
+    let a = begin c .args in
+    rw (c .before .loop .inv .2 ∙ first-hit (badCount (now (a .counts)) (a .total)) (c .before .loop .i) (a .words) (c .loop-test .taken) bad)
 
 returns-2 : tie.Need-returns-2 Inv-loop μ-loop
 returns-2 c = let t = c .before .before .before in hit t (count-zero _ _ _ (c .before .before .if1 .left) (c .if2 .taken))

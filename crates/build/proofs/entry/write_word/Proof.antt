@@ -34,12 +34,11 @@ returns c =
     let long = kept-length cells in
     let size : c .before .list-size .result ≡ length (keptBytes cells) = omega (arith, kept .ensures .singles, kept .ensures .pairs, c .before .list-size .ensures) in
     let with-list = putMid (at .list) (length out - at .list) out (list .last .0) in
-    let with-word = putMid (at .word) (length with-list - at .word) with-list (bytes .last .0) in
-    let e = tail-sets (at .list) out (list .last .0) (keptBytes cells) (omega (arith, room .list, room .bytes, room .entry)) (list .ensures) in
-    let f = tail-sets (at .word) with-list (bytes .last .0) word (omega (arith, tail-length (at .list) out (list .last .0) (keptBytes cells) e, room .bytes, room .entry)) (bytes .ensures) in (
-      word-entered out at word cells (kept .result .singles) (kept .result .pairs) with-list with-word (c .before .before .before .before .put-five .last .0) (kept .ensures .singles) (kept .ensures .pairs) e f (c .before .before .before .before .put-five .ensures),
-      rw size,
-    )
+    let e = tail-sets (at .list) out (keptBytes cells) (omega (arith, room .list, room .bytes, room .entry)) (list .ensures) in
+    let same = tail-length (at .list) out (list .last .0) (keptBytes cells) e in
+    let f = tail-sets (at .word) with-list word (omega (arith, same, room .bytes, room .entry)) (bytes .ensures) in
+    let put = c .before .before .before .before .put-five .ensures in
+    (word-entered out at word cells (kept .ensures .singles) (kept .ensures .pairs) e f put, rw size)
 
 pub write-word-spec : {M : Type 1} → statement M
 write-word-spec =

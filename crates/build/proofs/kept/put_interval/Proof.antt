@@ -1,23 +1,25 @@
 -- Each arm by what its stores promise.
 use mathlib.Core.Path.{refl, ap, _∙_}
 use native.Mathlib.Omega.{arith}
+use mathlib.Core.Bool.{true, false}
 use mathlib.Core.List.{List}
-use Prim.Native.Nat.{ℕ, _+_, _≤_}
+use Prim.Native.Nat.{ℕ}
 use lib.ListN.{length}
 use lib.Seq.{sets}
 use denote.Ref.{now}
 use borrow.Author.Tests.{eq-eqb, ne-eqb}
 use borrow.Author.Needs.{needs}
 use Rattle.build.specs.Layout.{cellBytes}
+use Rattle.build.specs.Passes.{LaidWithin}
 use Rattle.build.proofs.kept.put_interval.Statement.{statement}
 use Rattle.build.proofs.kept.put_interval.Tie as tie
 
 -- a single has its place
-single : (c : tie.Then1) → c .before .before .args .at .single + 4 ≤ length (now (c .before .before .args .out))
+single : (c : tie.Then1) → LaidWithin true (c .before .before .args .at) (length (now (c .before .before .args .out)))
 single c = rw (eq-eqb (c .before .before .args .l) (c .before .before .args .u) (c .if1 .taken)) at (c .before .before .pre)
 
 -- a pair has its two
-pair : (c : tie.Else1) → (c .before .before .args .at .lower + 4 ≤ length (now (c .before .before .args .out))) × (c .before .before .args .at .upper + 4 ≤ length (now (c .before .before .args .out)))
+pair : (c : tie.Else1) → LaidWithin false (c .before .before .args .at) (length (now (c .before .before .args .out)))
 pair c = rw (ne-eqb (c .before .before .args .l) (c .before .before .args .u) (c .if1 .left)) at (c .before .before .pre)
 
 returns : tie.Need-returns

@@ -17,6 +17,9 @@ Inv-loop words prior₀ prior-end₀ start₀ count₀ prior prior-end start cou
 abbrev μ-loop : tie.MeasureT-loop
 μ-loop words prior₀ prior-end₀ start₀ count₀ prior prior-end start count = length words - start
 
+returns : tie.Need-returns Inv-loop μ-loop
+returns c = rw (pass-open (c .before .before .before .loop .inv) (c .before .word-end .ensures .0) (c .before .before .loop-test .taken) (c .if1 .taken))
+
 -- the word of the turn is ended
 ended : (c : tie.Else1 Inv-loop μ-loop) → c .before .word-end .result < length (now (c .before .before .before .before .before .args .words))
 ended c =
@@ -47,7 +50,7 @@ pub check-words-spec : {M : Type 1} → statement M
 check-words-spec =
     tie.close
     (tie.spec
-    Inv-loop μ-loop (λ c. pass-start (now (c .before .args .words))) (λ c κs. search needs)
-    (λ c. rw (pass-open (c .before .before .before .loop .inv) (c .before .word-end .ensures .0) (c .before .before .loop-test .taken) (c .if1 .taken))) returns-2 (λ c. search needs) (λ c. search needs)
+    Inv-loop μ-loop (λ c. pass-start (now (c .before .args .words))) (λ c κs. search needs) returns
+    returns-2 (λ c. search needs) (λ c. search needs)
     (λ c. search needs) (λ c. search needs) (λ c. search needs) (λ c. search needs) (λ c κs. search needs) returns-3
     (λ c. search needs) (λ c. search needs) (λ c. search needs) loop-again returns-4)
