@@ -71,6 +71,16 @@ module _ (rule : Rule) (S : Tree → Tree → Type 0) (L : List Link → List Li
   r-closed e (_ ∷ r) j e′ (_ ∷ r′) j′ p (both (closeT pl) h) = (keeps .parts e e′ p, h)
   r-closed e (_ ∷ r) j e′ (_ ∷ r′) j′ p (both (otherT pl) h) = tt
 
+  -- an operand in step, and then the links behind it
+  behind : {C : Type 0} (T : C → C → Type 0) (put : Tree → List Link → C) (f g d D : ℕ) (o o′ : Out Tree) →
+      ((a b : Tree) (ls ms : List Link) → S a b → L ls ms → T (put a ls) (put b ms)) → R Base S o o′ →
+      ((j j′ : ℕ) (r r′ : List Tok) → Rests Base r r′ → R Base L (links rule f d j r) (links rule g D j′ r′)) →
+      R Base T (bind o (λ e r j. bind (links rule f d j r) (λ ls z i. good (put e ls) z i))) (bind o′ (λ e r j. bind (links rule g D j r) (λ ls z i. good (put e ls) z i)))
+  behind T put f g d D o o′ kept w h =
+      r-bind Base S T o o′ (λ e r j. bind (links rule f d j r) (λ ls z i. good (put e ls) z i)) (λ e r j. bind (links rule g D j r) (λ ls z i. good (put e ls) z i)) w
+      (λ e r j e′ r′ j′ p t. r-bind Base L T (links rule f d j r) (links rule g D j′ r′) (λ ls z i. good (put e ls) z i) (λ ls z i. good (put e′ ls) z i) (h j j′ r r′ t)
+      (λ ls z i ls′ z′ i′ q v. (kept e e′ ls ls′ p q, v)))
+
   mutual
     unfolding question operand links
 
@@ -78,10 +88,7 @@ module _ (rule : Rule) (S : Tree → Tree → Type 0) (L : List Link → List Li
     in-step zero g d D k K r r′ h = tt
     in-step (suc f) zero d D k K r r′ h = r-bad Base S (question rule (suc f) d k r) 0 r′
     in-step (suc f) (suc g) d D k K r r′ h =
-        r-bind Base S S (operand rule f d k r) (operand rule g D K r′) (λ e z j. bind (links rule f d j z) (λ ls y i. good (rule e ls) y i)) (λ e z j. bind (links rule g D j z) (λ ls y i. good (rule e ls) y i))
-        (o-step f g d D k K r r′ h)
-        (λ e z j e′ z′ j′ p t. r-bind Base L S (links rule f d j z) (links rule g D j′ z′) (λ ls y i. good (rule e ls) y i) (λ ls y i. good (rule e′ ls) y i) (l-step f g d D j j′ z z′ t)
-        (λ ls y i ls′ y′ i′ q v. (keeps .levels e e′ ls ls′ p q, v)))
+        behind S rule f g d D (operand rule f d k r) (operand rule g D K r′) (keeps .levels) (o-step f g d D k K r r′ h) (λ j j′ z z′ t. l-step f g d D j j′ z z′ t)
 
     o-step : (f g d D k K : ℕ) (r r′ : List Tok) → Rests Base r r′ → R Base S (operand rule f d k r) (operand rule g D K r′)
     o-step zero g d D k K r r′ h = tt
@@ -101,10 +108,7 @@ module _ (rule : Rule) (S : Tree → Tree → Type 0) (L : List Link → List Li
     l-step (suc f) (suc g) d D k K r r′ (ends h) = begins r r′ h .levels f g d D k K
     l-step (suc f) (suc g) d D k K (_ ∷ r) (_ ∷ r′) (both (wordT w p) h) = (keeps .no-links, both (wordT w p) h)
     l-step (suc f) (suc g) d D k K (_ ∷ r) (_ ∷ r′) (both (opT o p) h) =
-        r-bind Base S L (operand rule f d k r) (operand rule g D K r′) (λ e z j. bind (links rule f d j z) (λ ls y i. good (link o e ∷ ls) y i)) (λ e z j. bind (links rule g D j z) (λ ls y i. good (link o e ∷ ls) y i))
-        (o-step f g d D k K r r′ h)
-        (λ e z j e′ z′ j′ p t. r-bind Base L L (links rule f d j z) (links rule g D j′ z′) (λ ls y i. good (link o e ∷ ls) y i) (λ ls y i. good (link o e′ ∷ ls) y i) (l-step f g d D j j′ z z′ t)
-        (λ ls y i ls′ y′ i′ q v. (keeps .more-links o e e′ ls ls′ p q, v)))
+        behind L (λ e ls. link o e ∷ ls) f g d D (operand rule f d k r) (operand rule g D K r′) (keeps .more-links o) (o-step f g d D k K r r′ h) (λ j j′ z z′ t. l-step f g d D j j′ z z′ t)
     l-step (suc f) (suc g) d D k K (_ ∷ r) (_ ∷ r′) (both (openT p) h) = (keeps .no-links, both (openT p) h)
     l-step (suc f) (suc g) d D k K (_ ∷ r) (_ ∷ r′) (both (closeT p) h) = (keeps .no-links, both (closeT p) h)
     l-step (suc f) (suc g) d D k K (_ ∷ r) (_ ∷ r′) (both (otherT p) h) = (keeps .no-links, both (otherT p) h)

@@ -108,13 +108,14 @@ none-ended k e s (Open p) h = refl
 none-ended k e s (Close p) h = refl
 none-ended k e s (Other p) h = refl
 
-some-ended : (k : ℕ) (e : Tree) (s : List ℕ) (t : Token) → OneOf (0 ∷ []) (tagOf the-type t) → ended e (headed s t) k ≡ good e [] k
-some-ended k e s (End p) h = refl
-some-ended k e s (Word p q) h = absurd (miss (0 ∷ []) 1 tt h)
-some-ended k e s (Op o p q) h = absurd (miss (0 ∷ []) 2 tt h)
-some-ended k e s (Open p) h = absurd (miss (0 ∷ []) 3 tt h)
-some-ended k e s (Close p) h = absurd (miss (0 ∷ []) 4 tt h)
-some-ended k e s (Other p) h = absurd (miss (0 ∷ []) 5 tt h)
+-- the end has no tokens behind it
+pub end-headed : (s : List ℕ) (t : Token) → OneOf (0 ∷ []) (tagOf the-type t) → headed s t ≡ []
+end-headed s (End p) h = refl
+end-headed s (Word p q) h = absurd (miss (0 ∷ []) 1 tt h)
+end-headed s (Op o p q) h = absurd (miss (0 ∷ []) 2 tt h)
+end-headed s (Open p) h = absurd (miss (0 ∷ []) 3 tt h)
+end-headed s (Close p) h = absurd (miss (0 ∷ []) 4 tt h)
+end-headed s (Other p) h = absurd (miss (0 ∷ []) 5 tt h)
 
 -- ---- the readers, by the token at a place
 
@@ -290,7 +291,7 @@ module _ {s : List ℕ} {p : Read} (hp : ReadsQuestion s 8 0 0 p) where
 
     pub whole-ended : OneOf (0 ∷ []) (tagOf the-type c) → ReadsWhole s (Accepted j)
     unfolding whole
-    whole-ended o rule = rw (got rule .says, nc .heads, some-ended j (got rule .got) s c o)
+    whole-ended o rule = rw (got rule .says, nc .heads, end-headed s c o)
 
     pub whole-more : OneOf (1 ∷ 2 ∷ 3 ∷ 4 ∷ 5 ∷ []) (tagOf the-type c) → {v : ℕ} → v ≡ startOf c → ReadsWhole s (Refused (Grammar v))
     unfolding whole refusalOf

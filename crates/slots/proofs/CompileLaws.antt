@@ -18,6 +18,7 @@ use Rattle.index.specs.Format.{wordCount, wordOf}
 use Rattle.index.specs.Sound.{Sound}
 use Rattle.directory.proofs.HasLaws.{found-place, found-has, nowhere-has}
 use Rattle.question.proofs.token.Token.{the-type}
+use Rattle.question.proofs.ReaderLaws.{end-headed}
 use Rattle.question.specs.declared.token.Token.{Token}
 use Rattle.question.specs.declared.token.Token.the-variants.{End, Word, Op, Open, Close, Other}
 use Rattle.question.specs.Token.{cut, tokensAt, tokens}
@@ -75,15 +76,7 @@ module _ {s : List ℕ} {at : ℕ} where
       go (Other p) e w h = record { coded = record { ahead = omega arith; inside = omega arith; codes = rw e }; words = rw e }
 
   pub next-none : {t : Token} → NextToken s at t → OneOf (0 ∷ []) (tagOf the-type t) → tokensAt s at ≡ []
-  next-none {t} next h = next .heads ∙ go t h
-    where
-      go : (t : Token) → OneOf (0 ∷ []) (tagOf the-type t) → headed s t ≡ []
-      go (End p) h = refl
-      go (Word p q) h = absurd (miss (0 ∷ []) 1 tt h)
-      go (Op o p q) h = absurd (miss (0 ∷ []) 2 tt h)
-      go (Open p) h = absurd (miss (0 ∷ []) 3 tt h)
-      go (Close p) h = absurd (miss (0 ∷ []) 4 tt h)
-      go (Other p) h = absurd (miss (0 ∷ []) 5 tt h)
+  next-none {t} next h = next .heads ∙ end-headed s t h
 
 -- ---- codes and slots, one after the other
 

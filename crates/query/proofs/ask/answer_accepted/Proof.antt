@@ -19,8 +19,10 @@ put-answer-requires : tie.Need-put-answer-requires
 put-answer-requires c κs =
     let start = c .before .before .before .before .before .before .before .before .before .before .before .before in
     let is = start .pre .1 in
-    let compiled = c .before .before .before .before .before .before .compile .ensures in
-    (compiled-asked compiled (start .pre .0) (is .tree) (is .words) (is .is) refl, record { tree = is .tree; prepared = compiled-prepared compiled (start .pre .0) (is .tree) (is .words) (is .is) })
+    let compiled = c .before .before .before .before .before .before .compile .ensures in (
+      compiled-asked compiled (start .pre .0) (is .tree) (is .words) (is .is) refl,
+      record { tree = is .tree; prepared = compiled-prepared compiled (start .pre .0) (is .tree) (is .words) (is .is) },
+    )
 
 returns : tie.Need-returns
 returns c =

@@ -17,8 +17,9 @@ answer-accepted-requires c κs =
 returns-2 : tie.Need-returns-2
 returns-2 c =
     let a = c .before .before .before .before .before .before .before .args in
-    let e = sym (c .before .before .before .read-question .ensures) ∙ c .before .refusal .given .1 in
-    refused-answers fromLeft (a .index .now) (a .question .now) (a .out .now) (c .before .refusal .given .0 .0) (reading-refused fromLeft (a .question .now) (c .before .refusal .given .0 .0) e)
+    let refusal = c .before .refusal .given in
+    let e = sym (c .before .before .before .read-question .ensures) ∙ refusal .1 in
+    refused-answers fromLeft (a .index .now) (a .question .now) (a .out .now) (refusal .0 .0) (reading-refused fromLeft (a .question .now) (refusal .0 .0) e)
 
 pub answer-question-spec : {M : Type 1} → statement M
 answer-question-spec =

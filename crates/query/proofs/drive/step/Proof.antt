@@ -95,7 +95,9 @@ take-window-requires c κs =
     )
 
 same-length-4 : tie.Need-same-length-4
-same-length-4 c = c .before .before .before .before .before .before .before .before .take-window .ensures .0 .hints-long ∙ c .before .before .before .before .before .before .before .before .before .before .before .before .before .before .before .before .before .before .look-at .ensures .0
+same-length-4 c =
+    let took = c .before .before .before .before .before .before .before .before in
+    took .take-window .ensures .0 .hints-long ∙ took .before .before .before .before .before .before .before .before .before .before .look-at .ensures .0
 
 returns-2 : tie.Need-returns-2
 returns-2 c =

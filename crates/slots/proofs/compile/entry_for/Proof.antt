@@ -8,12 +8,14 @@ use borrow.Author.Needs.{needs}
 returns : tie.Need-returns
 returns c =
     let start = c .before .before .before .before .before .before in
-    entry-at (start .args .index .now) (start .pre) (start .args .word .now) (c .before .i .given .0 .0) (sym (c .before .before .before .find-word .ensures) ∙ c .before .i .given .1)
+    let found = c .before .i .given in
+    entry-at (start .args .index .now) (start .pre) (start .args .word .now) (found .0 .0) (sym (c .before .before .before .find-word .ensures) ∙ found .1)
 
 returns-2 : tie.Need-returns-2
 returns-2 c =
     let start = c .before .before .before .before .before .before in
-    entry-nowhere (start .args .index .now) (start .pre) (start .args .word .now) (c .word-count .result) (sym (c .before .before .before .find-word .ensures) ∙ c .before .enum-told .given .1) (c .word-count .ensures .0)
+    let nowhere = sym (c .before .before .before .find-word .ensures) ∙ c .before .enum-told .given .1 in
+    entry-nowhere (start .args .index .now) (start .pre) (start .args .word .now) (c .word-count .result) nowhere (c .word-count .ensures .0)
 
 pub entry-for-spec : {M : Type 1} → statement M
 entry-for-spec =
