@@ -13,20 +13,16 @@ use Rattle.refusal.specs.First.{first}
 use Rattle.word.specs.Word.{same}
 use Rattle.list.specs.declared.probe.Probe.{Probe}
 use Rattle.list.specs.Interval.{top}
-use Rattle.list.specs.Cell.{numbersIn}
-use Rattle.list.specs.Reading.{KeptIn}
 use Rattle.list.specs.Ginix.{belowCount, overlapCount}
-use Rattle.list.proofs.KeptLaws.{kept-weaker}
 use Rattle.index.specs.declared.Checked.{Checked}
 use Rattle.index.specs.declared.Checked.the-variants.{Good, Refused}
-use Rattle.index.specs.Format.{wordCount, highest, wordStart, wordLength, wordOf, singlesOf, lowerOf, upperOf, listOf}
-use Rattle.index.specs.Sound.{Sound}
+use Rattle.index.specs.Format.{wordCount, wordStart, wordLength, wordOf, listOf}
 use Rattle.index.specs.Check.{checkOf}
 use Rattle.index.proofs.CheckLaws.{not-good, good-sound}
-use Rattle.index.proofs.SoundLaws.{sound-trailer, sound-list}
 use Rattle.directory.specs.declared.Lookup.the-variants.{Entry, NoEntry}
 use Rattle.directory.specs.declared.Probed.the-variants.{Counted, NoCount}
 use Rattle.directory.specs.Entry.{lookupOf, entryAfter, entryCheck, entryStart, entryLength, badRange, rangeAnswer, probeOf}
+use Rattle.directory.specs.Regions.{EntryIn}
 
 -- ---- a lookup
 
@@ -64,11 +60,11 @@ after-good Good true e = (refl, refl)
 after-good Good false e = not-good (EntryNumber 0) e
 
 -- an entry that is not refused is one of a sound index
-pub entry-good : (index : List ℕ) (i : ℕ) → entryCheck index i ≡ Good → Sound index × (i < wordCount index)
+pub entry-good : (index : List ℕ) (i : ℕ) → entryCheck index i ≡ Good → EntryIn index i
 unfolding entryCheck
 entry-good index i e =
     let w = after-good (checkOf index) (ltb i (wordCount index)) e in
-    (good-sound index (w .0), ltb-true i (wordCount index) (w .1))
+    record { sound = good-sound index (w .0); below = ltb-true i (wordCount index) (w .1) }
 
 module _ (index : List ℕ) (i : ℕ) where
   pub start-answered : entryCheck index i ≡ Good → entryStart index i ≡ wordStart index i
@@ -97,12 +93,6 @@ module _ (index : List ℕ) (i a b : ℕ) where
   pub probe-answered : entryCheck index i ≡ Good → probeOf index i a b ≡ rangeAnswer (badRange a b) (belowCount a (listOf index i)) (overlapCount a b (listOf index i))
   unfolding probeOf
   probe-answered e = rw e
-
--- each list of a sound index is kept within the largest record
-pub list-kept : (index : List ℕ) → Sound index → (i : ℕ) → i < wordCount index → KeptIn top (singlesOf index i) (lowerOf index i) (upperOf index i)
-list-kept index s i h =
-    kept-weaker (highest index) top (numbersIn (singlesOf index i)) (numbersIn (lowerOf index i)) (numbersIn (upperOf index i))
-    (sound-trailer index s .highest-bound) (sound-list index s i h)
 
 pub range-good : (a b : ℕ) → badRange a b ≡ false → (a ≤ b) × (b ≤ top)
 unfolding badRange

@@ -6,9 +6,8 @@ use mathlib.Core.Bool.{Bool, true, false, not, _&&_, _||_, and-false}
 use mathlib.Core.List.{List}
 use lib.ListN.{length, getD, length-append}
 use Rattle.list.specs.Interval.{top, names}
-use Rattle.list.specs.Reading.{listIn}
 use Rattle.list.specs.Sense.{Steady}
-use Rattle.index.specs.Format.{wordCount, singlesOf, lowerOf, upperOf}
+use Rattle.index.specs.Format.{wordCount, listOf}
 use Rattle.question.specs.declared.token.Op.{Op}
 use Rattle.question.specs.declared.token.Op.the-variants.{And, Or, Not}
 use Rattle.question.specs.Token.{Tok}
@@ -71,13 +70,10 @@ module _ (p q : ℕ → Bool) {x : ℕ} {a : Bool} {u : ℕ} where
 -- ---- of a slot
 
 module _ (index entries : List ℕ) (k x : ℕ) where
-  pub slot-in : (a : Bool) (u : ℕ) → getD entries k 0 < wordCount index →
-      Steady (names (listIn (singlesOf index (getD entries k 0)) (lowerOf index (getD entries k 0)) (upperOf index (getD entries k 0)))) x a u →
+  pub slot-in : (a : Bool) (u : ℕ) → getD entries k 0 < wordCount index → Steady (names (listOf index (getD entries k 0))) x a u →
       Steady (slotHas index entries k) x a u
   slot-in a u h s =
-      let i = getD entries k 0 in
-      steady-same (names (listIn (singlesOf index i) (lowerOf index i) (upperOf index i))) (slotHas index entries k) x a u
-      (λ y. sym (slot-lists index entries k h y)) s
+      steady-same (names (listOf index (getD entries k 0))) (slotHas index entries k) x a u (λ y. sym (slot-lists index entries k h y)) s
 
   pub slot-out : wordCount index ≤ getD entries k 0 → x ≤ top → Steady (slotHas index entries k) x false (top + 1)
   slot-out h l = record { later = omega arith; near = omega arith; same = λ y g m. slot-lacks index entries k h y }

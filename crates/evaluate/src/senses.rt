@@ -6,9 +6,8 @@ ghost use Rattle.list.specs.Interval.{top};
 ghost use Rattle.list.specs.Sense.{Steady};
 ghost use Rattle.slots.specs.Slots.{slotHas, ReadBy};
 ghost use Rattle.evaluate.specs.Senses.{untilOf, insideOf, inIt, Sensed, Known, Renewed};
-use directory::parts::lower_of;
-use directory::parts::singles_of;
-use directory::parts::upper_of;
+use directory::parts::Regions;
+use directory::parts::regions_of;
 use index::trailer::word_count;
 use list::END;
 use list::hints::hint_of;
@@ -32,12 +31,12 @@ fn look_slot(index: &[u8], entries: &[usize], k: usize, x: u32, hints: &mut [usi
             until: END,
         };
     }
-    let singles = singles_of(index, entry);
-    let lower = lower_of(index, entry);
-    let upper = upper_of(index, entry);
+    let Regions { s, l, u, end } = regions_of(index, entry);
+    let singles = &index[s..l];
+    let upper = &index[u..end];
     let at = reading_place(singles, upper, hint_of(hints, k), x);
     keep_hint(hints, k, at);
-    sense_at(singles, lower, upper, at, x)
+    sense_at(singles, &index[l..u], upper, at, x)
 }
 
 // A sense as one number.

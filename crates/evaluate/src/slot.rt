@@ -5,6 +5,8 @@ ghost use lib.ListN.{length};
 ghost use Rattle.slots.specs.Slots.{slotHas, ReadBy};
 ghost use Rattle.window.specs.Tuning.{windowMost};
 ghost use Rattle.fill.specs.Added.{Added};
+use directory::parts::Regions;
+use directory::parts::regions_of;
 use fill::fill_list;
 use list::hints::hint_of;
 use list::hints::keep_hint;
@@ -27,11 +29,11 @@ pub fn fill_slot(
 {
     let entry = entries[k];
     if entry < index::trailer::word_count(index) {
-        let singles = directory::parts::singles_of(index, entry);
-        let lower = directory::parts::lower_of(index, entry);
-        let upper = directory::parts::upper_of(index, entry);
+        let Regions { s, l, u, end } = regions_of(index, entry);
+        let singles = &index[s..l];
+        let upper = &index[u..end];
         let at = list::reading::reading_place(singles, upper, hint_of(hints, k), base);
-        let next = fill_list(singles, lower, upper, at, base, ws);
+        let next = fill_list(singles, &index[l..u], upper, at, base, ws);
         keep_hint(hints, k, next);
     }
 }

@@ -3,14 +3,12 @@ use mathlib.Core.Path.{_≡_, refl, sym, _∙_}
 use Prim.Native.Nat.{ℕ, zero, suc, _+_, _-_, _*_, _≤_, _<_}
 use native.Mathlib.Omega.{arith}
 use native.Mathlib.Numerals.{add-one}
-use native.Mathlib.Nat.{lt-of-not-le}
-use native.Mathlib.Decide.{decLe}
 use mathlib.Core.Bool.{true, false, not, _||_}
 use mathlib.Core.List.{List, []}
 use lib.Dec.{eqb, ltb}
 use lib.ListN.{length, take, drop, length-drop, length-take}
 use borrow.Author.Tests.{ltb-false, eqb-true, eqb-false, not-false}
-use Rattle.laws.proofs.Tests.{true-false, or-neither}
+use Rattle.laws.proofs.Tests.{true-false, or-neither, leb-cases}
 use Rattle.word.specs.Word.{before, isWord}
 use Rattle.word.proofs.WordLaws.{before-irreflexive, before-transitive}
 use Rattle.list.specs.Interval.{top}
@@ -60,12 +58,6 @@ sound-trailer index s = trailer-facts index (s .trailer)
 
 -- ---- the directory
 
--- what the entries add up to never falls below where it began
-pub wordsEnd-least : (index : List ℕ) (i : ℕ) → wordsStart index ≤ wordsEnd index i
-unfolding wordsEnd
-wordsEnd-least index zero = omega arith
-wordsEnd-least index (suc i) = let h = wordsEnd-least index i in omega arith
-
 pub wordsEnd-next : (index : List ℕ) (i : ℕ) → wordsEnd index (i + 1) ≡ wordsEnd index i + wordLength index i
 unfolding wordsEnd
 wordsEnd-next index i = rw (add-one i)
@@ -78,7 +70,6 @@ listsEnd-next index i = rw (add-one i)
 pub record EntryFacts (index : List ℕ) (i : ℕ) : Type 0 where
   pub entry-within : entryPlace index i + 20 ≤ length index - 20
   pub word-start : wordStart index i ≡ wordsEnd index i
-  pub word-least : wordsStart index ≤ wordStart index i
   pub word-within : wordStart index i + wordLength index i ≤ directoryStart index
   pub list-start : listStart index i ≡ listsEnd index i
   pub list-within : listStart index i + listLength index i ≤ wordsStart index
@@ -104,14 +95,10 @@ directory-facts index i h =
     let n : singleCount index i + pairCount index i ≡ 0 → ⊥ = eqb-false (singleCount index i + pairCount index i) 0 (r .1) in (
       eqb-true (wordStart index i) (wordsEnd index i) (not-false a (s .0)),
       eqb-true (listStart index i) (listsEnd index i) (not-false b (s .1)),
-      go (decLe 1 (singleCount index i + pairCount index i)) n,
+      leb-cases 1 (singleCount index i + pairCount index i) (λ g. g) (λ g. absurd (n (omega arith))),
       ltb-false (directoryStart index) (wordsEnd index (i + 1)) (q .1),
       ltb-false (wordsStart index) (listsEnd index (i + 1)) (p .1),
     )
-  where
-    go : {x : ℕ} → Dec (1 ≤ x) → (x ≡ 0 → ⊥) → 1 ≤ x
-    go (yes d) n = d
-    go (no d) n = let l = lt-of-not-le d in absurd (n (omega arith))
 
 sound-directory : (index : List ℕ) → Sound index → (i : ℕ) → i < wordCount index → badDirectory index i ≡ false
 unfolding badEntry
@@ -127,11 +114,9 @@ sound-entry index s i h =
     let f = directory-facts index i (sound-directory index s i h) in
     let w = wordsEnd-next index i in
     let l = listsEnd-next index i in
-    let m = wordsEnd-least index i in
     record {
       entry-within = entry-room (directoryStart index) i (wordCount index) (length index) (entryPlace index i) (read-entry index i) h (t .total);
       word-start = f .0;
-      word-least = rw (f .0) m;
       word-within = rw (f .0, ← w) (f .3);
       list-start = f .1;
       list-within = rw (f .1, ← l) (f .4);
@@ -219,11 +204,9 @@ words-step index s i h = word-facts index s (suc i) h .1
 
 pub words-ascend : (index : List ℕ) → Sound index → (i j : ℕ) → i < j → j < wordCount index → before (wordOf index i) (wordOf index j) ≡ true
 words-ascend index s i zero l h = absurd (omega arith)
-words-ascend index s i (suc j) l h = go (decLe j i) (λ g. words-ascend index s i j g (omega arith))
-  where
-    go : Dec (j ≤ i) → (i < j → before (wordOf index i) (wordOf index j) ≡ true) → before (wordOf index i) (wordOf index (suc j)) ≡ true
-    go (yes d) ih = let e : i ≡ j = omega arith in rw e (words-step index s j h)
-    go (no d) ih = before-transitive (wordOf index i) (wordOf index j) (wordOf index (suc j)) (ih (lt-of-not-le d)) (words-step index s j h)
+words-ascend index s i (suc j) l h =
+    leb-cases j i (λ d. let e : i ≡ j = omega arith in rw e (words-step index s j h))
+    (λ d. before-transitive (wordOf index i) (wordOf index j) (wordOf index (suc j)) (words-ascend index s i j d (omega arith)) (words-step index s j h))
 
 -- so no word stands in two entries
 pub words-differ : (index : List ℕ) → Sound index → (i j : ℕ) → i < j → j < wordCount index → wordOf index i ≡ wordOf index j → ⊥
@@ -232,13 +215,8 @@ words-differ index s i j l h e =
     true-false (sym a ∙ before-irreflexive (wordOf index j))
 
 pub word-injective : (index : List ℕ) → Sound index → (i j : ℕ) → i < wordCount index → j < wordCount index → wordOf index i ≡ wordOf index j → i ≡ j
-word-injective index s i j h k e = go (decLe i j) (decLe j i)
-  where
-    go : Dec (i ≤ j) → Dec (j ≤ i) → i ≡ j
-    go (yes a) (yes b) = omega arith
-    go (yes a) (no b) = absurd (words-differ index s i j (lt-of-not-le b) k e)
-    go (no a) (yes b) = absurd (words-differ index s j i (lt-of-not-le a) h (sym e))
-    go (no a) (no b) = let p = lt-of-not-le a in let q = lt-of-not-le b in absurd (omega arith)
+word-injective index s i j h k e =
+    leb-cases i j (λ a. leb-cases j i (λ b. omega arith) (λ b. absurd (words-differ index s i j b k e))) (λ a. absurd (words-differ index s j i a h (sym e)))
 
 -- ---- the lists
 

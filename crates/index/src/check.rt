@@ -1,13 +1,13 @@
 // The check of an index: refusals 1 to 5. Reference 5.
 ghost use mathlib.Core.Path.{_≡_};
 ghost use mathlib.Core.Bool.{not, false, _&&_};
-ghost use mathlib.Core.List.{List};
 ghost use Prim.Native.Nat.{ℕ, _+_, _*_, _≤_, _<_};
 ghost use lib.ListN.{length};
 ghost use Rattle.word.specs.Word.{isWord, before};
-ghost use Rattle.index.specs.Format.{wordCount, highest, wordsEnd, listsEnd};
-ghost use Rattle.index.specs.Read.{TrailerOf, Framed, EntryCells, Small};
-ghost use Rattle.index.specs.Sound.{badTrailer, badDirectory, badEntry, badList};
+ghost use Rattle.index.specs.Format.{wordCount};
+ghost use Rattle.index.specs.Read.{TrailerOf, Framed, Small};
+ghost use Rattle.index.specs.Sound.{badTrailer, badEntry};
+ghost use Rattle.index.specs.Told.{DirectoryTold, ListTold};
 ghost use Rattle.index.specs.Check.{badEntryOf, badListOf, contentsOf, checkOf};
 use crate::Checked;
 use crate::entry::Entry;
@@ -37,7 +37,7 @@ fn trailer_good(index: &[u8], trailer: Trailer) -> bool
 
 // How many bytes an entry's list takes.
 fn list_length(entry: Entry) -> usize
-    requires { ⌜ (entry .singles < 4294967296) × (entry .pairs < 4294967296) ⌝ }
+    requires { ⌜ Small entry ⌝ }
     ensures { λ r. ⌜ r ≡ 4 * (entry .singles + 2 * entry .pairs) ⌝ }
 {
     4 * (entry.singles + 2 * entry.pairs)
@@ -45,8 +45,10 @@ fn list_length(entry: Entry) -> usize
 
 // Reference 5.2: whether an entry keeps the directory rule, where the words before it end at `words` and the lists at `lists`.
 fn directory_good(trailer: Trailer, entry: Entry, words: usize, lists: usize) -> bool
-    requires { ⌜ (words < 4294967296) × (lists < 4294967296) × Small entry ⌝ }
-    ensures { λ r. ⌜ ((index : List ℕ) (i : ℕ) → TrailerOf index trailer → EntryCells index i entry → words ≡ wordsEnd index i → lists ≡ listsEnd index i → r ≡ not (badDirectory index i)) ⌝ }
+    requires words { ⌜ words < 4294967296 ⌝ }
+    requires lists { ⌜ lists < 4294967296 ⌝ }
+    requires entry { ⌜ Small entry ⌝ }
+    ensures { λ r. ⌜ DirectoryTold trailer entry words lists r ⌝ }
 {
     (entry.word_start == words)
         & (entry.list_start == lists)
@@ -103,8 +105,10 @@ fn first_bad_entry(index: &[u8], trailer: Trailer) -> Found
 
 // Reference 3.4: whether an entry's list keeps the list rule; its regions are slices of the index.
 fn list_good(index: &[u8], entry: Entry, limit: u32) -> bool
-    requires { ⌜ (entry .«list_start» + 4 * entry .singles + 8 * entry .pairs ≤ length (now index)) × (length (now index) ≤ 16777216) × (limit ≤ 16777215) ⌝ }
-    ensures { λ r. ⌜ ((i : ℕ) → EntryCells (now (index .entry)) i entry → limit ≡ highest (now (index .entry)) → r ≡ not (badList (now (index .entry)) i)) ⌝ }
+    requires room { ⌜ entry .«list_start» + 4 * entry .singles + 8 * entry .pairs ≤ length (now index) ⌝ }
+    requires long { ⌜ length (now index) ≤ 16777216 ⌝ }
+    requires limit { ⌜ limit ≤ 16777215 ⌝ }
+    ensures { λ r. ⌜ ListTold (now (index .entry)) entry limit r ⌝ }
 {
     let start = entry.list_start;
     let lower = start + 4 * entry.singles;
@@ -120,7 +124,8 @@ fn list_good(index: &[u8], entry: Entry, limit: u32) -> bool
 
 // The first bad list, where every entry is good.
 fn first_bad_list(index: &[u8], trailer: Trailer) -> Found
-    requires { ⌜ Framed (now index) trailer × ((i : ℕ) → i < wordCount (now index) → badEntry (now index) i ≡ false) ⌝ }
+    requires framed { ⌜ Framed (now index) trailer ⌝ }
+    requires entries { ⌜ ((i : ℕ) → i < wordCount (now index) → badEntry (now index) i ≡ false) ⌝ }
     ensures { λ r. ⌜ r ≡ badListOf (now (index .entry)) ⌝ }
 {
     let mut k = 0;

@@ -9,7 +9,8 @@ ghost use Rattle.index.specs.Read.{TrailerOf};
 // How many words a sound index has.
 pub fn word_count(index: &[u8]) -> usize
     requires { ⌜ Sound (now index) ⌝ }
-    ensures { λ r. ⌜ (r ≡ wordCount (now (index .entry))) × (r ≤ 65535) ⌝ }
+    ensures is { λ r. ⌜ r ≡ wordCount (now (index .entry)) ⌝ }
+    ensures few { λ r. ⌜ r ≤ 65535 ⌝ }
 {
     let trailer = crate::trailer::read_trailer(index);
     trailer.count

@@ -78,7 +78,7 @@ between-records p a b h = stretches-records p a (b + 1 - a) h
 module _ (p : ℕ → Bool) (n : ℕ) (writing : Bool) (out₀ out : List ℕ) (x k recs : ℕ) (s : Swept p n writing out₀ out false x k recs)
     (a b : ℕ) (xa : x ≤ a) (ab : a ≤ b) (bn : b ≤ n) (low : (z : ℕ) → x ≤ z → z < a → p z ≡ false) (stop : b < n → p (b + 1) ≡ false) where
   at-a : Swept p n writing out₀ out false a k recs
-  at-a = swept-skip p n writing out₀ out x k recs s a xa (omega arith) low
+  at-a = swept-skip s a xa (omega arith) low
 
   done-left : cellsOf p n ≡ (at-a .done ++ between p a b) ++ stretches p false (b + 1) (n + 1 - (b + 1))
   done-left =

@@ -7,15 +7,14 @@ ghost use Rattle.list.specs.Ginix.{intersectionOf};
 ghost use Rattle.list.specs.Interval.{top, names};
 ghost use Rattle.list.specs.Sense.{Steady};
 ghost use Rattle.index.specs.Format.{listOf};
+ghost use Rattle.directory.specs.Regions.{EntryIn};
 ghost use Rattle.merge.specs.Request.{SoundRequest, listsOf};
-ghost use Rattle.merge.specs.Places.{EntryIn};
 ghost use Rattle.merge.specs.Put.{Fitting, PutWhere, upTo};
 ghost use Rattle.merge.specs.Sweep.{Sweeps};
 ghost use Rattle.intersection.specs.Probing.{Shortest, between, CellsFit, CellsPut, inAll, Within, closes, lowerOn};
+use directory::parts::Regions;
 use directory::parts::interval_count;
-use directory::parts::lower_of;
-use directory::parts::singles_of;
-use directory::parts::upper_of;
+use directory::parts::regions_of;
 use list::PairAt;
 use list::Place;
 use list::SingleAt;
@@ -53,15 +52,15 @@ fn sense_in(index: &[u8], entry: usize, x: u32) -> Sense
     requires { ⌜ EntryIn (now index) entry × (x ≤ top) ⌝ }
     ensures { λ r. ⌜ Steady (names (listOf (now (index .entry)) entry)) x (r .inside) (r .until) ⌝ }
 {
-    let singles = singles_of(index, entry);
-    let lower = lower_of(index, entry);
-    let upper = upper_of(index, entry);
+    let Regions { s, l, u, end } = regions_of(index, entry);
+    let singles = &index[s..l];
+    let upper = &index[u..end];
     let start = Place {
         p: SingleAt(0),
         q: PairAt(0),
     };
     let at = reading_place(singles, upper, start, x);
-    sense_at(singles, lower, upper, at, x)
+    sense_at(singles, &index[l..u], upper, at, x)
 }
 
 // The same of list k of a request, where [x, b] is known to stand in list j: that one is not searched.
@@ -187,9 +186,10 @@ pub fn sweep_probing(index: &[u8], entries: &[u32], writing: bool, out: &mut [u3
 {
     let j = shortest(index, entries);
     let entry = entries[j] as usize;
-    let singles = singles_of(index, entry);
-    let lower = lower_of(index, entry);
-    let upper = upper_of(index, entry);
+    let Regions { s, l, u, end } = regions_of(index, entry);
+    let singles = &index[s..l];
+    let lower = &index[l..u];
+    let upper = &index[u..end];
     let count = singles.len() / 4 + lower.len() / 4;
     let mut at = Place {
         p: SingleAt(0),

@@ -83,7 +83,7 @@ members-none p x y h g q = omega (arith, members-on p x y h g, none-in p x (y - 
 
 -- ---- one step
 
-module _ (p : ℕ → Bool) (n : ℕ) (writing : Bool) (out₀ out : List ℕ) (x k recs : ℕ) (s : Swept p n writing out₀ out false x k recs) where
+module _ {p : ℕ → Bool} {n : ℕ} {writing : Bool} {out₀ out : List ℕ} {x k recs : ℕ} (s : Swept p n writing out₀ out false x k recs) where
   out-still : (y : ℕ) → x ≤ y → y ≤ n + 1 → ((z : ℕ) → x ≤ z → z < y → p z ≡ false) → stretches p false x (n + 1 - x) ≡ stretches p false y (n + 1 - y)
   out-still y h g q = leb-cases y x (λ a. let e : x ≡ y = omega arith in rw e) (λ a. stretches-on p false false n x y a g q)
 
@@ -144,7 +144,7 @@ module _ (p : ℕ → Bool) (n : ℕ) (writing : Bool) (out₀ out : List ℕ) (
 
 -- ---- the end
 
-module _ (p : ℕ → Bool) (n : ℕ) (writing : Bool) (out₀ out : List ℕ) (k recs : ℕ) (s : Swept p n writing out₀ out false (n + 1) k recs) where
+module _ {p : ℕ → Bool} {n : ℕ} {writing : Bool} {out₀ out : List ℕ} {k recs : ℕ} (s : Swept p n writing out₀ out false (n + 1) k recs) where
   pub swept-cells : cellsOf p n ≡ s .done
   swept-cells = s .left ∙ ap (λ (r : List ℕ). s .done ++ r) (stretches-end p false n (n + 1) (omega arith)) ∙ append-nil (s .done)
 

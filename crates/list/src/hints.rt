@@ -9,7 +9,8 @@ use crate::Place;
 use crate::SingleAt;
 
 pub fn hint_of(hints: &[usize], k: usize) -> Place
-    requires { ⌜ (k < 16) × (length (now hints) ≡ 32) ⌝ }
+    requires slot { ⌜ k < 16 ⌝ }
+    requires long { ⌜ length (now hints) ≡ 32 ⌝ }
     ensures { λ r. ⌜ r ≡ hintAt (now (hints .entry)) k ⌝ }
 {
     Place {
@@ -19,7 +20,8 @@ pub fn hint_of(hints: &[usize], k: usize) -> Place
 }
 
 pub fn keep_hint(hints: &mut [usize], k: usize, place: Place)
-    requires { ⌜ (k < 16) × (length (now hints) ≡ 32) ⌝ }
+    requires slot { ⌜ k < 16 ⌝ }
+    requires long { ⌜ length (now hints) ≡ 32 ⌝ }
     ensures keeps { λ _. ⌜ length (now (hints .exit)) ≡ length (now (hints .entry)) ⌝ }
     ensures hint { λ _. ⌜ now (hints .exit) ≡ withHint (now (hints .entry)) k place ⌝ }
 {

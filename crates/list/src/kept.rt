@@ -41,7 +41,8 @@ fn pass_singles(singles: &[u8], from: SingleAt, bound: u32, least0: u32) -> Pass
 
 // Whether the three regions are a list within 1 to n that keeps the list rule: by the pairs, with the singles before each passed on the way.
 pub fn is_kept(singles: &[u8], lower: &[u8], upper: &[u8], n: u32) -> bool
-    requires { ⌜ (length (now lower) ≡ length (now upper)) × (n ≤ top) ⌝ }
+    requires paired { ⌜ length (now lower) ≡ length (now upper) ⌝ }
+    requires limit { ⌜ n ≤ top ⌝ }
     ensures { λ r. ⌜ r ≡ isKept n (numbersIn (now (singles .entry))) (numbersIn (now (lower .entry))) (numbersIn (now (upper .entry))) ⌝ }
 {
     let count = lower.len() / 4;

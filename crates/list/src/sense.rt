@@ -34,7 +34,9 @@ pub fn smaller(a: u32, b: u32) -> u32
 
 // What the list says of x, at the place of x, and how long it says so.
 pub fn sense_at(singles: &[u8], lower: &[u8], upper: &[u8], at: Place, x: u32) -> Sense
-    requires { ⌜ KeptIn top (now singles) (now lower) (now upper) × (at ≡ readingPlace x (numbersIn (now singles)) (numbersIn (now upper))) × (x ≤ top) ⌝ }
+    requires kept { ⌜ KeptIn top (now singles) (now lower) (now upper) ⌝ }
+    requires place { ⌜ at ≡ readingPlace x (numbersIn (now singles)) (numbersIn (now upper)) ⌝ }
+    requires within { ⌜ x ≤ top ⌝ }
     ensures { λ r. ⌜ Steady (names (listIn (now (singles .entry)) (now (lower .entry)) (now (upper .entry)))) x (r .inside) (r .until) ⌝ }
 {
     let p = at.p;

@@ -1,21 +1,20 @@
 -- Laws of the lists of a request: each is kept, and a loop over the request passes them one by one.
-use mathlib.Core.Path.{_≡_, refl, sym, _∙_}
+use mathlib.Core.Path.{_≡_}
 use Prim.Native.Nat.{ℕ, suc, _+_, _*_, _/_, _≤_, _<_}
 use native.Mathlib.Omega.{arith}
 use mathlib.Core.Bool.{true}
 use mathlib.Core.List.{List, [], _∷_}
 use lib.ListN.{length, getD, drop}
 use Rattle.laws.proofs.Lists.{drop-next, drop-none}
-use Rattle.list.specs.Interval.{top, isProper, names}
-use Rattle.list.specs.Seek.{Ascends}
-use Rattle.list.specs.Reading.{listIn}
+use Rattle.list.specs.Interval.{top, isProper}
 use Rattle.list.proofs.CellLaws.{numbersIn-length}
 use Rattle.list.proofs.ProperLaws.{proper-facts, facts-proper, proper-weaker}
 use Rattle.list.proofs.KeptLaws.{Kept, kept-facts}
 use Rattle.list.proofs.JoinLaws.{AllProper}
-use Rattle.index.specs.Format.{wordCount, highest, singleCount, pairCount, singlesOf, lowerOf, upperOf, listOf}
+use Rattle.index.specs.Format.{wordCount, highest, singleCount, pairCount, singlesOf, lowerOf, listOf}
 use Rattle.index.specs.Sound.{Sound}
-use Rattle.index.proofs.SoundLaws.{sound-trailer, sound-entry, sound-list, singles-length, lower-length, upper-length}
+use Rattle.index.proofs.SoundLaws.{sound-trailer, sound-entry, sound-list, singles-length, lower-length}
+use Rattle.directory.specs.Regions.{EntryIn}
 use Rattle.directory.proofs.HasLaws.{list-proper}
 use Rattle.merge.specs.Request.{SoundRequest, listsOf}
 use Rattle.merge.specs.Places.{entrySingles, entryLowers, entryUppers}
@@ -25,9 +24,6 @@ use Rattle.merge.specs.Places.{entrySingles, entryLowers, entryUppers}
 module _ (index : List ℕ) (s : Sound index) (i : ℕ) (h : i < wordCount index) where
   pub entry-kept : Kept (highest index) (entrySingles index i) (entryLowers index i) (entryUppers index i)
   entry-kept = kept-facts (highest index) (entrySingles index i) (entryLowers index i) (entryUppers index i) (sound-list index s i h)
-
-  pub entry-regions : length (lowerOf index i) ≡ length (upperOf index i)
-  entry-regions = lower-length index s i h ∙ sym (upper-length index s i h)
 
   -- Reference 5.2: no list is empty
   pub entry-some : 0 < length (entrySingles index i) + length (entryLowers index i)
@@ -45,14 +41,6 @@ module _ (index : List ℕ) (s : Sound index) (i : ℕ) (h : i < wordCount index
       (proper-weaker (highest index) top 1 1 (listOf index i) (sound-trailer index s .highest-bound) (omega arith)
       (proper-facts (highest index) 1 (listOf index i) (list-proper index s i h)))
 
-  pub entry-ascends : Ascends (entrySingles index i) × Ascends (entryUppers index i)
-  entry-ascends = let k = entry-kept in (k .singles-ascend, k .upper-ascend)
-
-  -- what is said of the three regions is said of the entry's list
-  pub entry-names : names (listIn (singlesOf index i) (lowerOf index i) (upperOf index i)) ≡ names (listOf index i)
-  unfolding listOf
-  entry-names = refl
-
 -- ---- all of them
 
 pub lists-next : (index entries : List ℕ) (j : ℕ) → j < length entries →
@@ -69,6 +57,10 @@ pub lists-proper : (index : List ℕ) → Sound index → (entries : List ℕ) �
 unfolding listsOf
 lists-proper index s [] f = tt
 lists-proper index s (e ∷ es) f = (entry-proper index s e (f 0 (omega arith)), lists-proper index s es (λ j h. f (suc j) (omega arith)))
+
+-- list j of a request
+pub asked-entry : {index entries : List ℕ} → SoundRequest index entries → (j : ℕ) → j < length entries → EntryIn index (getD entries j 0)
+asked-entry a j h = record { sound = a .sound; below = a .below j h }
 
 pub asked-proper : (index entries : List ℕ) → SoundRequest index entries → AllProper top (listsOf index entries)
 asked-proper index entries a = lists-proper index (a .sound) entries (a .below)

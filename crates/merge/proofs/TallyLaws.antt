@@ -29,14 +29,14 @@ none-between p x z h g = absurd (omega arith)
 module _ (p : ℕ → Bool) (writing : Bool) (out₀ out : List ℕ) (t : Tally) (x : ℕ) (d : Tallied p writing out₀ out t x) where
   -- nothing is in from x to below y
   pub tallied-skip : (y : ℕ) → x ≤ y → y ≤ top + 1 → ((z : ℕ) → x ≤ z → z < y → p z ≡ false) → Tallied p writing out₀ out t y
-  tallied-skip y h g q = swept-skip p top writing out₀ out x (2 * t .intervals) (t .records) d y h g q
+  tallied-skip y h g q = swept-skip d y h g q
 
   -- all of an interval is in, nothing from x to below it, and the number behind it is not
   module _ (i : Interval) (near : x ≤ i .lower) (order : i .lower ≤ i .upper) (high : i .upper ≤ top) (none : (z : ℕ) → x ≤ z → z < i .lower → p z ≡ false)
       (inside : (z : ℕ) → i .lower ≤ z → z ≤ i .upper → p z ≡ true) (stop : i .upper < top → p (i .upper + 1) ≡ false) where
     pub tallied-fits : (writing ≡ true → length (cellsOf p top) ≤ length out₀) → Fitting writing out t i
     tallied-fits r = record {
-      room = λ w. swept-room p top writing out₀ out x (2 * t .intervals) (t .records) d (i .lower) (i .upper) near order high none inside stop w (r w);
+      room = λ w. swept-room d (i .lower) (i .upper) near order high none inside stop w (r w);
       few = let a = swept-cells-few d in omega arith;
       small = swept-records-few d;
       order = order;
@@ -48,13 +48,13 @@ module _ (p : ℕ → Bool) (writing : Bool) (out₀ out : List ℕ) (t : Tally)
         let a = q .intervals-more in
         swept-as p writing out₀ _ out′ (i .upper + 1) (2 * t .intervals + 2) (2 * r .intervals) (t .records + (i .upper + 1 - i .lower)) (r .records)
         (q .cells) (omega arith) (q .records-more)
-        (swept-put p top writing out₀ out x (2 * t .intervals) (t .records) d (i .lower) (i .upper) near order high none inside stop)
+        (swept-put d (i .lower) (i .upper) near order high none inside stop)
 
 -- all is swept
 pub tallied-end : (p : ℕ → Bool) (writing : Bool) (out₀ out : List ℕ) (t : Tally) → Tallied p writing out₀ out t (top + 1) →
     (writing ≡ true → length (cellsOf p top) ≤ length out₀) → Sweeps (cellsOf p top) writing out₀ out t
 tallied-end p writing out₀ out t s r =
-    let c = swept-count p top writing out₀ out (2 * t .intervals) (t .records) s in
+    let c = swept-count s in
     let v : t .intervals ≡ intervals (cellsOf p top) = omega arith in
-    let w : t .records ≡ records (cellsOf p top) = swept-records p top writing out₀ out (2 * t .intervals) (t .records) s in
-    record { tally = rw (← v, ← w); cells = swept-written p top writing out₀ out (2 * t .intervals) (t .records) s r }
+    let w : t .records ≡ records (cellsOf p top) = swept-records s in
+    record { tally = rw (← v, ← w); cells = swept-written s r }

@@ -1,13 +1,12 @@
 -- The lists of a join by their regions, and when one is used up at its reading place.
-use Prim.Native.Nat.{ℕ, _+_, _<_}
+use Prim.Native.Nat.{ℕ, _+_}
 use mathlib.Core.Bool.{Bool}
 use mathlib.Core.List.{List}
 use lib.Dec.{leb}
 use lib.ListN.{length}
 use Rattle.list.specs.declared.Place.{Place}
 use Rattle.list.specs.Cell.{numbersIn}
-use Rattle.index.specs.Format.{wordCount, singlesOf, lowerOf, upperOf}
-use Rattle.index.specs.Sound.{Sound}
+use Rattle.index.specs.Format.{singlesOf, lowerOf, upperOf}
 
 -- the numbers of the three regions of entry i
 abbrev pub entrySingles : List ℕ → ℕ → List ℕ
@@ -18,10 +17,6 @@ entryLowers index i = numbersIn (lowerOf index i)
 
 abbrev pub entryUppers : List ℕ → ℕ → List ℕ
 entryUppers index i = numbersIn (upperOf index i)
-
--- an entry of a sound index
-abbrev pub EntryIn : List ℕ → ℕ → Type 0
-EntryIn index i = Sound index × (i < wordCount index)
 
 -- the list of entry i is used up at a place
 abbrev pub usedUp : List ℕ → ℕ → Place → Bool

@@ -5,11 +5,11 @@ ghost use lib.ListN.{length, getD, set, replicate};
 ghost use Rattle.list.specs.Cell.{numbersIn};
 ghost use Rattle.list.specs.Kept.{start, nextPlace, lowerAt, upperAt};
 ghost use Rattle.list.specs.Reading.{Goes};
-ghost use Rattle.merge.specs.Places.{entrySingles, entryLowers, entryUppers, EntryIn, usedUp};
+ghost use Rattle.directory.specs.Regions.{EntryIn};
+ghost use Rattle.merge.specs.Places.{entrySingles, entryLowers, entryUppers, usedUp};
+use directory::parts::Regions;
 use directory::parts::interval_count;
-use directory::parts::lower_of;
-use directory::parts::singles_of;
-use directory::parts::upper_of;
+use directory::parts::regions_of;
 use list::PairAt;
 use list::Place;
 use list::SingleAt;
@@ -50,7 +50,8 @@ pub fn moved_on(index: &[u8], entry: usize, places: [Place; 16], j: usize) -> [P
     requires { ⌜ EntryIn (now index) entry × (j < 16) × Goes (entrySingles (now index) entry) (entryLowers (now index) entry) (getD places j start) ⌝ }
     ensures { λ r. ⌜ r ≡ set places j (nextPlace (entrySingles (now (index .entry)) entry) (entryLowers (now (index .entry)) entry) (getD places j start)) ⌝ }
 {
-    stepped(places, j, singles_of(index, entry), lower_of(index, entry))
+    let Regions { s, l, u, end: _ } = regions_of(index, entry);
+    stepped(places, j, &index[s..l], &index[l..u])
 }
 
 // The interval of an entry's list that is next at a place.
@@ -58,12 +59,8 @@ pub fn next_interval(index: &[u8], entry: usize, at: Place) -> Interval
     requires { ⌜ EntryIn (now index) entry × Goes (entrySingles (now index) entry) (entryLowers (now index) entry) at ⌝ }
     ensures { λ r. ⌜ (r .lower ≡ lowerAt (entrySingles (now (index .entry)) entry) (entryLowers (now (index .entry)) entry) at) × (r .upper ≡ upperAt (entrySingles (now (index .entry)) entry) (entryLowers (now (index .entry)) entry) (entryUppers (now (index .entry)) entry) at) ⌝ }
 {
-    interval_at(
-        singles_of(index, entry),
-        lower_of(index, entry),
-        upper_of(index, entry),
-        at,
-    )
+    let Regions { s, l, u, end } = regions_of(index, entry);
+    interval_at(&index[s..l], &index[l..u], &index[u..end], at)
 }
 
 // Whether an entry's list is used up at a place of it.

@@ -72,7 +72,7 @@ agree-at index i Good e =
     let s = start-answered (index .bytes) i e in
     let n = length-answered (index .bytes) i e in
     let g = entry-good (index .bytes) i e in
-    let room = sound-word-room (index .bytes) (g .0) i (g .1) in
+    let room = sound-word-room (index .bytes) (g .sound) i (g .below) in
     record {
       part = rw (s, n);
       within = room;

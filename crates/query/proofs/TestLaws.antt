@@ -111,6 +111,6 @@ same-tally i j r q e f = rw (e, f)
 pub swept-tallied : {p : ℕ → Bool} {n : ℕ} {writing : Bool} {out₀ out : List ℕ} {k recs : ℕ} → Swept p n writing out₀ out false (n + 1) k recs →
     (writing ≡ true → length (cellsOf p n) ≤ length out₀) → Tallied p n writing out₀ out (record { intervals = k / 2; records = recs })
 swept-tallied {p} {n} {writing} {out₀} {out} {k} {recs} s room = record {
-  tally = same-tally (k / 2) (length (cellsOf p n) / 2) recs (records (cellsOf p n)) (ap (λ (m : ℕ). m / 2) (swept-count p n writing out₀ out k recs s)) (swept-records p n writing out₀ out k recs s);
-  cells = swept-written p n writing out₀ out k recs s room;
+  tally = same-tally (k / 2) (length (cellsOf p n) / 2) recs (records (cellsOf p n)) (ap (λ (m : ℕ). m / 2) (swept-count s)) (swept-records s);
+  cells = swept-written s room;
 }

@@ -6,8 +6,7 @@ use mathlib.Core.List.{List}
 use lib.ListN.{length, getD}
 use borrow.Author.Tests.{lt-ltb, le-ltb}
 use Rattle.list.specs.Interval.{names}
-use Rattle.list.specs.Reading.{listIn}
-use Rattle.index.specs.Format.{wordCount, singlesOf, lowerOf, upperOf, listOf}
+use Rattle.index.specs.Format.{wordCount, listOf}
 use Rattle.question.specs.declared.token.Op.{Op}
 use Rattle.question.specs.declared.token.Op.the-variants.{And, Or, Not}
 use Rattle.question.specs.Grammar.{Tree, word, pair, part, treeWords}
@@ -17,9 +16,8 @@ use Rattle.slots.specs.Slots.{slotHas, slotFits}
 -- ---- the list of a slot
 
 module _ (index entries : List ℕ) (k : ℕ) where
-  pub slot-lists : getD entries k 0 < wordCount index → (x : ℕ) →
-      slotHas index entries k x ≡ names (listIn (singlesOf index (getD entries k 0)) (lowerOf index (getD entries k 0)) (upperOf index (getD entries k 0))) x
-  unfolding slotHas listOf
+  pub slot-lists : getD entries k 0 < wordCount index → (x : ℕ) → slotHas index entries k x ≡ names (listOf index (getD entries k 0)) x
+  unfolding slotHas
   slot-lists h x = rw (lt-ltb (getD entries k 0) (wordCount index) h)
 
   pub slot-lacks : wordCount index ≤ getD entries k 0 → (x : ℕ) → slotHas index entries k x ≡ false

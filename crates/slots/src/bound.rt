@@ -8,8 +8,10 @@ use directory::parts::interval_count;
 use index::trailer::word_count;
 
 fn slot_intervals(index: &[u8], entries: &[usize], k: usize) -> usize
-    requires { ⌜ Sound (now index) × (k < length (now entries)) ⌝ }
-    ensures { λ r. ⌜ (r ≡ slotIntervals (now (index .entry)) (now (entries .entry)) k) × (r ≤ 4194304) ⌝ }
+    requires sound { ⌜ Sound (now index) ⌝ }
+    requires slot { ⌜ k < length (now entries) ⌝ }
+    ensures is { λ r. ⌜ r ≡ slotIntervals (now (index .entry)) (now (entries .entry)) k ⌝ }
+    ensures few { λ r. ⌜ r ≤ 4194304 ⌝ }
 {
     let entry = entries[k];
     if word_count(index) <= entry {
@@ -20,7 +22,9 @@ fn slot_intervals(index: &[u8], entries: &[usize], k: usize) -> usize
 
 // Of the first `count` slots.
 pub fn slots_sum(index: &[u8], entries: &[usize], count: usize) -> usize
-    requires { ⌜ Sound (now index) × (count ≤ length (now entries)) × (count ≤ 16) ⌝ }
+    requires sound { ⌜ Sound (now index) ⌝ }
+    requires slots { ⌜ count ≤ length (now entries) ⌝ }
+    requires few { ⌜ count ≤ 16 ⌝ }
     ensures { λ r. ⌜ r ≡ slotsIntervals (now (index .entry)) (now (entries .entry)) 0 count ⌝ }
 {
     let mut sum = 0;

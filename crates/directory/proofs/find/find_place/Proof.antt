@@ -25,8 +25,7 @@ loop-holds c =
 
 stands-before-requires : tie.Need-stands-before-requires Inv-loop μ-loop
 stands-before-requires c κs =
-    let l = c .before .loop in
-    (c .before .before .before .before .before .pre, omega (arith, l .inv .2))
+    record { sound = c .before .before .before .before .before .pre; below = omega (arith, c .before .loop .inv .2) }
 
 loop-again : tie.Need-loop-again Inv-loop μ-loop
 loop-again c =

@@ -5,6 +5,7 @@ use native.Mathlib.Omega.{arith}
 use denote.Ref.{now}
 use lib.ListN.{length}
 use borrow.Author.Needs.{needs}
+use Rattle.merge.proofs.ListsLaws.{asked-entry}
 use Rattle.intersection.proofs.ProbingLaws.{Best, best-start, best-same, best-other}
 use Rattle.intersection.proofs.probing.shortest.Statement.{statement}
 use Rattle.intersection.proofs.probing.shortest.Tie as tie
@@ -22,8 +23,7 @@ loop-holds c =
 
 interval-count-requires-2 : tie.Need-interval-count-requires-2 Inv-loop μ-loop
 interval-count-requires-2 c κs =
-    let a = c .before .before .before .before .before .before .before .pre in
-    (a .sound, a .below (c .before .before .loop .j) (c .before .loop-test .taken))
+    asked-entry (c .before .before .before .before .before .before .before .pre) (c .before .before .loop .j) (c .before .loop-test .taken)
 
 loop-again : tie.Need-loop-again Inv-loop μ-loop
 loop-again c =
@@ -49,6 +49,6 @@ pub shortest-spec : {M : Type 1} → statement M
 shortest-spec =
     tie.close
     (tie.spec
-    Inv-loop μ-loop (λ c. omega (arith, c .before .before .before .pre .some)) (λ c. omega (arith, c .shared-slice-known3 .given 0)) (λ c κs. let a = c .before .before .before .pre in (a .sound, a .below 0 (a .some))) loop-holds
+    Inv-loop μ-loop (λ c. omega (arith, c .before .before .before .pre .some)) (λ c. omega (arith, c .shared-slice-known3 .given 0)) (λ c κs. let a = c .before .before .before .pre in asked-entry a 0 (a .some)) loop-holds
     (λ c. search needs) (λ c. search needs) (λ c. omega (arith, c .shared-slice-known4 .given (c .before .before .loop .j))) interval-count-requires-2 (λ c. search needs)
     (λ c. search needs) loop-again returns)

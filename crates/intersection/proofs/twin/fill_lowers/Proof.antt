@@ -6,6 +6,7 @@ use denote.Ref.{now}
 use lib.ListN.{length, getD}
 use borrow.Author.Needs.{needs}
 use Rattle.list.specs.Kept.{start}
+use Rattle.merge.proofs.ListsLaws.{asked-entry}
 use Rattle.intersection.specs.Twin.{Lowers}
 use Rattle.intersection.proofs.LowersLaws.{lowers-start, lowers-more}
 use Rattle.intersection.proofs.twin.fill_lowers.Statement.{statement}
@@ -34,7 +35,7 @@ next-interval-requires c κs =
     let pre = c .before .before .before .before .before .before .before .pre in
     let j = c .before .before .before .loop .j in
     let h = c .before .before .loop-test .taken in
-    ((pre .0 .sound, pre .0 .below j h), pre .1 .goes j h)
+    (asked-entry (pre .0) j h, pre .1 .goes j h)
 
 sub-push : tie.Need-sub-push Inv-loop μ-loop
 sub-push c =

@@ -6,6 +6,7 @@ use denote.Ref.{now}
 use lib.ListN.{length}
 use borrow.Author.Needs.{needs}
 use Rattle.list.specs.Kept.{start}
+use Rattle.merge.proofs.ListsLaws.{asked-entry}
 use Rattle.intersection.specs.Twin.{Frontier}
 use Rattle.intersection.proofs.FrontierLaws.{frontier-start, frontier-more}
 use Rattle.intersection.proofs.TwinLaws.{first-goes, first-small}
@@ -30,7 +31,7 @@ next-interval-requires c κs =
     let h = c .before .loop-test .taken in
     let index = now (start .args .index) in
     let entries = now (start .args .entries) in
-    ((pre .0 .sound, pre .0 .below j h), first-goes index entries (pre .0) j h)
+    (asked-entry (pre .0) j h, first-goes index entries (pre .0) j h)
 
 key-of-requires : tie.Need-key-of-requires Inv-loop μ-loop
 key-of-requires c κs =

@@ -9,8 +9,8 @@ use borrow.Author.Needs.{needs}
 use Rattle.list.specs.Interval.{top}
 use Rattle.list.specs.Kept.{start}
 use Rattle.list.proofs.SweepLaws.{swept-length}
-use Rattle.index.specs.Format.{wordCount}
-use Rattle.index.specs.Sound.{Sound}
+use Rattle.directory.specs.Regions.{EntryIn}
+use Rattle.merge.proofs.ListsLaws.{asked-entry}
 use Rattle.merge.specs.Places.{usedUp}
 use Rattle.merge.proofs.TallyLaws.{Tallied}
 use Rattle.intersection.specs.Probing.{inAll}
@@ -44,8 +44,8 @@ list c = turn-list (begin c .pre .0) (c .loop .inv .0) refl
 abbrev entry : At → ℕ
 entry c = getD (now (begin c .args .entries)) (j c) 0
 
-named : (c : At) → Sound (now (begin c .args .index)) × (entry c < wordCount (now (begin c .args .index)))
-named c = let a = begin c .pre .0 in (a .sound, a .below (j c) (list c))
+named : (c : At) → EntryIn (now (begin c .args .index)) (entry c)
+named c = asked-entry (begin c .pre .0) (j c) (list c)
 
 -- the largest lower bound is the first of the heap
 largest : (c : tie.After-with-room Inv-loop μ-loop) →

@@ -6,6 +6,7 @@ use denote.Ref.{now}
 use lib.ListN.{length, getD, replicate}
 use borrow.Author.Needs.{needs}
 use Rattle.list.specs.Kept as S
+use Rattle.merge.proofs.ListsLaws.{asked-entry}
 use Rattle.merge.specs.Keys.{Keys, dueAt}
 use Rattle.merge.proofs.KeysLaws.{fill-start, fill-step}
 use Rattle.merge.proofs.DueLaws.{goes-start, due-start}
@@ -29,9 +30,9 @@ lower-key-requires c κs =
     let start = at .before .before .before .before in
     let index = now (start .args .index) in
     let asked = start .pre .0 in
-    let b = asked .below (at .loop .j) (c .before .loop-test .taken) in
+    let e = asked-entry asked (at .loop .j) (c .before .loop-test .taken) in
     let few = asked .few in
-    ((asked .sound, b), goes-start index (asked .sound) (getD (now (start .args .entries)) (at .loop .j) 0) b, omega arith)
+    (e, goes-start index (asked .sound) (getD (now (start .args .entries)) (at .loop .j) 0) (e .below), omega arith)
 
 loop-again : tie.Need-loop-again Inv-loop μ-loop
 loop-again c =

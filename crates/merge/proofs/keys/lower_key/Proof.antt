@@ -9,13 +9,13 @@ use Rattle.merge.proofs.keys.lower_key.Tie as tie
 mul-result : tie.Need-mul-result
 mul-result c =
     let start = c .before .before .before in
-    let b = bounds-high (now (start .args .index)) (start .pre .0 .0) (start .args .entry) (start .pre .0 .1) (start .args .at) (start .pre .1) in
+    let b = bounds-high (now (start .args .index)) (start .pre .0 .sound) (start .args .entry) (start .pre .0 .below) (start .args .at) (start .pre .1) in
     omega (arith, c .before .next-interval .ensures .0)
 
 add-result : tie.Need-add-result
 add-result c =
     let start = c .before .before .before in
-    let b = bounds-high (now (start .args .index)) (start .pre .0 .0) (start .args .entry) (start .pre .0 .1) (start .args .at) (start .pre .1) in
+    let b = bounds-high (now (start .args .index)) (start .pre .0 .sound) (start .args .entry) (start .pre .0 .below) (start .args .at) (start .pre .1) in
     omega (arith, c .before .next-interval .ensures .0)
 
 pub lower-key-spec : {M : Type 1} → statement M

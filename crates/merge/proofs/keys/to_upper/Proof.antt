@@ -11,25 +11,25 @@ use Rattle.merge.proofs.keys.to_upper.Tie as tie
 add-key : tie.Need-add-key
 add-key c =
     let start = c .before .before .before .before in
-    let b = bounds-high (now (start .args .index)) (start .pre .0 .0) (start .args .entry) (start .pre .0 .1) (start .args .at) (start .pre .1) in
+    let b = bounds-high (now (start .args .index)) (start .pre .0 .sound) (start .args .entry) (start .pre .0 .below) (start .args .at) (start .pre .1) in
     omega (arith, c .before .next-interval .ensures .1)
 
 mul-key : tie.Need-mul-key
 mul-key c =
     let start = c .before .before .before .before in
-    let b = bounds-high (now (start .args .index)) (start .pre .0 .0) (start .args .entry) (start .pre .0 .1) (start .args .at) (start .pre .1) in
+    let b = bounds-high (now (start .args .index)) (start .pre .0 .sound) (start .args .entry) (start .pre .0 .below) (start .args .at) (start .pre .1) in
     omega (arith, c .before .next-interval .ensures .1)
 
 add-key-2 : tie.Need-add-key-2
 add-key-2 c =
     let start = c .before .before .before .before in
-    let b = bounds-high (now (start .args .index)) (start .pre .0 .0) (start .args .entry) (start .pre .0 .1) (start .args .at) (start .pre .1) in
+    let b = bounds-high (now (start .args .index)) (start .pre .0 .sound) (start .args .entry) (start .pre .0 .below) (start .args .at) (start .pre .1) in
     omega (arith, c .before .next-interval .ensures .1)
 
 add-key-3 : tie.Need-add-key-3
 add-key-3 c =
     let start = c .before .before .before .before in
-    let b = bounds-high (now (start .args .index)) (start .pre .0 .0) (start .args .entry) (start .pre .0 .1) (start .args .at) (start .pre .1) in
+    let b = bounds-high (now (start .args .index)) (start .pre .0 .sound) (start .args .entry) (start .pre .0 .below) (start .args .at) (start .pre .1) in
     omega (arith, c .before .next-interval .ensures .1)
 
 returns : tie.Need-returns

@@ -137,8 +137,8 @@ returns c t o =
     let last = rw e at (c .before .before .put-turn .ensures) in
     let mine = swept-close (rw e at done) last in
     let yours = swept-close (rw e at (l .inv .6 t o)) last in
-    let m = swept-count (testOf (a .index .now) (a .entries .now) (fits .tree)) (a .n) (a .writing) (a .out .now) _ _ (l .at .records) mine in
-    let y = swept-count (testOf (a .index .now) (a .entries .now) t) (a .n) (a .writing) (a .out .now) _ _ (l .at .records) yours in
+    let m = swept-count mine in
+    let y = swept-count yours in
     swept-tallied yours (λ w. let room = fits .room w in omega arith)
 
 pub sweep-spec : {M : Type 1} → statement M

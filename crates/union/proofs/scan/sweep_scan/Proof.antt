@@ -5,8 +5,8 @@ use native.Mathlib.Omega.{arith}
 use denote.Ref.{now}
 use lib.ListN.{length, getD}
 use borrow.Author.Needs.{needs}
-use Rattle.index.specs.Format.{wordCount}
-use Rattle.index.specs.Sound.{Sound}
+use Rattle.directory.specs.Regions.{EntryIn}
+use Rattle.merge.proofs.ListsLaws.{asked-entry}
 use Rattle.list.proofs.SweepLaws.{swept-length}
 use Rattle.merge.proofs.DueLaws.{leftSum}
 use Rattle.union.proofs.ScanLaws.{
@@ -45,9 +45,8 @@ begin c = c .before .before .before .before .before .before .before .before .bef
 list : (c : Turn) → getD (c .before .loop .keys) 0 0 % 16 < length (now (begin c .args .entries))
 list c = scan-list (begin c .pre .0) (c .before .loop .inv) (c .loop-test .taken)
 
-named : (c : Turn) →
-    Sound (now (begin c .args .index)) × (getD (now (begin c .args .entries)) (getD (c .before .loop .keys) 0 0 % 16) 0 < wordCount (now (begin c .args .index)))
-named c = let a = begin c .pre .0 in (a .sound, a .below (getD (c .before .loop .keys) 0 0 % 16) (list c))
+named : (c : Turn) → EntryIn (now (begin c .args .index)) (getD (now (begin c .args .entries)) (getD (c .before .loop .keys) 0 0 % 16) 0)
+named c = asked-entry (begin c .pre .0) (getD (c .before .loop .keys) 0 0 % 16) (list c)
 
 -- behind a lower bound
 few : (c : tie.Then1 Inv-loop μ-loop) → c .before .before .before .loop .count + 1 ≤ 16
