@@ -19,8 +19,7 @@ regions c = c .before .before .before .before .before .before .before .before
 fill-list-requires : tie.Need-fill-list-requires
 fill-list-requires c κs =
     let found = c .before .before .before .before .before .before .before in
-    let pre = begin (found .before .before) .pre in
-    search needs
+    (search needs, (search needs, begin (found .before .before) .pre .1 .1))
 
 keep-hint-requires : tie.Need-keep-hint-requires
 keep-hint-requires c κs = let pre = begin (regions (c .before .before .before) .before .before) .pre in (pre .1 .0, pre .0 .hints-long)
