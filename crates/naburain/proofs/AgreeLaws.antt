@@ -1,16 +1,14 @@
 -- The two calls for an entry's word agree, whatever the index and the number.
-use Prim.Native.Nat.{ℕ, _+_, _≤_, _<_}
-use mathlib.Core.Path.{_≡_, refl, sym, _∙_}
-use mathlib.Core.List.{[]}
+use Prim.Native.Nat.{ℕ, _<_}
+use mathlib.Core.Path.{_≡_, refl}
 use native.Mathlib.Omega.{arith}
-use lib.ListN.{length}
 use Rattle.refusal.specs.declared.Refusal.{Refusal}
 use Rattle.refusal.specs.declared.Refusal.the-variants as refusal
 use Rattle.refusal.specs.Refusal.{numberOf}
 use Rattle.index.specs.declared.Checked.{Checked}
 use Rattle.index.specs.declared.Checked.the-variants.{Good, Refused}
 use Rattle.index.specs.Format.{wordStart, wordLength, wordOf}
-use Rattle.index.specs.Part.{Slice, partOf}
+use Rattle.index.specs.Part.{Slice}
 use Rattle.directory.specs.Entry.{entryCheck, entryWord}
 use Rattle.index.proofs.SoundLaws.{part-length, sound-word-room}
 use Rattle.directory.proofs.AnswerLaws.{entry-good, start-answered, start-refused, length-answered, length-refused}

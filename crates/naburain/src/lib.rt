@@ -1,6 +1,5 @@
 // The calls for C programs (Reference 8): numbers and slices in, a struct of numbers out by value, so that a refused call writes nothing anywhere.
 ghost use mathlib.Core.Path.{_≡_};
-ghost use Rattle.convert.specs.Convert.{ToIntervals, ToNumbers};
 ghost use Rattle.index.specs.Format.{wordStart, wordLength};
 ghost use Rattle.index.specs.Check.{checkOf};
 ghost use Rattle.directory.specs.Entry.{lookupOf, entryCheck, probeOf};

@@ -1,6 +1,5 @@
 -- The invariant: what is left of the text is left to put from `at + i` on.
 use mathlib.Core.Path.{_≡_, refl}
-use mathlib.Core.List.{[], _∷_}
 use Prim.Native.Nat.{_+_, _-_, _≤_}
 use native.Mathlib.Omega.{arith}
 use borrow.Author.Needs.{needs}

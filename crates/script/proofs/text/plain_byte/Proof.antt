@@ -1,5 +1,4 @@
 -- By the test.
-use mathlib.Core.Path.{sym}
 use borrow.Author.Tests.{eq-eqb, ne-eqb}
 use Rattle.script.proofs.text.plain_byte.Statement.{statement}
 use Rattle.script.proofs.text.plain_byte.Tie as tie
