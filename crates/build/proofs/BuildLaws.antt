@@ -8,6 +8,7 @@ use lib.Dec.{leb, ltb}
 use lib.ListN.{length, getD, take, drop}
 use lib.Seq.{take-at, drop-at}
 use borrow.Author.Tests.{ltb-false}
+use Rattle.limits.specs.Limits.{indexMax}
 use Rattle.refusal.specs.declared.Refusal.{Refusal}
 use Rattle.refusal.specs.declared.Refusal.the-variants.{BuildLimit, Room}
 use Rattle.list.specs.declared.Written.{Written}
@@ -43,7 +44,7 @@ size-step false false a size e = never (Room a) size e
 
 pub record Accepted (n : ℕ) (words counts numbers : List ℕ) (size : ℕ) : Type 0 where
   pub lent : GoodLent n words counts numbers
-  pub small : length (indexFrom n words counts numbers) ≤ 16777216
+  pub small : length (indexFrom n words counts numbers) ≤ indexMax
   pub is-size : length (indexFrom n words counts numbers) ≡ size
 
 after-passed : (c : Checked) (next : Written) (size : ℕ) → afterLent c next ≡ Wrote size → (c ≡ checked.Good) × (next ≡ Wrote size)
@@ -55,8 +56,8 @@ unfolding buildOf
 accepted n words counts numbers room size e =
     let long = length (indexFrom n words counts numbers) in
     let p = after-passed (lentOf n words counts numbers) (sizeAnswer long room) size e in
-    let s = size-step (ltb 16777216 long) (leb long room) long size (p .1) in
-    record { lent = lent-good (p .0); small = ltb-false 16777216 long (s .0); is-size = s .1 }
+    let s = size-step (ltb indexMax long) (leb long room) long size (p .1) in
+    record { lent = lent-good (p .0); small = ltb-false indexMax long (s .0); is-size = s .1 }
 
 -- ---- it makes an index
 

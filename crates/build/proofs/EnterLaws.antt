@@ -7,7 +7,7 @@ use lib.ListN.{length, getD, take, drop, length-append}
 use lib.Seq.{sets}
 use Rattle.laws.proofs.Tests.{leb-cases}
 use Rattle.laws.proofs.Lists.{sets-append, sets-front}
-use Rattle.list.specs.Interval.{top}
+use Rattle.limits.specs.Limits.{recordMax}
 use Rattle.convert.specs.Convert.{intervalsOf}
 use Rattle.build.specs.declared.entry.Spots.{Spots}
 use Rattle.build.specs.Lent.{wordsFrom, lentWords, sumTo, listsFrom}
@@ -29,19 +29,19 @@ module _ {at : Spots} {w : List ℕ} {ws : List (List ℕ)} {xs : List ℕ} {xss
   entered-within : EnteredWithin at w c room
   unfolding listsBytes wordsBytes
   entered-within =
-      let l = length-append (keptBytes c) (listsBytes top xss) in
+      let l = length-append (keptBytes c) (listsBytes recordMax xss) in
       let b = length-append w (wordsBytes ws) in
       record { list = omega arith; bytes = omega arith; entry = omega arith; small = omega arith }
 
   within-on : AllWithin (enteredTo at w c) ws xss room
   unfolding listsBytes wordsBytes
   within-on =
-      let l = length-append (keptBytes c) (listsBytes top xss) in
+      let l = length-append (keptBytes c) (listsBytes recordMax xss) in
       let b = length-append w (wordsBytes ws) in
       record { lists = omega arith; words = omega arith; entries = omega arith; small = omega arith; as-many = omega arith }
 
   entered-on : (out : List ℕ) → allEntered out at (w ∷ ws) (xs ∷ xss) ≡ allEntered (entered out at w c) (enteredTo at w c) ws xss
-  entered-on out = index-entered top out at w ws xs xss (is .lists) (is .words)
+  entered-on out = index-entered recordMax out at w ws xs xss (is .lists) (is .words)
 
 -- ---- the pass
 

@@ -9,6 +9,7 @@ use lib.ListN.{length, getD}
 use lib.Seq.{sets}
 use borrow.Author.Tests.{lt-ltb, le-ltb, ltb-false, le-leb, lt-leb}
 use Rattle.laws.proofs.Tests.{leb-cases}
+use Rattle.limits.specs.Limits.{indexMax, recordMax, wordsMax}
 use Rattle.refusal.specs.declared.Found.{Found}
 use Rattle.refusal.specs.declared.Found.the-variants.{At, Nowhere}
 use Rattle.refusal.specs.declared.Refusal.{Refusal}
@@ -16,7 +17,6 @@ use Rattle.refusal.specs.declared.Refusal.the-variants.{BuildWord, BuildCount, 
 use Rattle.refusal.specs.First.{first}
 use Rattle.refusal.proofs.FirstLaws.{first-none}
 use Rattle.list.specs.declared.Written.the-variants as written
-use Rattle.list.specs.Interval.{top}
 use Rattle.list.proofs.RecordLaws.{Ascends}
 use Rattle.convert.specs.Front.{inFront}
 use Rattle.convert.proofs.NumberLaws.{good-ascends, ascends-good}
@@ -58,27 +58,27 @@ fair-counts counts total words e =
 -- ---- the check's answer
 
 module _ (n : ℕ) (words counts numbers : List ℕ) where
-  pub refused-limit : top < n → lentOf n words counts numbers ≡ Refused (BuildLimit 0)
+  pub refused-limit : recordMax < n → lentOf n words counts numbers ≡ Refused (BuildLimit 0)
   unfolding lentOf
-  refused-limit h = rw (lt-ltb top n h)
+  refused-limit h = rw (lt-ltb recordMax n h)
 
-  module _ (h : n ≤ top) where
+  module _ (h : n ≤ recordMax) where
     pub refused-word : (i : ℕ) → badWords words ≡ At i → lentOf n words counts numbers ≡ Refused (BuildWord i)
     unfolding lentOf
-    refused-word i e = rw (le-ltb top n h, e)
+    refused-word i e = rw (le-ltb recordMax n h, e)
 
     module _ (e : badWords words ≡ Nowhere) where
       pub refused-count : (i : ℕ) → badCounts words counts numbers ≡ At i → lentOf n words counts numbers ≡ Refused (BuildCount i)
       unfolding lentOf
-      refused-count i f = rw (le-ltb top n h, e, f)
+      refused-count i f = rw (le-ltb recordMax n h, e, f)
 
       pub refused-number : badCounts words counts numbers ≡ Nowhere → (i : ℕ) → badNumbers n words counts numbers ≡ At i → lentOf n words counts numbers ≡ Refused (Number i)
       unfolding lentOf
-      refused-number f i g = rw (le-ltb top n h, e, f, g)
+      refused-number f i g = rw (le-ltb recordMax n h, e, f, g)
 
       pub none-refused : badCounts words counts numbers ≡ Nowhere → badNumbers n words counts numbers ≡ Nowhere → lentOf n words counts numbers ≡ Good
       unfolding lentOf
-      none-refused f g = rw (le-ltb top n h, e, f, g)
+      none-refused f g = rw (le-ltb recordMax n h, e, f, g)
 
   -- and the build's answer by it
   pub refused-lent : (r : Refusal) (room : ℕ) → lentOf n words counts numbers ≡ Refused r → buildOf n words counts numbers room ≡ written.Refused r
@@ -92,7 +92,7 @@ then-good refusal (At i) c e = not-good (refusal i) e
 then-good refusal Nowhere c e = (refl, e)
 
 pub record EachGood (n : ℕ) (words counts numbers : List ℕ) : Type 0 where
-  pub limit : n ≤ top
+  pub limit : n ≤ recordMax
   pub word : (i : ℕ) → i < wordTotal words → LentWord (lentWords words) i
   pub count : (i : ℕ) → i < length counts → LentCount counts (length numbers) i
   pub as-many : length counts ≡ length (lentWords words)
@@ -104,12 +104,12 @@ unfolding lentOf
 each-good {n} {words} {counts} {numbers} e =
     let k = length (lentWords words) in
     let total = length numbers in
-    let a = cond-good (ltb top n) (BuildLimit 0) _ e in
+    let a = cond-good (ltb recordMax n) (BuildLimit 0) _ e in
     let b = then-good BuildWord (badWords words) _ (a .1) in
     let c = then-good BuildCount (badCounts words counts numbers) _ (b .1) in
     let d = then-good Number (badNumbers n words counts numbers) _ (c .1) in
     let f = fair-counts counts total k (c .0) in
-    let limit = ltb-false top n (a .0) in
+    let limit = ltb-false recordMax n (a .0) in
     let list : ℕ → List ℕ = λ i. part (sumTo counts i) (getD counts i 0) numbers in
     let none = rw (← f .0) at (d .0) in
     let rises : (i : ℕ) → i < length counts → Ascends n 0 (list i) = λ i h.
@@ -122,7 +122,7 @@ each-good {n} {words} {counts} {numbers} e =
       ascends = λ i h. rw (lists-at counts numbers i h) (rises i h);
       lists = record {
         room = λ i h. fair-count (f .1) i h .room;
-        good = λ i h. ascends-good top (list i) (ascends-more n top 0 (list i) limit (rises i h));
+        good = λ i h. ascends-good recordMax (list i) (ascends-more n recordMax 0 (list i) limit (rises i h));
       };
     }
 
@@ -140,7 +140,7 @@ module _ {n : ℕ} {words counts numbers : List ℕ} (is : EachGood n words coun
   unfolding wordTotal
   good-word i h = is .word i (omega arith)
 
-  good-lists : listsBytes n xss ≡ listsBytes top xss
+  good-lists : listsBytes n xss ≡ listsBytes recordMax xss
   good-lists = lists-limit n (is .limit) xss lists-ascend
 
 pub lent-good : {n : ℕ} {words counts numbers : List ℕ} → lentOf n words counts numbers ≡ Good → GoodLent n words counts numbers
@@ -151,7 +151,7 @@ lent-good {n} {words} {counts} {numbers} e =
     let bytes : length (wordsBytes (lentWords words)) + length counts ≡ length words = omega (arith, words-bytes-length words (is .word)) in
     record {
       good = e;
-      few = leb-cases (length counts) 65535 (λ h. h) (λ h. absurd (let w = good-word is 65535 (omega arith) .few in omega arith));
+      few = leb-cases (length counts) wordsMax (λ h. h) (λ h. absurd (let w = good-word is wordsMax (omega arith) .few in omega arith));
       as-many = sym m;
       lists = is .lists;
       bytes = bytes;
@@ -164,13 +164,13 @@ module _ {n : ℕ} {words counts numbers : List ℕ} (is : GoodLent n words coun
   abbrev index : List ℕ
   index = indexFrom n words counts numbers
 
-  pub build-large : {out : List ℕ} → 16777216 < length index → Builds n words counts numbers out out (written.Refused (BuildLimit 1))
+  pub build-large : {out : List ℕ} → indexMax < length index → Builds n words counts numbers out out (written.Refused (BuildLimit 1))
   unfolding buildOf
-  build-large h = let large = lt-ltb 16777216 (length index) h in record { answer = rw (is .good, large); bytes = rw (is .good, large) }
+  build-large h = let large = lt-ltb indexMax (length index) h in record { answer = rw (is .good, large); bytes = rw (is .good, large) }
 
-  module _ {size : ℕ} (e : length index ≡ size) (h : size ≤ 16777216) where
-    abbrev small : ltb 16777216 size ≡ false
-    small = le-ltb 16777216 size h
+  module _ {size : ℕ} (e : length index ≡ size) (h : size ≤ indexMax) where
+    abbrev small : ltb indexMax size ≡ false
+    small = le-ltb indexMax size h
 
     pub build-cramped : {out : List ℕ} → length out < size → Builds n words counts numbers out out (written.Refused (Room size))
     unfolding buildOf
@@ -186,11 +186,11 @@ module _ {n : ℕ} {words counts numbers : List ℕ} (is : GoodLent n words coun
 
   -- ---- where its parts belong, and that they make the index
 
-  module _ {lists : ℕ} (l : lists ≡ length (listsBytes top (listsFrom counts numbers))) where
+  module _ {lists : ℕ} (l : lists ≡ length (listsBytes recordMax (listsFrom counts numbers))) where
     abbrev pub firstSpots : Spots
     firstSpots = record { list = 0; word = lists; entry = lists + (length words - length counts) }
 
-    pub good-within : {room : ℕ} → length index ≤ 16777216 → length index ≤ room → AllWithin firstSpots (lentWords words) (listsFrom counts numbers) room
+    pub good-within : {room : ℕ} → length index ≤ indexMax → length index ≤ room → AllWithin firstSpots (lentWords words) (listsFrom counts numbers) room
     good-within h g =
         let s = is .size in
         let b = is .bytes in

@@ -8,7 +8,8 @@ use lib.ListN.{length, getD, take, drop, length-append, List·getD-append}
 use lib.Seq.{getD-append-add}
 use borrow.Author.Tests.{eq-eqb, ne-eqb, le-ltb}
 use Rattle.laws.proofs.Tests.{true-false}
-use Rattle.list.specs.Interval.{top, isProper, names}
+use Rattle.limits.specs.Limits.{recordMax, wordsMax}
+use Rattle.list.specs.Interval.{isProper, names}
 use Rattle.list.specs.Cell.{cellAt, numbersIn}
 use Rattle.list.specs.Among.{among}
 use Rattle.list.proofs.StretchLaws.{cells-proper, cells-proper-from, cells-names}
@@ -289,7 +290,7 @@ module _ {n : ℕ} {ws xss : List (List ℕ)} (is : Indexable n ws xss) where
       let w = built-words-start in
       rw (built-highest, e, d, w)
       (
-      rw (le-ltb top n (is .limit), le-ltb 65535 (length ws) (is .few), le-ltb D W (omega arith), eq-eqb (D + 20 * length ws + 20) (length index) (sym long))
+      rw (le-ltb recordMax n (is .limit), le-ltb wordsMax (length ws) (is .few), le-ltb D W (omega arith), eq-eqb (D + 20 * length ws + 20) (length index) (sym long))
       )
 
   good-directory : (i : ℕ) → i < length ws → badDirectory index i ≡ false

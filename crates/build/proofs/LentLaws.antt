@@ -10,6 +10,7 @@ use lib.ListN.{length, getD, take, drop}
 use lib.Seq.{drop-drop}
 use borrow.Author.Tests.{leb-false, ltb-false, eqb-false, ne-eqb, not-false}
 use Rattle.laws.proofs.Tests.{or-neither, leb-cases}
+use Rattle.limits.specs.Limits.{wordsMax}
 use Rattle.word.specs.Word.{before, isWord}
 use Rattle.index.specs.Format.{part}
 use Rattle.build.specs.Lent.{lentBefore, badLent, sumTo, badCount, badRest, beginsList, listsFrom}
@@ -17,7 +18,7 @@ use Rattle.build.specs.Lent.{lentBefore, badLent, sumTo, badCount, badRe
 -- ---- words
 
 pub record LentWord (ws : List (List ℕ)) (i : ℕ) : Type 0 where
-  pub few : i < 65535
+  pub few : i < wordsMax
   pub within : i < length ws
   pub word : isWord (getD ws i []) ≡ true
   pub order : before (lentBefore ws i) (getD ws i []) ≡ true
@@ -25,14 +26,14 @@ pub record LentWord (ws : List (List ℕ)) (i : ℕ) : Type 0 where
 pub lent-word : (ws : List (List ℕ)) (i : ℕ) → badLent ws i ≡ false → LentWord ws i
 unfolding badLent
 lent-word ws i e =
-    let a = leb 65535 i in
+    let a = leb wordsMax i in
     let b = leb (length ws) i in
     let c = isWord (getD ws i []) in
     let d = before (lentBefore ws i) (getD ws i []) in
     let p = or-neither (a || b || not c) (not d) e in
     let q = or-neither (a || b) (not c) (p .0) in
     let r = or-neither a b (q .0) in
-    record { few = leb-false 65535 i (r .0); within = leb-false (length ws) i (r .1); word = not-false c (q .1); order = not-false d (p .1) }
+    record { few = leb-false wordsMax i (r .0); within = leb-false (length ws) i (r .1); word = not-false c (q .1); order = not-false d (p .1) }
 
 -- ---- counts
 

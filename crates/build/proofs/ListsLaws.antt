@@ -6,8 +6,8 @@ use mathlib.Core.List.{List, [], _∷_, _++_}
 use lib.ListN.{length, getD, take, drop, length-append}
 use lib.Seq.{drop-drop}
 use Rattle.laws.proofs.Lists.{drop-next, drop-none}
+use Rattle.limits.specs.Limits.{recordMax}
 use Rattle.refusal.specs.declared.Found.the-variants.{Nowhere}
-use Rattle.list.specs.Interval.{top}
 use Rattle.convert.specs.Convert.{badNumberOf}
 use Rattle.list.proofs.RecordLaws.{Ascends}
 use Rattle.convert.proofs.NumberLaws.{ascends-good}
@@ -55,20 +55,20 @@ pub ascends-more : (n m p : ℕ) (xs : List ℕ) → n ≤ m → Ascends n p xs 
 ascends-more n m p [] h a = tt
 ascends-more n m p (x ∷ xs) h a = (a .0, omega (arith, a .1), ascends-more n m x xs h (a .2))
 
-module _ (n : ℕ) (h : n ≤ top) where
-  cells-limit : (xs : List ℕ) → Ascends n 0 xs → cellsIn n xs ≡ cellsIn top xs
-  cells-limit xs a = sym (runs-cells n xs (ascends-good n xs a)) ∙ runs-cells top xs (ascends-good top xs (ascends-more n top 0 xs h a))
+module _ (n : ℕ) (h : n ≤ recordMax) where
+  cells-limit : (xs : List ℕ) → Ascends n 0 xs → cellsIn n xs ≡ cellsIn recordMax xs
+  cells-limit xs a = sym (runs-cells n xs (ascends-good n xs a)) ∙ runs-cells recordMax xs (ascends-good recordMax xs (ascends-more n recordMax 0 xs h a))
 
-  pub lists-limit : (xss : List (List ℕ)) → ((i : ℕ) → i < length xss → Ascends n 0 (getD xss i [])) → listsBytes n xss ≡ listsBytes top xss
+  pub lists-limit : (xss : List (List ℕ)) → ((i : ℕ) → i < length xss → Ascends n 0 (getD xss i [])) → listsBytes n xss ≡ listsBytes recordMax xss
   unfolding listsBytes
   lists-limit [] f = refl
   lists-limit (xs ∷ xss) f = rw (cells-limit xs (f 0 (omega arith)), lists-limit xss (λ i g. f (suc i) (omega arith)))
 
-  pub directory-limit : (a b : ℕ) (ws xss : List (List ℕ)) → ((i : ℕ) → i < length xss → Ascends n 0 (getD xss i [])) → directoryBytes n a b ws xss ≡ directoryBytes top a b ws xss
+  pub directory-limit : (a b : ℕ) (ws xss : List (List ℕ)) → ((i : ℕ) → i < length xss → Ascends n 0 (getD xss i [])) → directoryBytes n a b ws xss ≡ directoryBytes recordMax a b ws xss
   unfolding directoryBytes
   directory-limit a b [] xss f = refl
   directory-limit a b (w ∷ ws) [] f = refl
   directory-limit a b (w ∷ ws) (xs ∷ xss) f =
-      let c = cellsIn top xs in
+      let c = cellsIn recordMax xs in
       rw (cells-limit xs (f 0 (omega arith)))
       (ap (λ (r : List ℕ). entryBytes a w b c ++ r) (directory-limit (a + length w) (b + length (keptBytes c)) ws xss (λ i g. f (suc i) (omega arith))))

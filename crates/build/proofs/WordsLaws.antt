@@ -11,6 +11,7 @@ use lib.Seq.{drop-cons, drop-drop}
 use borrow.Author.Tests.{eq-eqb, ne-eqb, le-leb, lt-leb}
 use Rattle.laws.proofs.Tests.{and-both, leb-cases, true-false}
 use Rattle.laws.proofs.Lists.{drop-next, drop-none}
+use Rattle.limits.specs.Limits.{wordsMax}
 use Rattle.refusal.specs.declared.Found.the-variants.{At, Nowhere}
 use Rattle.refusal.specs.First.{first}
 use Rattle.refusal.proofs.FirstLaws.{first-is, first-none-is}
@@ -122,7 +123,7 @@ pub record Passing (bytes : List ℕ) (prior priorEnd start count : ℕ) : Type 
   pub ordered : prior ≤ priorEnd
   pub behind : priorEnd ≤ start
   pub few : count ≤ start
-  pub limit : count ≤ 65535
+  pub limit : count ≤ wordsMax
   pub seen : count ≤ length (lentWords bytes)
   pub words : wordsFrom [] (drop start bytes) ≡ drop count (lentWords bytes)
   pub rest : restFrom [] (drop start bytes) ≡ restOf bytes
@@ -178,7 +179,7 @@ module _ {bytes : List ℕ} {prior priorEnd start count : ℕ} (at : Passing byt
         let w = last-word bytes is (at .within) g in
         let n = none-left ws count (sym (w .0) ∙ at .words) in
         let o = any-one (restOf bytes) (rw (← (sym (w .1) ∙ at .rest)) (omega (arith, length-drop start bytes))) in
-        first-is (badLent ws) count (wordTotal bytes) (record { below = omega arith; holds = bad (leb 65535 count) n; before = at .good })
+        first-is (badLent ws) count (wordTotal bytes) (record { below = omega arith; holds = bad (leb wordsMax count) n; before = at .good })
       where
         bad : (t : Bool) → length ws ≤ count → t || leb (length ws) count || not (isWord (getD ws count [])) || not (before (lentBefore ws count) (getD ws count [])) ≡ true
         bad true n = refl
@@ -192,13 +193,13 @@ module _ {bytes : List ℕ} {prior priorEnd start count : ℕ} (at : Passing byt
       at-bad e = first-is (badLent ws) count (wordTotal bytes) (record { below = words-within count (here .below); holds = e; before = at .good })
 
       -- the 65,536th
-      pub pass-full : count ≡ 65535 → first (badLent ws) (wordTotal bytes) ≡ At count
+      pub pass-full : count ≡ wordsMax → first (badLent ws) (wordTotal bytes) ≡ At count
       unfolding badLent
-      pass-full e = at-bad (rw (le-leb 65535 count (omega arith)))
+      pass-full e = at-bad (rw (le-leb wordsMax count (omega arith)))
 
       pub pass-bad : (isWord word && before (take (priorEnd - prior) (drop prior bytes)) word) ≡ false → first (badLent ws) (wordTotal bytes) ≡ At count
       unfolding badLent
-      pass-bad e = at-bad (rw (here .is, ← at .last) (bad (leb 65535 count) (leb (length ws) count) (isWord word) (before (take (priorEnd - prior) (drop prior bytes)) word) e))
+      pass-bad e = at-bad (rw (here .is, ← at .last) (bad (leb wordsMax count) (leb (length ws) count) (isWord word) (before (take (priorEnd - prior) (drop prior bytes)) word) e))
         where
           bad : (a b c d : Bool) → c && d ≡ false → a || b || not c || not d ≡ true
           bad true b c d e = refl
@@ -207,11 +208,11 @@ module _ {bytes : List ℕ} {prior priorEnd start count : ℕ} (at : Passing byt
           bad false false true false e = refl
           bad false false false d e = refl
 
-      pub pass-next : (count ≡ 65535 → ⊥) → (isWord word && before (take (priorEnd - prior) (drop prior bytes)) word) ≡ true → Passing bytes start end (end + 1) (count + 1)
+      pub pass-next : (count ≡ wordsMax → ⊥) → (isWord word && before (take (priorEnd - prior) (drop prior bytes)) word) ≡ true → Passing bytes start end (end + 1) (count + 1)
       unfolding badLent
       pass-next f e =
           let b = and-both (isWord word) (before (take (priorEnd - prior) (drop prior bytes)) word) e in
-          let l : count < 65535 = leb-cases 65535 count (λ g. absurd (f (omega (arith, at .limit)))) (λ g. g) in
+          let l : count < wordsMax = leb-cases wordsMax count (λ g. absurd (f (omega (arith, at .limit)))) (λ g. g) in
           let n = here in
           record {
             within = omega arith;
@@ -224,6 +225,6 @@ module _ {bytes : List ℕ} {prior priorEnd start count : ℕ} (at : Passing byt
             rest = sym (next-word bytes is (at .within) h .1) ∙ at .rest;
             last = rw (add-one count) (sym (n .is));
             good = λ j k. leb-cases count j
-                (λ g. let q : j ≡ count = omega arith in rw (q, lt-leb 65535 count l, lt-leb (length ws) count (n .below), n .is, b .0, ← at .last, b .1))
+                (λ g. let q : j ≡ count = omega arith in rw (q, lt-leb wordsMax count l, lt-leb (length ws) count (n .below), n .is, b .0, ← at .last, b .1))
                 (λ g. at .good j g);
           }

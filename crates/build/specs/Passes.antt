@@ -6,10 +6,10 @@ use mathlib.Core.List.{List, [], _∷_}
 use lib.Dec.{eqb}
 use lib.ListN.{length, getD}
 use lib.Seq.{sets}
+use Rattle.limits.specs.Limits.{indexMax, recordMax, wordsMax}
 use Rattle.refusal.specs.declared.Found.{Found}
 use Rattle.refusal.specs.declared.Found.the-variants.{At, Nowhere}
 use Rattle.refusal.specs.First.{first}
-use Rattle.list.specs.Interval.{top}
 use Rattle.convert.specs.Convert.{badNumberOf, intervalsOf}
 use Rattle.index.specs.Format.{part}
 use Rattle.build.specs.declared.words.Words.{Words}
@@ -54,12 +54,12 @@ pub record Lists (counts numbers : List ℕ) : Type 0 where
 -- Reference 9.2: nothing that is lent is refused; how many words there are then, and how long their bytes and the index
 pub record GoodLent (n : ℕ) (words counts numbers : List ℕ) : Type 0 where
   pub good : lentOf n words counts numbers ≡ Good
-  pub few : length counts ≤ 65535
+  pub few : length counts ≤ wordsMax
   pub as-many : length (lentWords words) ≡ length counts
   pub lists : Lists counts numbers
   pub bytes : length (wordsBytes (lentWords words)) + length counts ≡ length words
   pub size : length (indexFrom n words counts numbers)
-      ≡ length (listsBytes top (listsFrom counts numbers)) + (length words - length counts) + 20 * length counts + 20
+      ≡ length (listsBytes recordMax (listsFrom counts numbers)) + (length words - length counts) + 20 * length counts + 20
 
 -- Reference 3.4: how many singles and pairs the numbers make, in no more cells than there are numbers
 pub record ListCountsOf (numbers : List ℕ) (k : ListCounts) : Type 0 where
@@ -91,7 +91,7 @@ pub record EnteredWithin (at : Spots) (word c : List ℕ) (room : ℕ) : Type 0 
   pub list : at .list + length (keptBytes c) ≤ at .word
   pub bytes : at .word + length word ≤ at .entry
   pub entry : at .entry + 20 ≤ room
-  pub small : at .entry ≤ 16777216
+  pub small : at .entry ≤ indexMax
 
 -- where those of the next word belong
 abbrev pub enteredTo : Spots → List ℕ → List ℕ → Spots
@@ -100,11 +100,11 @@ enteredTo at word c = record { list = at .list + length (keptBytes c); word = at
 -- words with their lists: all lists, all words' bytes and all entries, each behind the other
 abbrev pub allEntered : List ℕ → Spots → List (List ℕ) → List (List ℕ) → List ℕ
 allEntered out at ws xss =
-    sets (sets (sets out (at .list) (listsBytes top xss)) (at .word) (wordsBytes ws)) (at .entry) (directoryBytes top (at .word) (at .list) ws xss)
+    sets (sets (sets out (at .list) (listsBytes recordMax xss)) (at .word) (wordsBytes ws)) (at .entry) (directoryBytes recordMax (at .word) (at .list) ws xss)
 
 pub record AllWithin (at : Spots) (ws xss : List (List ℕ)) (room : ℕ) : Type 0 where
-  pub lists : at .list + length (listsBytes top xss) ≤ at .word
+  pub lists : at .list + length (listsBytes recordMax xss) ≤ at .word
   pub words : at .word + length (wordsBytes ws) ≤ at .entry
   pub entries : at .entry + 20 * length ws ≤ room
-  pub small : at .entry + 20 * length ws ≤ 16777216
+  pub small : at .entry + 20 * length ws ≤ indexMax
   pub as-many : length xss ≡ length ws

@@ -9,19 +9,17 @@ use crate::words::Words;
 use crate::words::check_words;
 use crate::write::write_index;
 use index::Checked;
-use list::TOP;
+use limits::INDEX_MAX;
+use limits::RECORD_MAX;
 use list::Written;
 use refusal::Found;
 use refusal::Refusal;
-
-// The most bytes that an index has.
-const LARGEST: usize = 16_777_216;
 
 // Reference 9.2: refusals 19 with 0, 17, 18 and 15.
 fn check_lent(n: u32, words: &[u8], counts: &[u32], numbers: &[u32]) -> Checked
     ensures { λ r. ⌜ r ≡ lentOf n (now (words .entry)) (now (counts .entry)) (now (numbers .entry)) ⌝ }
 {
-    if n > TOP {
+    if n > RECORD_MAX {
         return Checked::Refused(Refusal::BuildLimit(0));
     }
     match check_words(words) {
@@ -42,11 +40,11 @@ fn build_checked(n: u32, words: &[u8], counts: &[u32], numbers: &[u32], out: &mu
     ensures { λ r. ⌜ Builds n (now (words .entry)) (now (counts .entry)) (now (numbers .entry)) (now (out .entry)) (now (out .exit)) r ⌝ }
 {
     let lists = lists_size(counts, numbers);
-    if lists > LARGEST {
+    if lists > INDEX_MAX {
         return Written::Refused(Refusal::BuildLimit(1));
     }
     let size = lists + (words.len() - counts.len()) + 20 * counts.len() + 20;
-    if size > LARGEST {
+    if size > INDEX_MAX {
         return Written::Refused(Refusal::BuildLimit(1));
     }
     if out.len() < size {

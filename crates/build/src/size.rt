@@ -3,7 +3,7 @@ ghost use mathlib.Core.Path.{_≡_};
 ghost use Prim.Native.Nat.{_+_, _*_, _≤_};
 ghost use lib.Dec.{ltb};
 ghost use lib.ListN.{length};
-ghost use Rattle.list.specs.Interval.{top};
+ghost use Rattle.limits.specs.Limits.{recordMax};
 ghost use Rattle.list.specs.Ginix.{one};
 ghost use Rattle.convert.specs.Convert.{badNumberOf};
 ghost use Rattle.build.specs.Lent.{listsFrom};
@@ -71,7 +71,7 @@ pub fn list_size(kept: ListCounts) -> usize
 // How many bytes all lists take.
 pub fn lists_size(counts: &[u32], numbers: &[u32]) -> usize
     requires { ⌜ Lists (now counts) (now numbers) ⌝ }
-    ensures { λ r. ⌜ r ≡ length (listsBytes top (listsFrom (now (counts .entry)) (now (numbers .entry)))) ⌝ }
+    ensures { λ r. ⌜ r ≡ length (listsBytes recordMax (listsFrom (now (counts .entry)) (now (numbers .entry)))) ⌝ }
 {
     let mut size: usize = 0;
     let mut start = 0;

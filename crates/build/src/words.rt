@@ -5,6 +5,7 @@ ghost use lib.ListN.{length, drop};
 ghost use Rattle.build.specs.Lent.{lentWords};
 ghost use Rattle.build.specs.Build.{badWords};
 ghost use Rattle.build.specs.Passes.{wordEnd, wordsAnswer};
+use limits::WORDS_MAX;
 
 // How many words there are, or the first bad one.
 pub enum Words {
@@ -42,7 +43,7 @@ pub fn check_words(words: &[u8]) -> Words
         if end == words.len() {
             return Words::Bad(count);
         }
-        if count == 65535 {
+        if count == WORDS_MAX {
             return Words::Bad(count);
         }
         if !index::check::word_good(&words[prior..prior_end], &words[start..end]) {

@@ -2,7 +2,7 @@
 ghost use mathlib.Core.Path.{_≡_};
 ghost use Prim.Native.Nat.{_≤_};
 ghost use lib.ListN.{length};
-ghost use Rattle.list.specs.Interval.{top};
+ghost use Rattle.limits.specs.Limits.{indexMax, recordMax};
 ghost use Rattle.convert.specs.Front.{inFront};
 ghost use Rattle.build.specs.Lent.{lentWords, listsFrom};
 ghost use Rattle.build.specs.Layout.{listsBytes};
@@ -44,8 +44,8 @@ pub fn write_index(
     out: &mut [u8],
 )
     requires good { ⌜ GoodLent n (now words) (now counts) (now numbers) ⌝ }
-    requires counted { ⌜ lists ≡ length (listsBytes top (listsFrom (now counts) (now numbers))) ⌝ }
-    requires small { ⌜ length (indexFrom n (now words) (now counts) (now numbers)) ≤ 16777216 ⌝ }
+    requires counted { ⌜ lists ≡ length (listsBytes recordMax (listsFrom (now counts) (now numbers))) ⌝ }
+    requires small { ⌜ length (indexFrom n (now words) (now counts) (now numbers)) ≤ indexMax ⌝ }
     requires room { ⌜ length (indexFrom n (now words) (now counts) (now numbers)) ≤ length (now out) ⌝ }
     ensures { λ _. ⌜ now (out .exit) ≡ inFront (indexFrom n (now (words .entry)) (now (counts .entry)) (now (numbers .entry))) (now (out .entry)) ⌝ }
 {

@@ -5,7 +5,7 @@ ghost use mathlib.Core.Bool.{cond};
 ghost use Prim.Native.Nat.{_+_, _≤_, _<_};
 ghost use lib.Dec.{eqb};
 ghost use lib.ListN.{length};
-ghost use Rattle.list.specs.Interval.{top};
+ghost use Rattle.limits.specs.Limits.{recordMax};
 ghost use Rattle.convert.specs.Convert.{badNumberOf};
 ghost use Rattle.convert.specs.Runs.{RunAt};
 
@@ -46,7 +46,7 @@ pub fn next_run(numbers: &[u32], i: usize) -> Run
 
 // 0 where x goes on with the stretch that ends with u, else 1.
 pub fn gap(u: u32, x: u32) -> usize
-    requires { ⌜ u ≤ top ⌝ }
+    requires { ⌜ u ≤ recordMax ⌝ }
     ensures is { λ r. ⌜ r ≡ cond (eqb x (u + 1)) 0 1 ⌝ }
     ensures most { λ r. ⌜ r ≤ 1 ⌝ }
 {

@@ -2,7 +2,7 @@
 use crate::numbers::first_bad_number;
 use crate::runs::gap;
 use crate::runs::next_run;
-use list::TOP;
+use limits::RECORD_MAX;
 use list::Written;
 use refusal::Found;
 use refusal::Refusal;
@@ -54,7 +54,7 @@ fn write_intervals(numbers: &[u32], out: &mut [u32])
 pub fn to_intervals(numbers: &[u32], out: &mut [u32]) -> Written
     ensures { λ r. ⌜ ToIntervals (now (numbers .entry)) (now (out .entry)) (now (out .exit)) r ⌝ }
 {
-    let bad = first_bad_number(numbers, TOP);
+    let bad = first_bad_number(numbers, RECORD_MAX);
     if let Found::At(i) = bad {
         return Written::Refused(Refusal::Number(i));
     }

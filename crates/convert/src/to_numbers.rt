@@ -1,5 +1,5 @@
 // Intervals to numbers: a fault is looked for, then room is asked for, and only then is anything written.
-use list::TOP;
+use limits::RECORD_MAX;
 use list::Written;
 use refusal::Found;
 use refusal::Refusal;
@@ -29,7 +29,7 @@ fn first_bad_interval(cells: &[u32]) -> Found
         if u < l {
             return Found::At(i);
         }
-        if TOP < u {
+        if RECORD_MAX < u {
             return Found::At(i);
         }
         least = u + 2;

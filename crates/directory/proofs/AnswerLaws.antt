@@ -6,13 +6,13 @@ use mathlib.Core.List.{List}
 use lib.Dec.{eqb, ltb}
 use borrow.Author.Tests.{ltb-true, ltb-false, lt-ltb, le-ltb}
 use Rattle.laws.proofs.Tests.{or-neither}
+use Rattle.limits.specs.Limits.{recordMax}
 use Rattle.refusal.specs.declared.Refusal.{Refusal}
 use Rattle.refusal.specs.declared.Refusal.the-variants.{EntryNumber, ProbeRange, Missing}
 use Rattle.refusal.specs.declared.Found.the-variants.{At, Nowhere}
 use Rattle.refusal.specs.First.{first}
 use Rattle.word.specs.Word.{same}
 use Rattle.list.specs.declared.probe.Probe.{Probe}
-use Rattle.list.specs.Interval.{top}
 use Rattle.list.specs.Ginix.{belowCount, overlapCount}
 use Rattle.index.specs.declared.Checked.{Checked}
 use Rattle.index.specs.declared.Checked.the-variants.{Good, Refused}
@@ -94,12 +94,12 @@ module _ (index : List ℕ) (i a b : ℕ) where
   unfolding probeOf
   probe-answered e = rw e
 
-pub range-good : (a b : ℕ) → badRange a b ≡ false → (a ≤ b) × (b ≤ top)
+pub range-good : (a b : ℕ) → badRange a b ≡ false → (a ≤ b) × (b ≤ recordMax)
 unfolding badRange
 range-good a b e =
-    let p = or-neither (eqb a 0 || ltb b a) (ltb top b) e in
+    let p = or-neither (eqb a 0 || ltb b a) (ltb recordMax b) e in
     let q = or-neither (eqb a 0) (ltb b a) (p .0) in
-    (ltb-false b a (q .1), ltb-false top b (p .1))
+    (ltb-false b a (q .1), ltb-false recordMax b (p .1))
 
 pub range-refused : (a b below overlapping : ℕ) → badRange a b ≡ true → NoCount ProbeRange ≡ rangeAnswer (badRange a b) below overlapping
 range-refused a b below overlapping e = rw e

@@ -4,7 +4,8 @@ use native.Mathlib.Omega.{arith}
 use mathlib.Core.Path.{_≡_, sym, _∙_}
 use mathlib.Core.List.{List}
 use lib.ListN.{length}
-use Rattle.list.specs.Interval.{top, intervals}
+use Rattle.limits.specs.Limits.{recordMax}
+use Rattle.list.specs.Interval.{intervals}
 use Rattle.list.specs.Cell.{numbersIn}
 use Rattle.list.specs.Reading.{KeptIn, listIn}
 use Rattle.list.proofs.CellLaws.{numbersIn-length}
@@ -19,9 +20,9 @@ use Rattle.directory.specs.Regions.{EntryIn, singlesIn, lowerIn, upperIn
 
 module _ {index : List ℕ} {i : ℕ} (e : EntryIn index i) where
   -- each list of a sound index is kept within the largest record
-  pub list-kept : KeptIn top (singlesOf index i) (lowerOf index i) (upperOf index i)
+  pub list-kept : KeptIn recordMax (singlesOf index i) (lowerOf index i) (upperOf index i)
   list-kept =
-      kept-weaker (highest index) top (numbersIn (singlesOf index i)) (numbersIn (lowerOf index i)) (numbersIn (upperOf index i))
+      kept-weaker (highest index) recordMax (numbersIn (singlesOf index i)) (numbersIn (lowerOf index i)) (numbersIn (upperOf index i))
       (sound-trailer index (e .sound) .highest-bound) (sound-list index (e .sound) i (e .below))
 
   -- one interval for each single and for each pair
@@ -31,7 +32,7 @@ module _ {index : List ℕ} {i : ℕ} (e : EntryIn index i) where
       let S = numbersIn (singlesOf index i) in
       let L = numbersIn (lowerOf index i) in
       let U = numbersIn (upperOf index i) in
-      let w = walked-length S L U (kept-facts top S L U list-kept .long) in
+      let w = walked-length S L U (kept-facts recordMax S L U list-kept .long) in
       omega arith
 
   pub entry-intervals : intervals (listOf index i) ≡ length (singlesOf index i) / 4 + length (lowerOf index i) / 4
@@ -61,7 +62,7 @@ marks-regions {index} {i} r {c} e is s l u n =
     let k = 4 * singleCount index i in
     let m = 4 * pairCount index i in
     let room = sound-list-room index (e .sound) i (e .below) in
-    let kept = kept-facts top (numbersIn (singlesOf index i)) (numbersIn (lowerOf index i)) (numbersIn (upperOf index i)) (list-kept e) in
+    let kept = kept-facts recordMax (numbersIn (singlesOf index i)) (numbersIn (lowerOf index i)) (numbersIn (upperOf index i)) (list-kept e) in
     let S : singlesIn index r ≡ singlesOf index i = between index (r .s) (r .l) a k (omega arith) (omega arith) in
     let L : lowerIn index r ≡ lowerOf index i = between index (r .l) (r .u) (a + k) m (omega arith) (omega arith) in
     let U : upperIn index r ≡ upperOf index i = between index (r .u) (r .end) (a + k + m) m (omega arith) (omega arith) in

@@ -3,7 +3,7 @@ use mathlib.Core.Path.{_≡_}
 use Prim.Native.Nat.{ℕ, _-_, _≤_, _<_}
 use mathlib.Core.List.{List}
 use lib.ListN.{length}
-use Rattle.list.specs.Interval.{top}
+use Rattle.limits.specs.Limits.{recordMax}
 use Rattle.list.specs.Cell.{numbersIn}
 use Rattle.list.specs.Seek.{Ascends}
 use Rattle.list.specs.Reading.{KeptIn}
@@ -36,6 +36,6 @@ pub record RegionsOf (index : List ℕ) (i : ℕ) (r : Regions) : Type 0 where
   pub lower : lowerIn index r ≡ lowerOf index i
   pub upper : upperIn index r ≡ upperOf index i
   pub paired : length (lowerIn index r) ≡ length (upperIn index r)
-  pub kept : KeptIn top (singlesIn index r) (lowerIn index r) (upperIn index r)
+  pub kept : KeptIn recordMax (singlesIn index r) (lowerIn index r) (upperIn index r)
   pub singles-ascend : Ascends (numbersIn (singlesIn index r))
   pub upper-ascend : Ascends (numbersIn (upperIn index r))

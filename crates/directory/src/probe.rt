@@ -1,7 +1,7 @@
 // Probing the list of one entry.
 ghost use mathlib.Core.Path.{_≡_};
 ghost use Prim.Native.Nat.{_≤_};
-ghost use Rattle.list.specs.Interval.{top};
+ghost use Rattle.limits.specs.Limits.{recordMax};
 ghost use Rattle.list.specs.Ginix.{belowCount, overlapCount};
 ghost use Rattle.index.specs.Format.{listOf};
 ghost use Rattle.directory.specs.Entry.{badRange, rangeAnswer, probeOf};
@@ -10,6 +10,7 @@ use crate::Probed;
 use crate::parts::Regions;
 use crate::parts::regions_of;
 use index::Checked;
+use limits::RECORD_MAX;
 use list::probe::Probe;
 use list::probe::probe_list;
 use refusal::Refusal;
@@ -18,14 +19,14 @@ use refusal::Refusal;
 fn bad_range(a: u32, b: u32) -> bool
     ensures { λ r. ⌜ r ≡ badRange a b ⌝ }
 {
-    (a == 0) | (b < a) | (16777215 < b)
+    (a == 0) | (b < a) | (RECORD_MAX < b)
 }
 
 // Probes an entry's list by its regions, which are slices of the index.
 fn probe_parts(index: &[u8], i: usize, a: u32, b: u32) -> Probe
     requires entry { ⌜ EntryIn (now index) i ⌝ }
     requires ordered { ⌜ a ≤ b ⌝ }
-    requires within { ⌜ b ≤ top ⌝ }
+    requires within { ⌜ b ≤ recordMax ⌝ }
     ensures below { λ r. ⌜ r .below ≡ belowCount a (listOf (now (index .entry)) i) ⌝ }
     ensures overlapping { λ r. ⌜ r .overlapping ≡ overlapCount a b (listOf (now (index .entry)) i) ⌝ }
 {

@@ -8,7 +8,7 @@ use mathlib.Core.List.{List}
 use lib.ListN.{length, getD, set, replicate, length-set}
 use lib.Seq.{getD-set-same, getD-set-other}
 use Rattle.laws.proofs.Tests.{leb-cases}
-use Rattle.list.specs.Interval.{top}
+use Rattle.limits.specs.Limits.{recordMax}
 use Rattle.list.specs.Sense.{Steady}
 use Rattle.window.proofs.HoldLaws.{zeros-at}
 use Rattle.evaluate.specs.Senses.{inIt, untilOf, Sensed, Known, Renewed}
@@ -45,7 +45,7 @@ module _ (v : ℕ → ℕ → Bool) (senses : List ℕ) (x k : ℕ) (s : Sensed 
   renewed-set h e f = record {
     long = length-set senses k n;
     sensed = record {
-      near = λ j. set-cases (λ m. m / 2 ≤ top + 1) senses k n j h (λ _. omega (arith, t .near)) (s .near j);
+      near = λ j. set-cases (λ m. m / 2 ≤ recordMax + 1) senses k n j h (λ _. omega (arith, t .near)) (s .near j);
       same = λ j y g. set-cases (λ m. y < m / 2 → v j y ≡ inIt m) senses k n j h
           (λ i l. ap (λ (j : ℕ). v j y) i ∙ t .same y g (omega arith) ∙ sym f) (s .same j y g);
     };

@@ -5,7 +5,8 @@ use mathlib.Core.Path.{_≡_, refl, sym, ap, _∙_}
 use mathlib.Core.Bool.{Bool, true, false, not, _&&_, _||_, and-false}
 use mathlib.Core.List.{List}
 use lib.ListN.{length, getD, length-append}
-use Rattle.list.specs.Interval.{top, names}
+use Rattle.limits.specs.Limits.{recordMax}
+use Rattle.list.specs.Interval.{names}
 use Rattle.list.specs.Sense.{Steady}
 use Rattle.index.specs.Format.{wordCount, listOf}
 use Rattle.question.specs.declared.token.Op.{Op}
@@ -75,7 +76,7 @@ module _ (index entries : List ℕ) (k x : ℕ) where
   slot-in a u h s =
       steady-same (names (listOf index (getD entries k 0))) (slotHas index entries k) x a u (λ y. sym (slot-lists index entries k h y)) s
 
-  pub slot-out : wordCount index ≤ getD entries k 0 → x ≤ top → Steady (slotHas index entries k) x false (top + 1)
+  pub slot-out : wordCount index ≤ getD entries k 0 → x ≤ recordMax → Steady (slotHas index entries k) x false (recordMax + 1)
   slot-out h l = record { later = omega arith; near = omega arith; same = λ y g m. slot-lacks index entries k h y }
 
 -- ---- of a tree, by the kept senses of its slots

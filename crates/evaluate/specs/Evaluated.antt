@@ -1,8 +1,9 @@
 -- A question answered for a window, by its codes: what is lent, and what it comes to.
 use mathlib.Core.Path.{_≡_}
-use Prim.Native.Nat.{ℕ, _≤_}
+use Prim.Native.Nat.{_+_, ℕ, _≤_}
 use mathlib.Core.List.{List}
 use lib.ListN.{length, replicate}
+use Rattle.limits.specs.Limits.{recordMax}
 use Rattle.window.specs.Tuning.{windowMost}
 use Rattle.window.specs.Window.{Holds}
 use Rattle.question.specs.Token.{Tok}
@@ -17,7 +18,7 @@ pub record Ready (codes : List ℕ) (i : ℕ) (index entries : List ℕ) (base :
   pub inside : i ≤ length codes
   pub blank : ws ≡ replicate (length ws) 0
   pub size : length ws ≤ windowMost
-  pub near : base ≤ 16777216
+  pub near : base ≤ recordMax + 1
 
 -- what it comes to, where k words stand before: the window holds what fits the tree that the codes read as
 pub record Evaluated (reading : ℕ → List Tok → Out Tree) (codes : List ℕ) (i k : ℕ) (index entries : List ℕ) (base : ℕ) (hints ws hints′ ws′ : List ℕ) (r : Step) : Type 0 where

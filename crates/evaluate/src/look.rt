@@ -2,6 +2,7 @@
 ghost use mathlib.Core.Path.{_≡_};
 ghost use Prim.Native.Nat.{_≤_};
 ghost use lib.ListN.{length, getD};
+ghost use Rattle.limits.specs.Limits.{questionWordsMax};
 ghost use Rattle.question.specs.Grammar.{fromLeft, question, operand};
 ghost use Rattle.codes.specs.Code.{wordCode, noCode};
 ghost use Rattle.evaluate.specs.Look.{Looks};
@@ -12,6 +13,7 @@ use codes::code::OPEN_CODE;
 use codes::code::WORD_CODE;
 use codes::read::code_at;
 use codes::read::is_operator;
+use limits::QUESTION_WORDS_MAX;
 use list::sense::Sense;
 
 // The code and the slot behind what was looked at, and its sense.
@@ -37,7 +39,7 @@ fn unread(code: usize) -> Look
 // The operands of a level, from the left.
 pub fn look_level(codes: &[u8], i: usize, k: usize, d: usize, senses: &[u32]) -> Look
     requires within { ⌜ i ≤ length (now codes) ⌝ }
-    requires long { ⌜ length (now senses) ≡ 16 ⌝ }
+    requires long { ⌜ length (now senses) ≡ questionWordsMax ⌝ }
     ensures { λ r. ⌜ Looks (λ f. question fromLeft f d k) (now (codes .entry)) i k (now (senses .entry)) r ⌝ }
 {
     let first = look_operand(codes, i, k, d, senses);
@@ -74,13 +76,13 @@ pub fn look_level(codes: &[u8], i: usize, k: usize, d: usize, senses: &[u32]) ->
 // A word, or a level in brackets, of which d may still open. It is small, so that the words of a level are looked at without a call.
 fn look_operand(codes: &[u8], i: usize, k: usize, d: usize, senses: &[u32]) -> Look
     requires within { ⌜ i ≤ length (now codes) ⌝ }
-    requires long { ⌜ length (now senses) ≡ 16 ⌝ }
+    requires long { ⌜ length (now senses) ≡ questionWordsMax ⌝ }
     ensures { λ r. ⌜ Looks (λ f. operand fromLeft f d k) (now (codes .entry)) i k (now (senses .entry)) r ⌝ }
 {
     if code_at(codes, i) != WORD_CODE {
         return look_part(codes, i, k, d, senses);
     }
-    if 16 <= k {
+    if QUESTION_WORDS_MAX <= k {
         return unread(i);
     }
     let sense = sense_of(senses, k);
@@ -95,7 +97,7 @@ fn look_operand(codes: &[u8], i: usize, k: usize, d: usize, senses: &[u32]) -> L
 // A level in brackets.
 fn look_part(codes: &[u8], i: usize, k: usize, d: usize, senses: &[u32]) -> Look
     requires within { ⌜ i ≤ length (now codes) ⌝ }
-    requires long { ⌜ length (now senses) ≡ 16 ⌝ }
+    requires long { ⌜ length (now senses) ≡ questionWordsMax ⌝ }
     requires wordless { ⌜ (getD (now codes) i noCode ≡ wordCode → ⊥) ⌝ }
     ensures { λ r. ⌜ Looks (λ f. operand fromLeft f d k) (now (codes .entry)) i k (now (senses .entry)) r ⌝ }
 {

@@ -2,7 +2,7 @@
 ghost use mathlib.Core.Path.{_≡_};
 ghost use Prim.Native.Nat.{_+_, _/_, _≤_, _<_};
 ghost use lib.ListN.{length};
-ghost use Rattle.list.specs.Interval.{top};
+ghost use Rattle.limits.specs.Limits.{questionWordsMax, recordMax};
 ghost use Rattle.list.specs.Sense.{Steady};
 ghost use Rattle.slots.specs.Slots.{slotHas, ReadBy};
 ghost use Rattle.evaluate.specs.Senses.{untilOf, insideOf, inIt, Sensed, Known, Renewed};
@@ -19,8 +19,8 @@ use list::sense::sense_at;
 // What the word of slot k says of record x; its hint keeps where the list is read on.
 fn look_slot(index: &[u8], entries: &[usize], k: usize, x: u32, hints: &mut [usize]) -> Sense
     requires lends { ⌜ ReadBy (now index) (now entries) (now hints) ⌝ }
-    requires within { ⌜ k < 16 ⌝ }
-    requires near { ⌜ x ≤ 16777215 ⌝ }
+    requires within { ⌜ k < questionWordsMax ⌝ }
+    requires near { ⌜ x ≤ recordMax ⌝ }
     ensures keeps { λ r. ⌜ length (now (hints .exit)) ≡ length (now (hints .entry)) ⌝ }
     ensures steady { λ r. ⌜ Steady (slotHas (now (index .entry)) (now (entries .entry)) k) x (r .inside) (r .until) ⌝ }
 {
@@ -41,7 +41,7 @@ fn look_slot(index: &[u8], entries: &[usize], k: usize, x: u32, hints: &mut [usi
 
 // A sense as one number.
 fn pack(sense: Sense) -> u32
-    requires { ⌜ sense .until ≤ top + 1 ⌝ }
+    requires { ⌜ sense .until ≤ recordMax + 1 ⌝ }
     ensures until { λ r. ⌜ r / 2 ≡ sense .until ⌝ }
     ensures inside { λ r. ⌜ inIt r ≡ sense .inside ⌝ }
 {
@@ -75,9 +75,9 @@ fn renew_sense(
     senses: &mut [u32],
 )
     requires lends { ⌜ ReadBy (now index) (now entries) (now hints) ⌝ }
-    requires long { ⌜ length (now senses) ≡ 16 ⌝ }
-    requires within { ⌜ k < 16 ⌝ }
-    requires near { ⌜ x ≤ 16777215 ⌝ }
+    requires long { ⌜ length (now senses) ≡ questionWordsMax ⌝ }
+    requires within { ⌜ k < questionWordsMax ⌝ }
+    requires near { ⌜ x ≤ recordMax ⌝ }
     requires sensed { ⌜ Sensed (slotHas (now index) (now entries)) (now senses) x ⌝ }
     ensures keeps { λ _. ⌜ length (now (hints .exit)) ≡ length (now (hints .entry)) ⌝ }
     ensures renews { λ _. ⌜ Renewed (slotHas (now (index .entry)) (now (entries .entry))) x k (now (senses .entry)) (now (senses .exit)) ⌝ }
@@ -98,9 +98,9 @@ pub fn renew_senses(
     senses: &mut [u32],
 )
     requires lends { ⌜ ReadBy (now index) (now entries) (now hints) ⌝ }
-    requires long { ⌜ length (now senses) ≡ 16 ⌝ }
-    requires within { ⌜ slots ≤ 16 ⌝ }
-    requires near { ⌜ x ≤ 16777215 ⌝ }
+    requires long { ⌜ length (now senses) ≡ questionWordsMax ⌝ }
+    requires within { ⌜ slots ≤ questionWordsMax ⌝ }
+    requires near { ⌜ x ≤ recordMax ⌝ }
     requires sensed { ⌜ Sensed (slotHas (now index) (now entries)) (now senses) x ⌝ }
     ensures keeps { λ _. ⌜ length (now (hints .exit)) ≡ length (now (hints .entry)) ⌝ }
     ensures long { λ _. ⌜ length (now (senses .exit)) ≡ length (now (senses .entry)) ⌝ }

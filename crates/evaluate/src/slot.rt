@@ -1,7 +1,8 @@
 // The list of a slot's word filled into a window.
 ghost use mathlib.Core.Path.{_≡_};
-ghost use Prim.Native.Nat.{_≤_, _<_};
+ghost use Prim.Native.Nat.{_+_, _≤_, _<_};
 ghost use lib.ListN.{length};
+ghost use Rattle.limits.specs.Limits.{questionWordsMax, recordMax};
 ghost use Rattle.slots.specs.Slots.{slotHas, ReadBy};
 ghost use Rattle.window.specs.Tuning.{windowMost};
 ghost use Rattle.fill.specs.Added.{Added};
@@ -21,9 +22,9 @@ pub fn fill_slot(
     ws: &mut [u64],
 )
     requires lends { ⌜ ReadBy (now index) (now entries) (now hints) ⌝ }
-    requires within { ⌜ k < 16 ⌝ }
+    requires within { ⌜ k < questionWordsMax ⌝ }
     requires size { ⌜ length (now ws) ≤ windowMost ⌝ }
-    requires near { ⌜ base ≤ 16777216 ⌝ }
+    requires near { ⌜ base ≤ recordMax + 1 ⌝ }
     ensures keeps { λ _. ⌜ length (now (hints .exit)) ≡ length (now (hints .entry)) ⌝ }
     ensures adds { λ _. ⌜ Added (slotHas (now (index .entry)) (now (entries .entry)) k) base (now (ws .entry)) (now (ws .exit)) ⌝ }
 {

@@ -6,6 +6,7 @@ use mathlib.Core.Bool.{Bool, true, false, cond}
 use mathlib.Core.List.{List}
 use lib.ListN.{length}
 use borrow.Author.Tests.{lt-ltb, le-ltb, eq-eqb, ne-eqb}
+use Rattle.limits.specs.Limits.{indexMax, indexMin}
 use Rattle.refusal.specs.declared.Found.{Found}
 use Rattle.refusal.specs.declared.Found.the-variants.{At, Nowhere}
 use Rattle.refusal.specs.declared.Refusal.{Refusal}
@@ -21,21 +22,21 @@ use Rattle.index.specs.Check.{badPlace, badEntryOf, entriesAnswer, badLi
 -- ---- refusal by refusal
 
 module _ (index : List ℕ) where
-  pub length-good : 20 ≤ length index → length index ≤ 16777216 → badLength index ≡ false
+  pub length-good : indexMin ≤ length index → length index ≤ indexMax → badLength index ≡ false
   unfolding badLength
-  length-good h k = rw (le-ltb (length index) 20 h, le-ltb 16777216 (length index) k)
+  length-good h k = rw (le-ltb (length index) indexMin h, le-ltb indexMax (length index) k)
 
   pub edition-good : edition index ≡ 1 → badEdition index ≡ false
   unfolding badEdition
   edition-good e = rw (eq-eqb (edition index) 1 e)
 
-  pub check-short : length index < 20 → checkOf index ≡ Refused (IndexLength (length index))
+  pub check-short : length index < indexMin → checkOf index ≡ Refused (IndexLength (length index))
   unfolding checkOf badLength
-  check-short h = rw (lt-ltb (length index) 20 h)
+  check-short h = rw (lt-ltb (length index) indexMin h)
 
-  pub check-long : 20 ≤ length index → 16777216 < length index → checkOf index ≡ Refused (IndexLength (length index))
+  pub check-long : indexMin ≤ length index → indexMax < length index → checkOf index ≡ Refused (IndexLength (length index))
   unfolding checkOf badLength
-  check-long h k = rw (le-ltb (length index) 20 h, lt-ltb 16777216 (length index) k)
+  check-long h k = rw (le-ltb (length index) indexMin h, lt-ltb indexMax (length index) k)
 
   pub check-edition : badLength index ≡ false → (edition index ≡ 1 → ⊥) → checkOf index ≡ Refused (Edition (edition index))
   unfolding checkOf badEdition

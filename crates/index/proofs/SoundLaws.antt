@@ -9,9 +9,9 @@ use lib.Dec.{eqb, ltb}
 use lib.ListN.{length, take, drop, length-drop, length-take}
 use borrow.Author.Tests.{ltb-false, eqb-true, eqb-false, not-false}
 use Rattle.laws.proofs.Tests.{true-false, or-neither, leb-cases}
+use Rattle.limits.specs.Limits.{indexMax, indexMin, recordMax, wordsMax}
 use Rattle.word.specs.Word.{before, isWord}
 use Rattle.word.proofs.WordLaws.{before-irreflexive, before-transitive}
-use Rattle.list.specs.Interval.{top}
 use Rattle.list.specs.Cell.{numbersIn}
 use Rattle.list.specs.Kept.{isKept}
 use Rattle.index.specs.Format.{wordsStart, directoryStart, wordCount, highest, edition, entryPlace, wordStart, wordLength, listStart, singleCount, pairCount, listLength, wordsEnd, listsEnd, part, wordOf, singlesOf, lowerOf, upperOf}
@@ -20,35 +20,35 @@ use Rattle.index.specs.Sound.{badLength, badEdition, badTrailer, badDire
 
 -- ---- the trailer
 
-pub sound-length : (index : List ℕ) → Sound index → (20 ≤ length index) × (length index ≤ 16777216)
+pub sound-length : (index : List ℕ) → Sound index → (indexMin ≤ length index) × (length index ≤ indexMax)
 unfolding badLength
 sound-length index s =
-    let w = or-neither (ltb (length index) 20) (ltb 16777216 (length index)) (s .size) in
-    (ltb-false (length index) 20 (w .0), ltb-false 16777216 (length index) (w .1))
+    let w = or-neither (ltb (length index) indexMin) (ltb indexMax (length index)) (s .size) in
+    (ltb-false (length index) indexMin (w .0), ltb-false indexMax (length index) (w .1))
 
 pub sound-edition : (index : List ℕ) → Sound index → edition index ≡ 1
 unfolding badEdition
 sound-edition index s = eqb-true (edition index) 1 (not-false (eqb (edition index) 1) (s .issue))
 
 pub record TrailerFacts (index : List ℕ) : Type 0 where
-  pub highest-bound : highest index ≤ 16777215
-  pub count-bound : wordCount index ≤ 65535
+  pub highest-bound : highest index ≤ recordMax
+  pub count-bound : wordCount index ≤ wordsMax
   pub words-below : wordsStart index ≤ directoryStart index
   pub total : directoryStart index + 20 * wordCount index + 20 ≡ length index
 
 pub trailer-facts : (index : List ℕ) → badTrailer index ≡ false → TrailerFacts index
 unfolding badTrailer
 trailer-facts index h =
-    let a = ltb top (highest index) in
-    let b = ltb 65535 (wordCount index) in
+    let a = ltb recordMax (highest index) in
+    let b = ltb wordsMax (wordCount index) in
     let c = ltb (directoryStart index) (wordsStart index) in
     let d = eqb (directoryStart index + 20 * wordCount index + 20) (length index) in
     let u = or-neither (a || b || c) (not d) h in
     let v = or-neither (a || b) c (u .0) in
     let w = or-neither a b (v .0) in
     record {
-      highest-bound = ltb-false top (highest index) (w .0);
-      count-bound = ltb-false 65535 (wordCount index) (w .1);
+      highest-bound = ltb-false recordMax (highest index) (w .0);
+      count-bound = ltb-false wordsMax (wordCount index) (w .1);
       words-below = ltb-false (directoryStart index) (wordsStart index) (v .1);
       total = eqb-true (directoryStart index + 20 * wordCount index + 20) (length index) (not-false d (u .1));
     }
@@ -68,7 +68,7 @@ listsEnd-next index i = rw (add-one i)
 
 -- entry i: where it, its word and its list stand
 pub record EntryFacts (index : List ℕ) (i : ℕ) : Type 0 where
-  pub entry-within : entryPlace index i + 20 ≤ length index - 20
+  pub entry-within : entryPlace index i + indexMin ≤ length index - 20
   pub word-start : wordStart index i ≡ wordsEnd index i
   pub word-within : wordStart index i + wordLength index i ≤ directoryStart index
   pub list-start : listStart index i ≡ listsEnd index i

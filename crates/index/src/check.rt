@@ -3,6 +3,7 @@ ghost use mathlib.Core.Path.{_≡_};
 ghost use mathlib.Core.Bool.{not, false, _&&_};
 ghost use Prim.Native.Nat.{ℕ, _+_, _*_, _≤_, _<_};
 ghost use lib.ListN.{length};
+ghost use Rattle.limits.specs.Limits.{indexMax, recordMax};
 ghost use Rattle.word.specs.Word.{isWord, before};
 ghost use Rattle.index.specs.Format.{wordCount};
 ghost use Rattle.index.specs.Read.{TrailerOf, Framed, Small};
@@ -15,6 +16,10 @@ use crate::entry::entry_place;
 use crate::entry::read_entry;
 use crate::trailer::Trailer;
 use crate::trailer::read_trailer;
+use limits::INDEX_MAX;
+use limits::INDEX_MIN;
+use limits::RECORD_MAX;
+use limits::WORDS_MAX;
 use refusal::Found;
 use refusal::Refusal;
 
@@ -23,10 +28,10 @@ fn trailer_good(index: &[u8], trailer: Trailer) -> bool
     requires { ⌜ TrailerOf (now index) trailer ⌝ }
     ensures { λ r. ⌜ r ≡ not (badTrailer (now (index .entry))) ⌝ }
 {
-    if trailer.highest > 16777215 {
+    if trailer.highest > RECORD_MAX {
         return false;
     }
-    if trailer.count > 65535 {
+    if trailer.count > WORDS_MAX {
         return false;
     }
     if trailer.directory < trailer.words {
@@ -106,8 +111,8 @@ fn first_bad_entry(index: &[u8], trailer: Trailer) -> Found
 // Reference 3.4: whether an entry's list keeps the list rule; its regions are slices of the index.
 fn list_good(index: &[u8], entry: Entry, limit: u32) -> bool
     requires room { ⌜ entry .«list_start» + 4 * entry .singles + 8 * entry .pairs ≤ length (now index) ⌝ }
-    requires long { ⌜ length (now index) ≤ 16777216 ⌝ }
-    requires limit { ⌜ limit ≤ 16777215 ⌝ }
+    requires long { ⌜ length (now index) ≤ indexMax ⌝ }
+    requires limit { ⌜ limit ≤ recordMax ⌝ }
     ensures { λ r. ⌜ ListTold (now (index .entry)) entry limit r ⌝ }
 {
     let start = entry.list_start;
@@ -158,10 +163,10 @@ pub fn check_index(index: &[u8]) -> Checked
     ensures { λ r. ⌜ r ≡ checkOf (now (index .entry)) ⌝ }
 {
     let length = index.len();
-    if length < 20 {
+    if length < INDEX_MIN {
         return Checked::Refused(Refusal::IndexLength(length));
     }
-    if length > 16777216 {
+    if length > INDEX_MAX {
         return Checked::Refused(Refusal::IndexLength(length));
     }
     let trailer = read_trailer(index);

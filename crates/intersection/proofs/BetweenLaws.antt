@@ -8,8 +8,9 @@ use mathlib.Core.List.{List, [], _++_, append-assoc}
 use lib.ListN.{length, length-append}
 use lib.Seq.{sets}
 use Rattle.laws.proofs.Lists.{sets-append}
+use Rattle.limits.specs.Limits.{recordMax}
 use Rattle.list.specs.declared.answer.Tally.{Tally}
-use Rattle.list.specs.Interval.{top, intervals, records}
+use Rattle.list.specs.Interval.{intervals, records}
 use Rattle.list.specs.Stretches.{turned, stretches, cellsOf, consIf, recordsFrom}
 use Rattle.list.proofs.StretchLaws.{turned-append}
 use Rattle.list.proofs.RecordLaws.{stretches-records}
@@ -80,15 +81,15 @@ between-records p a b h = stretches-records p a (b + 1 - a) h
 
 -- nothing from x to below a is in, nor the number behind b
 module _ {p : ℕ → Bool} {writing : Bool} {out₀ out : List ℕ} {t : Tally} {x : ℕ} (d : Tallied p writing out₀ out t x)
-    (a b : ℕ) (xa : x ≤ a) (ab : a ≤ b) (bn : b ≤ top) (low : (z : ℕ) → x ≤ z → z < a → p z ≡ false) (stop : b < top → p (b + 1) ≡ false) where
-  at-a : Swept p top writing out₀ out false a (2 * t .intervals) (t .records)
+    (a b : ℕ) (xa : x ≤ a) (ab : a ≤ b) (bn : b ≤ recordMax) (low : (z : ℕ) → x ≤ z → z < a → p z ≡ false) (stop : b < recordMax → p (b + 1) ≡ false) where
+  at-a : Swept p recordMax writing out₀ out false a (2 * t .intervals) (t .records)
   at-a = tallied-skip d xa (omega arith) low .swept
 
-  done-left : cellsOf p top ≡ (at-a .done ++ between p a b) ++ stretches p false (b + 1) (top + 1 - (b + 1))
+  done-left : cellsOf p recordMax ≡ (at-a .done ++ between p a b) ++ stretches p false (b + 1) (recordMax + 1 - (b + 1))
   done-left =
       at-a .left
-      ∙ ap (λ (r : List ℕ). at-a .done ++ r) (between-left p top a b (omega arith) bn stop)
-      ∙ sym (append-assoc (at-a .done) (between p a b) (stretches p false (b + 1) (top + 1 - (b + 1))))
+      ∙ ap (λ (r : List ℕ). at-a .done ++ r) (between-left p recordMax a b (omega arith) bn stop)
+      ∙ sym (append-assoc (at-a .done) (between p a b) (stretches p false (b + 1) (recordMax + 1 - (b + 1))))
 
   done-count : length (at-a .done ++ between p a b) ≡ 2 * t .intervals + length (between p a b)
   done-count = length-append (at-a .done) (between p a b) ∙ ap (λ (i : ℕ). i + length (between p a b)) (at-a .count)
@@ -107,7 +108,7 @@ module _ {p : ℕ → Bool} {writing : Bool} {out₀ out : List ℕ} {t : Tally}
       let h = at-a .near in
       omega (arith, at-a .members, members-on p a (b + 1) (h .0) (omega arith), between-records p a b (h .0))
 
-  swept-between : Swept p top writing out₀ (cond writing (sets out (2 * t .intervals) (between p a b)) out) false (b + 1)
+  swept-between : Swept p recordMax writing out₀ (cond writing (sets out (2 * t .intervals) (between p a b)) out) false (b + 1)
       (2 * t .intervals + length (between p a b)) (t .records + records (between p a b))
   swept-between = record {
     done = at-a .done ++ between p a b;
@@ -119,12 +120,12 @@ module _ {p : ℕ → Bool} {writing : Bool} {out₀ out : List ℕ} {t : Tally}
   }
 
   -- the cells have room where the whole list has
-  between-room : writing ≡ true → length (cellsOf p top) ≤ length out₀ → 2 * t .intervals + length (between p a b) ≤ length out
+  between-room : writing ≡ true → length (cellsOf p recordMax) ≤ length out₀ → 2 * t .intervals + length (between p a b) ≤ length out
   between-room w h =
       let l = tallied-length d in
-      omega (arith, ap length done-left, length-append (at-a .done ++ between p a b) (stretches p false (b + 1) (top + 1 - (b + 1))), done-count)
+      omega (arith, ap length done-left, length-append (at-a .done ++ between p a b) (stretches p false (b + 1) (recordMax + 1 - (b + 1))), done-count)
 
-  pub between-fits : HasRoom (cellsOf p top) writing out₀ → CellsFit writing out t (between p a b)
+  pub between-fits : HasRoom (cellsOf p recordMax) writing out₀ → CellsFit writing out t (between p a b)
   between-fits r = record {
     room = λ w. between-room w (r w);
     intervals-small = let e = between-even p a b in let f = swept-cells-few swept-between in omega arith;

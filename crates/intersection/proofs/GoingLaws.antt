@@ -5,9 +5,10 @@ use native.Mathlib.Omega.{arith}
 use mathlib.Core.Bool.{Bool, true, false}
 use mathlib.Core.List.{List}
 use lib.ListN.{length, getD}
+use Rattle.limits.specs.Limits.{recordMax}
 use Rattle.list.specs.declared.Place.{Place}
 use Rattle.list.specs.declared.answer.Tally.{Tally}
-use Rattle.list.specs.Interval.{top, names}
+use Rattle.list.specs.Interval.{names}
 use Rattle.list.specs.Ginix.{intersectionOf}
 use Rattle.list.specs.Kept.{start, nextPlace, lowerAt, upperAt}
 use Rattle.list.specs.Reading.{Goes}
@@ -34,7 +35,7 @@ pub record Going (index entries : List ℕ) (e : ℕ) (writing : Bool) (out₀ o
   pub swept : Tallied (inAll index entries) writing out₀ out t x
 
 module _ {index entries : List ℕ} (asked : SoundRequest index entries) {j : ℕ} (h : j < length entries) where
-  list-top : highest index ≤ top
+  list-top : highest index ≤ recordMax
   list-top = sound-trailer index (asked .sound) .highest-bound
 
   -- what the list does not name is not in every list
@@ -86,7 +87,7 @@ module _ {index entries : List ℕ} (asked : SoundRequest index entries) {j : �
       bounds : (g .k ≤ l) × (l ≤ u) × (u ≤ highest index)
       bounds = read-bounds (g .read) o
 
-      up : u ≤ top
+      up : u ≤ recordMax
       up = let b = bounds in let t = list-top in omega arith
 
       pub going-within : Within index entries j l u
@@ -103,7 +104,7 @@ module _ {index entries : List ℕ} (asked : SoundRequest index entries) {j : �
       unfolding listOf
       low z f d = out-all z (read-before (g .read) o z (let n = g .near in omega arith) d)
 
-      stop : u < top → inAll index entries (u + 1) ≡ false
+      stop : u < recordMax → inAll index entries (u + 1) ≡ false
       unfolding listOf
       stop f = out-all (u + 1) (read-behind (g .read) o)
 

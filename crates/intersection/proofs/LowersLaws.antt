@@ -7,8 +7,8 @@ use native.Mathlib.Decide.{ℕ-discrete}
 use mathlib.Core.List.{List}
 use lib.ListN.{length, getD, take}
 use Rattle.laws.proofs.Tests.{leb-cases}
+use Rattle.limits.specs.Limits.{recordMax}
 use Rattle.list.specs.declared.Place.{Place}
-use Rattle.list.specs.Interval.{top}
 use Rattle.heap.specs.Heap.{countOf, Pushed}
 use Rattle.heap.proofs.HeapLaws.{count-none, heap-none, least-front, front-counted, pushed-either, pushed-kept, pushed-new}
 use Rattle.intersection.specs.Twin.{nextLower, lackOf, Lowers}
@@ -69,7 +69,7 @@ module _ {index entries : List ℕ} {at : ℕ → Place} where
 
     -- ---- the front
 
-    module _ (some : 0 < lists) (fits : size ≤ length lowers) (small : (i : ℕ) → i < lists → nextLower index entries i (at i) ≤ top) where
+    module _ (some : 0 < lists) (fits : size ≤ length lowers) (small : (i : ℕ) → i < lists → nextLower index entries i (at i) ≤ recordMax) where
       lowers-some : 0 < size
       lowers-some = leb-cases 1 size (λ g. g)
           (λ g. let z : size ≡ 0 = omega arith in
@@ -78,10 +78,10 @@ module _ {index entries : List ℕ} {at : ℕ → Place} where
       front-above : (i : ℕ) → i < lists → getD lowers 0 0 ≤ lackOf (nextLower index entries i (at i))
       front-above i h = least-front (lackOf (nextLower index entries i (at i))) size lowers lowers-some (w .heap) (w .all i h)
 
-      pub front-small : getD lowers 0 0 ≤ top + 1
+      pub front-small : getD lowers 0 0 ≤ recordMax + 1
       front-small = let a = front-above 0 some in omega arith
 
-      pub lowers-largest : Largest index entries at lists (top + 1 - getD lowers 0 0)
+      pub lowers-largest : Largest index entries at lists (recordMax + 1 - getD lowers 0 0)
       lowers-largest = record {
         most = λ i h. let a = front-above i h in let s = small i h in omega arith;
         reached =

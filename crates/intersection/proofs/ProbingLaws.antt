@@ -9,8 +9,9 @@ use lib.ListN.{length, getD, drop, set}
 use lib.Seq.{sets, length-sets}
 use Rattle.laws.proofs.Tests.{true-false, and-both, by-test, leb-cases}
 use Rattle.laws.proofs.Lists.{sets-two}
+use Rattle.limits.specs.Limits.{recordMax}
 use Rattle.list.specs.declared.answer.Tally.{Tally}
-use Rattle.list.specs.Interval.{top, names, intervals, records}
+use Rattle.list.specs.Interval.{names, intervals, records}
 use Rattle.list.specs.Stretches.{turned, stretches, consIf}
 use Rattle.list.specs.Ginix.{inEvery}
 use Rattle.list.specs.Sense.{Steady}
@@ -88,7 +89,7 @@ module _ {index entries : List ℕ} {x b until k : ℕ} (r : Looked index entrie
         left = λ y f g. r .left y f (omega arith) ∙ every-next index entries k y h (s .same y f (omega arith) ∙ o);
       }
 
-  pub looked-end : length entries ≤ k → b ≤ top → Steady (inAll index entries) x true until
+  pub looked-end : length entries ≤ k → b ≤ recordMax → Steady (inAll index entries) x true until
   unfolding inEvery
   looked-end h m = let c = r .near in record { later = r .later; near = omega arith; same = λ y f g. r .left y f g ∙ rw (lists-end index entries k h) }
 
@@ -108,7 +109,7 @@ cells-put-long false out out′ t c r q = ap length (q .cells)
 
 module _ {writing : Bool} {out₀ : List ℕ} {t₀ : Tally} {c₀ out : List ℕ} {t : Tally} where
   -- the first interval of what is left fits, where all does
-  left-fits : {l u : ℕ} {c : List ℕ} → l ≤ u → u ≤ top → Left writing out₀ t₀ c₀ out t (l ∷ u ∷ c) → CellsFit writing out₀ t₀ c₀ → Fitting writing out t (record { lower = l; upper = u })
+  left-fits : {l u : ℕ} {c : List ℕ} → l ≤ u → u ≤ recordMax → Left writing out₀ t₀ c₀ out t (l ∷ u ∷ c) → CellsFit writing out₀ t₀ c₀ → Fitting writing out t (record { lower = l; upper = u })
   left-fits {l} {u} {c} o m s f = record {
     room = λ w. let g = f .room w in omega (arith, s .intervals-left, long w);
     few = let g = f .intervals-small in omega (arith, s .intervals-left);
@@ -200,17 +201,17 @@ cut-start h = record {
 
 module _ {p : ℕ → Bool} {a b : ℕ} {writing : Bool} {out₀ : List ℕ} {t₀ : Tally} {out : List ℕ} {t : Tally} {o : Bool} {l x : ℕ}
     (c : Cut p a b writing out₀ t₀ out t o l x) where
-  part-fits : (v : Bool) (r : List ℕ) → b ≤ top → CellsFit writing out₀ t₀ (between p a b) → pending p b o l x ≡ closed (closes o v) l x r → closes o v ≡ true →
+  part-fits : (v : Bool) (r : List ℕ) → b ≤ recordMax → CellsFit writing out₀ t₀ (between p a b) → pending p b o l x ≡ closed (closes o v) l x r → closes o v ≡ true →
       Fitting writing out t (upTo l x)
   part-fits v r m f e k =
       let n = c .near in
       let g = c .begun (and-both o (not v) k .0) in
       left-fits (omega arith) (omega arith) (rw (e, k) at (c .left)) f
 
-  pub cut-fits : {v : Bool} {u : ℕ} → b ≤ top → CellsFit writing out₀ t₀ (between p a b) → Steady p x v u → u ≤ b + 1 → closes o v ≡ true → Fitting writing out t (upTo l x)
+  pub cut-fits : {v : Bool} {u : ℕ} → b ≤ recordMax → CellsFit writing out₀ t₀ (between p a b) → Steady p x v u → u ≤ b + 1 → closes o v ≡ true → Fitting writing out t (upTo l x)
   cut-fits {v} {u} m f s h = part-fits v (pending p b v (lowerOn o l x) u) m f (pending-next p b o v l x u s h)
 
-  pub cut-end-fits : b ≤ top → CellsFit writing out₀ t₀ (between p a b) → b < x → closes o false ≡ true → Fitting writing out t (upTo l x)
+  pub cut-end-fits : b ≤ recordMax → CellsFit writing out₀ t₀ (between p a b) → b < x → closes o false ≡ true → Fitting writing out t (upTo l x)
   cut-end-fits m f h = part-fits false [] m f (pending-end p b o l x h)
 
   begun-next : (o v : Bool) (u : ℕ) → (o ≡ true → l < x) → x < u → v ≡ true → lowerOn o l x < u

@@ -9,9 +9,10 @@ use lib.ListN.{length, getD, replicate, getD-replicate}
 use lib.Dec.{leb}
 use borrow.Author.Tests.{le-leb, lt-leb}
 use Rattle.laws.proofs.Tests.{leb-cases}
+use Rattle.limits.specs.Limits.{recordMax}
 use Rattle.list.specs.declared.Place.{Place}
 use Rattle.list.specs.declared.answer.Tally.{Tally}
-use Rattle.list.specs.Interval.{top, names}
+use Rattle.list.specs.Interval.{names}
 use Rattle.list.specs.Ginix.{inEvery, intersectionOf}
 use Rattle.list.specs.Kept.{start}
 use Rattle.index.specs.Format.{listOf}
@@ -111,7 +112,7 @@ module _ {index entries : List ℕ} {writing : Bool} {out₀ out : List ℕ} {pl
   pub turn-standing : Standing index entries (λ i. getD places i start)
   turn-standing = standing (w .read) (w .goes)
 
-  turn-high : leastOf uppers ≤ top
+  turn-high : leastOf uppers ≤ recordMax
   turn-high = let b = next-bounds (w .read .list (whose uppers) turn-list) turn-goes in let e = turn-upper in omega arith
 
   stop : inAll index entries (leastOf uppers + 1) ≡ false
@@ -122,10 +123,10 @@ module _ {index entries : List ℕ} {writing : Bool} {out₀ out : List ℕ} {pl
   -- ---- the largest lower bound
 
   module _ {size : ℕ} {lowers : List ℕ} (v : Lowers index entries (λ i. getD places i start) (length entries) size lowers) (long : length lowers ≡ 32) (room : size < 32) where
-    pub turn-front : getD lowers 0 0 ≤ top + 1
+    pub turn-front : getD lowers 0 0 ≤ recordMax + 1
     turn-front = front-small v (asked .some) (omega arith) (turn-standing .small)
 
-    pub turn-largest : Largest index entries (λ i. getD places i start) (length entries) (top + 1 - getD lowers 0 0)
+    pub turn-largest : Largest index entries (λ i. getD places i start) (length entries) (recordMax + 1 - getD lowers 0 0)
     turn-largest = lowers-largest v (asked .some) (omega arith) (turn-standing .small)
 
   module _ {largest : ℕ} (g : Largest index entries (λ i. getD places i start) (length entries) largest) where
@@ -178,7 +179,7 @@ module _ {index entries : List ℕ} {writing : Bool} {out₀ out : List ℕ} {pl
 
       pub turn-next-bounds : let at = getD places′ (whose uppers) start in
           (1 ≤ nextLower index entries (whose uppers) at) × (nextLower index entries (whose uppers) at ≤ nextUpper index entries (whose uppers) at)
-          × (nextUpper index entries (whose uppers) at ≤ top)
+          × (nextUpper index entries (whose uppers) at ≤ recordMax)
       turn-next-bounds = next-bounds (read-next .list (whose uppers) turn-list) turn-next-goes
 
       pub turn-lowers : {size : ℕ} {lowers lowers′ : List ℕ} → Lowers index entries (λ i. getD places i start) (length entries) size lowers →
@@ -229,7 +230,7 @@ module _ {index entries : List ℕ} {writing : Bool} {out₀ out : List ℕ} {pl
           rw (q .0, q .1) (tallied-skip (w .swept) (omega arith) (omega arith) (λ z f k. low g z f (omega arith))))
 
       -- list j is used up: nothing more is in every list
-      pub turn-end : usedUp index (getD entries (whose uppers) 0) (getD places′ (whose uppers) start) ≡ true → Tallied (inAll index entries) writing out₀ out′ t′ (top + 1)
+      pub turn-end : usedUp index (getD entries (whose uppers) 0) (getD places′ (whose uppers) start) ≡ true → Tallied (inAll index entries) writing out₀ out′ t′ (recordMax + 1)
       turn-end e =
           let n = turn-high in
           tallied-skip turn-swept (omega arith) (omega arith)
@@ -253,7 +254,7 @@ module _ {index entries : List ℕ} {writing : Bool} {out₀ out : List ℕ} {pl
 
 -- ---- the end
 
-pub turned-out : (index entries : List ℕ) {writing : Bool} {out₀ out : List ℕ} {t : Tally} → Tallied (inAll index entries) writing out₀ out t (top + 1) →
+pub turned-out : (index entries : List ℕ) {writing : Bool} {out₀ out : List ℕ} {t : Tally} → Tallied (inAll index entries) writing out₀ out t (recordMax + 1) →
     HasRoom (intersectionOf (listsOf index entries)) writing out₀ → Sweeps (intersectionOf (listsOf index entries)) writing out₀ out t
 unfolding intersectionOf
 turned-out index entries s room = tallied-end s room

@@ -5,9 +5,10 @@ use mathlib.Core.Bool.{Bool, true, false, not, cond, _&&_}
 use mathlib.Core.List.{List}
 use lib.ListN.{length, getD}
 use lib.Seq.{sets}
+use Rattle.limits.specs.Limits.{recordMax}
 use Rattle.list.specs.declared.answer.Tally.{Tally}
 use Rattle.list.specs.declared.reading.Interval.{Interval}
-use Rattle.list.specs.Interval.{top, names, intervals, records}
+use Rattle.list.specs.Interval.{names, intervals, records}
 use Rattle.list.specs.Stretches.{stretches}
 use Rattle.list.specs.Ginix.{inEvery}
 use Rattle.index.specs.Format.{listOf}
@@ -25,8 +26,8 @@ between test a b = stretches test false a (b + 1 - a)
 -- the cells c can be counted, and where the list is written they have room, behind what is counted
 pub record CellsFit (writing : Bool) (out : List ℕ) (t : Tally) (c : List ℕ) : Type 0 where
   pub room : writing ≡ true → 2 * t .intervals + length c ≤ length out
-  pub intervals-small : t .intervals + intervals c ≤ top
-  pub records-small : t .records + records c ≤ top
+  pub intervals-small : t .intervals + intervals c ≤ recordMax
+  pub records-small : t .records + records c ≤ recordMax
 
 -- they are counted, and written where the list is
 pub record CellsPut (writing : Bool) (out out′ : List ℕ) (t : Tally) (c : List ℕ) (r : Tally) : Type 0 where
@@ -46,7 +47,7 @@ piecesIn index entries i = between (inAll index entries) (i .lower) (i .upper)
 pub record Within (index entries : List ℕ) (j a b : ℕ) : Type 0 where
   pub asked : SoundRequest index entries
   pub list : j < length entries
-  pub high : b ≤ top
+  pub high : b ≤ recordMax
   pub covers : (y : ℕ) → a ≤ y → y ≤ b → names (listOf index (getD entries j 0)) y ≡ true
 
 -- a piece that is open where x comes ends before x, unless x is in

@@ -3,8 +3,8 @@ use mathlib.Core.Path.{_≡_}
 use Prim.Native.Nat.{ℕ, _+_, _-_, _*_, _≤_, _<_}
 use mathlib.Core.List.{List}
 use lib.ListN.{length, getD, take}
+use Rattle.limits.specs.Limits.{joinMax, recordMax}
 use Rattle.list.specs.declared.Place.{Place}
-use Rattle.list.specs.Interval.{top}
 use Rattle.list.specs.Kept.{start, nextPlace, lowerAt, upperAt}
 use Rattle.list.specs.Reading.{Goes}
 use Rattle.heap.specs.Heap.{countOf, IsHeap}
@@ -22,12 +22,12 @@ nextUpper index entries i at = upperAt (entrySingles index (getD entries i 0)) (
 
 -- an upper bound and whose it is, as one number: the least of them has the least upper bound
 abbrev pub keyOf : ℕ → ℕ → ℕ
-keyOf u i = u * 16 + i
+keyOf u i = u * joinMax + i
 
 -- in every list of a request an interval is next, and its lower bound is a record's number
 pub record Standing (index entries : List ℕ) (at : ℕ → Place) : Type 0 where
   pub goes : (i : ℕ) → i < length entries → Goes (entrySingles index (getD entries i 0)) (entryLowers index (getD entries i 0)) (at i)
-  pub small : (i : ℕ) → i < length entries → nextLower index entries i (at i) ≤ top
+  pub small : (i : ℕ) → i < length entries → nextLower index entries i (at i) ≤ recordMax
 
 -- so of places of their own
 abbrev pub StandingAt : List ℕ → List ℕ → List Place → Type 0
@@ -43,7 +43,7 @@ pub record Frontier (index entries : List ℕ) (at : ℕ → Place) (size : ℕ)
 
 -- a lower bound by what it lacks to a number above them all: the least of these is of the largest lower bound
 abbrev pub lackOf : ℕ → ℕ
-lackOf l = top + 1 - l
+lackOf l = recordMax + 1 - l
 
 -- the lower bounds of the intervals that are next in the first `lists` lists, in a heap whose front is the largest:
 -- each is there, and whatever else is there is no larger than one of them

@@ -3,8 +3,9 @@ ghost use mathlib.Core.Path.{_≡_};
 ghost use mathlib.Core.Bool.{true};
 ghost use Prim.Native.Nat.{_+_, _≤_, _<_};
 ghost use lib.ListN.{length, getD};
+ghost use Rattle.limits.specs.Limits.{recordMax};
 ghost use Rattle.list.specs.Ginix.{intersectionOf};
-ghost use Rattle.list.specs.Interval.{top, names};
+ghost use Rattle.list.specs.Interval.{names};
 ghost use Rattle.list.specs.Sense.{Steady};
 ghost use Rattle.index.specs.Format.{listOf};
 ghost use Rattle.directory.specs.Regions.{EntryIn};
@@ -50,7 +51,7 @@ fn shortest(index: &[u8], entries: &[u32]) -> usize
 // What the list of an entry says of x, and how long it says so: by binary search.
 fn sense_in(index: &[u8], entry: usize, x: u32) -> Sense
     requires entry { ⌜ EntryIn (now index) entry ⌝ }
-    requires high { ⌜ x ≤ top ⌝ }
+    requires high { ⌜ x ≤ recordMax ⌝ }
     ensures { λ r. ⌜ Steady (names (listOf (now (index .entry)) entry)) x (r .inside) (r .until) ⌝ }
 {
     let Regions { s, l, u, end } = regions_of(index, entry);

@@ -4,10 +4,11 @@ use Prim.Native.Nat.{ℕ, _*_, _≤_}
 use native.Mathlib.Omega.{arith}
 use mathlib.Core.List.{List, [], _∷_}
 use lib.ListN.{length}
+use Rattle.limits.specs.Limits.{recordMax}
 use Rattle.refusal.specs.declared.Refusal.{Refusal}
 use Rattle.list.specs.declared.answer.Answer.{Answer}
 use Rattle.list.specs.declared.answer.Answer.the-variants as answer
-use Rattle.list.specs.Interval.{top, intervals}
+use Rattle.list.specs.Interval.{intervals}
 use Rattle.list.specs.Answer.{Listing}
 use Rattle.list.specs.Ginix.{unionOf, intersectionOf}
 use Rattle.list.proofs.StretchLaws.{proper-length}
@@ -37,10 +38,10 @@ join-bound TwinHeap a = asked-bound _ _ a
 join-bound Probing a = asked-bound _ _ a
 
 pub join-whole : (m : Method) (cs : List (List ℕ)) → 2 * intervals (joinOf m cs) ≡ length (joinOf m cs)
-join-whole ScanLine cs = proper-length top (unionOf cs) (union-proper cs)
-join-whole ActiveInterval cs = proper-length top (unionOf cs) (union-proper cs)
-join-whole TwinHeap cs = proper-length top (intersectionOf cs) (intersection-proper cs)
-join-whole Probing cs = proper-length top (intersectionOf cs) (intersection-proper cs)
+join-whole ScanLine cs = proper-length recordMax (unionOf cs) (union-proper cs)
+join-whole ActiveInterval cs = proper-length recordMax (unionOf cs) (union-proper cs)
+join-whole TwinHeap cs = proper-length recordMax (intersectionOf cs) (intersection-proper cs)
+join-whole Probing cs = proper-length recordMax (intersectionOf cs) (intersection-proper cs)
 
 -- ---- by what the check of the request answers
 

@@ -5,6 +5,7 @@ use mathlib.Core.Bool.{Bool, cond, _||_}
 use mathlib.Core.List.{List}
 use lib.Dec.{eqb, leb, ltb}
 use lib.ListN.{length, getD}
+use Rattle.limits.specs.Limits.{joinMax}
 use Rattle.refusal.specs.declared.Found.{Found}
 use Rattle.refusal.specs.declared.Found.the-variants.{At, Nowhere}
 use Rattle.refusal.specs.declared.Refusal.the-variants.{ListCount, EntryNumber}
@@ -20,7 +21,7 @@ use Rattle.merge.specs.Request.{listsOf}
 
 -- Reference 9.1, row 13
 unfoldable pub badListCount : List ℕ → Bool
-badListCount entries = eqb (length entries) 0 || ltb 16 (length entries)
+badListCount entries = eqb (length entries) 0 || ltb joinMax (length entries)
 
 -- Reference 9.1, row 14: whether the entry number at place i is bad
 unfoldable pub badEntryNumber : List ℕ → List ℕ → ℕ → Bool

@@ -9,6 +9,7 @@ ghost use Rattle.join.specs.Join.{badEntryNumber, entriesOf, requestOf};
 ghost use Rattle.join.specs.Bound.{intervalSum};
 use directory::parts::interval_count;
 use index::Checked;
+use limits::JOIN_MAX;
 use refusal::Found;
 use refusal::Refusal;
 
@@ -37,7 +38,7 @@ fn check_entries(index: &[u8], entries: &[u32]) -> Checked
     if count == 0 {
         return Checked::Refused(Refusal::ListCount(count));
     }
-    if 16 < count {
+    if JOIN_MAX < count {
         return Checked::Refused(Refusal::ListCount(count));
     }
     match first_bad_number(index, entries) {

@@ -9,8 +9,9 @@ use lib.ListN.{length, getD, set, replicate, length-set, getD-replicate}
 use lib.Seq.{getD-set-same, getD-set-other}
 use borrow.Author.Tests.{leb-true, leb-false, lt-leb}
 use Rattle.laws.proofs.Tests.{by-test}
+use Rattle.limits.specs.Limits.{recordMax}
 use Rattle.list.specs.declared.Place.{Place}
-use Rattle.list.specs.Interval.{top, names}
+use Rattle.list.specs.Interval.{names}
 use Rattle.list.specs.Kept.{start, singleNext}
 use Rattle.list.proofs.WalkLaws.{single-next-left, pair-next-left}
 use Rattle.list.proofs.ReadingLaws.{next-fits}
@@ -36,7 +37,7 @@ module _ {index : List ℕ} {i : ℕ} (n : EntryIn index i) {at : Place} (g : Go
       (omega arith, b .2)
 
   -- no bound is above the largest record number
-  pub bounds-high : (nextLowerIn index i at ≤ top) × (nextUpperIn index i at ≤ top)
+  pub bounds-high : (nextLowerIn index i at ≤ recordMax) × (nextUpperIn index i at ≤ recordMax)
   bounds-high =
       let b = bounds-of (singleNext (entrySingles index i) (entryLowers index i) (at .p .0) (at .q .0)) refl in
       let t = sound-trailer index (n .sound) .highest-bound in
@@ -63,7 +64,7 @@ pub record ReadAt (index entries : List ℕ) (j : ℕ) (at : Place) (most : ℕ)
   pub from : ℕ
   pub begun : 1 ≤ from
   pub near : from ≤ most
-  pub high : highest index ≤ top
+  pub high : highest index ≤ recordMax
   pub read : ReadTo (highest index) (entrySingles index (getD entries j 0)) (entryLowers index (getD entries j 0)) (entryUppers index (getD entries j 0)) at from
 
 -- so each at its place
@@ -127,7 +128,7 @@ module _ {index entries : List ℕ} {j : ℕ} {at : Place} {most : ℕ} (r : Rea
 
   module _ (g : GoesIn index (getD entries j 0) at) where
     pub next-bounds : (1 ≤ nextLowerIn index (getD entries j 0) at) × (nextLowerIn index (getD entries j 0) at ≤ nextUpperIn index (getD entries j 0) at)
-        × (nextUpperIn index (getD entries j 0) at ≤ top)
+        × (nextUpperIn index (getD entries j 0) at ≤ recordMax)
     next-bounds = let b = read-bounds (r .read) g in let s = r .begun in let h = r .high in (omega arith, b .1, omega arith)
 
     pub next-before : (x : ℕ) → most ≤ x + 1 → x < nextLowerIn index (getD entries j 0) at → names (listOf index (getD entries j 0)) x ≡ false

@@ -6,7 +6,8 @@ use mathlib.Core.Bool.{true}
 use mathlib.Core.List.{List, [], _∷_}
 use lib.ListN.{length, getD, drop}
 use Rattle.laws.proofs.Lists.{drop-next, drop-none}
-use Rattle.list.specs.Interval.{top, isProper}
+use Rattle.limits.specs.Limits.{recordMax}
+use Rattle.list.specs.Interval.{isProper}
 use Rattle.list.proofs.ProperLaws.{proper-facts, facts-proper, proper-weaker}
 use Rattle.list.proofs.KeptLaws.{Kept, kept-facts}
 use Rattle.list.proofs.JoinLaws.{AllProper}
@@ -29,11 +30,11 @@ module _ {index : List ℕ} {i : ℕ} (e : EntryIn index i) where
   pub entry-some : 0 < length (entrySingles index i) + length (entryLowers index i)
   entry-some = omega (arith, entry-walked e, entry-counted e, sound-entry index (e .sound) i (e .below) .list-some)
 
-  entry-proper : isProper top (listOf index i) ≡ true
+  entry-proper : isProper recordMax (listOf index i) ≡ true
   unfolding isProper
   entry-proper =
-      facts-proper top 1 (listOf index i)
-      (proper-weaker (highest index) top 1 1 (listOf index i) (sound-trailer index (e .sound) .highest-bound) (omega arith)
+      facts-proper recordMax 1 (listOf index i)
+      (proper-weaker (highest index) recordMax 1 1 (listOf index i) (sound-trailer index (e .sound) .highest-bound) (omega arith)
       (proper-facts (highest index) 1 (listOf index i) (list-proper index (e .sound) i (e .below))))
 
 -- ---- all of them
@@ -48,7 +49,7 @@ unfolding listsOf
 lists-end index entries j h = rw (drop-none entries j h)
 
 lists-proper : (index : List ℕ) → Sound index → (entries : List ℕ) → ((j : ℕ) → j < length entries → getD entries j 0 < wordCount index) →
-    AllProper top (listsOf index entries)
+    AllProper recordMax (listsOf index entries)
 unfolding listsOf
 lists-proper index s [] f = tt
 lists-proper index s (e ∷ es) f = (entry-proper (record { sound = s; below = f 0 (omega arith) }), lists-proper index s es (λ j h. f (suc j) (omega arith)))
@@ -57,5 +58,5 @@ lists-proper index s (e ∷ es) f = (entry-proper (record { sound = s; below = f
 pub asked-entry : {index entries : List ℕ} → SoundRequest index entries → (j : ℕ) → j < length entries → EntryIn index (getD entries j 0)
 asked-entry a j h = record { sound = a .sound; below = a .below j h }
 
-pub asked-proper : {index entries : List ℕ} → SoundRequest index entries → AllProper top (listsOf index entries)
+pub asked-proper : {index entries : List ℕ} → SoundRequest index entries → AllProper recordMax (listsOf index entries)
 asked-proper {index} {entries} a = lists-proper index (a .sound) entries (a .below)

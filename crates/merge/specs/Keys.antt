@@ -5,6 +5,7 @@ use mathlib.Core.Bool.{Bool, false, cond}
 use mathlib.Core.List.{List, [], _∷_}
 use lib.Dec.{eqb}
 use lib.ListN.{length, getD, take, replicate}
+use Rattle.limits.specs.Limits.{joinMax}
 use Rattle.list.specs.declared.Place.{Place}
 use Rattle.list.specs.Ginix.{one}
 use Rattle.list.specs.Kept.{start}
@@ -27,7 +28,7 @@ upperMark u = (u + 1) * 2 + 1
 -- whether y is the key of list j, whose next mark, where there is one, is the first of ms
 abbrev pub isKey : ℕ → ℕ → List ℕ → Bool
 isKey y j [] = false
-isKey y j (m ∷ ms) = eqb y (m * 16 + j)
+isKey y j (m ∷ ms) = eqb y (m * joinMax + j)
 
 -- the first `size` cells are a heap of the keys of n lists; list j's next mark is the first of `due j`
 pub record Keys (n size : ℕ) (cells : List ℕ) (due : ℕ → List ℕ) : Type 0 where
@@ -51,4 +52,4 @@ dueAt index entries places j = lowerDue index (getD entries j 0) (getD places j 
 
 -- the keys of all lists of a request, each at its start
 abbrev pub FirstKeys : List ℕ → List ℕ → List ℕ → Type 0
-FirstKeys index entries keys = Keys (length entries) (length entries) keys (dueAt index entries (replicate 16 start))
+FirstKeys index entries keys = Keys (length entries) (length entries) keys (dueAt index entries (replicate joinMax start))

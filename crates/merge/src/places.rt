@@ -2,6 +2,7 @@
 ghost use mathlib.Core.Path.{_≡_};
 ghost use Prim.Native.Nat.{_<_};
 ghost use lib.ListN.{length, getD, set, replicate};
+ghost use Rattle.limits.specs.Limits.{joinMax};
 ghost use Rattle.list.specs.Cell.{numbersIn};
 ghost use Rattle.list.specs.Kept.{start, nextPlace};
 ghost use Rattle.list.specs.Reading.{Goes};
@@ -10,6 +11,7 @@ ghost use Rattle.merge.specs.Places.{PlaceIn, GoesIn, nextLowerIn, nextU
 use directory::parts::Regions;
 use directory::parts::interval_count;
 use directory::parts::regions_of;
+use limits::JOIN_MAX;
 use list::PairAt;
 use list::Place;
 use list::SingleAt;
@@ -18,13 +20,13 @@ use list::reading::interval_at;
 use list::reading::next_place;
 
 // Every place at the start of its list.
-pub fn all_at_start() -> [Place; 16]
-    ensures { λ r. ⌜ r ≡ replicate 16 start ⌝ }
+pub fn all_at_start() -> [Place; JOIN_MAX]
+    ensures { λ r. ⌜ r ≡ replicate joinMax start ⌝ }
 {
     [Place {
         p: SingleAt(0),
         q: PairAt(0),
-    }; 16]
+    }; JOIN_MAX]
 }
 
 // The thin step: reading place j of a lent slice moves on in its list.
@@ -36,8 +38,13 @@ pub fn step(places: &mut [Place], j: usize, singles: &[u8], lower: &[u8])
 }
 
 // By value, for callers that lend nothing: the array is lent to `step` and handed back.
-pub fn stepped(places: [Place; 16], j: usize, singles: &[u8], lower: &[u8]) -> [Place; 16]
-    requires { ⌜ (j < 16) × Goes (numbersIn (now singles)) (numbersIn (now lower)) (getD places j start) ⌝ }
+pub fn stepped(
+    places: [Place; JOIN_MAX],
+    j: usize,
+    singles: &[u8],
+    lower: &[u8],
+) -> [Place; JOIN_MAX]
+    requires { ⌜ (j < joinMax) × Goes (numbersIn (now singles)) (numbersIn (now lower)) (getD places j start) ⌝ }
     ensures { λ r. ⌜ r ≡ set places j (nextPlace (numbersIn (now (singles .entry))) (numbersIn (now (lower .entry))) (getD places j start)) ⌝ }
 {
     let mut all = places;
@@ -46,9 +53,14 @@ pub fn stepped(places: [Place; 16], j: usize, singles: &[u8], lower: &[u8]) -> [
 }
 
 // The same, the list being that of an entry.
-pub fn moved_on(index: &[u8], entry: usize, places: [Place; 16], j: usize) -> [Place; 16]
+pub fn moved_on(
+    index: &[u8],
+    entry: usize,
+    places: [Place; JOIN_MAX],
+    j: usize,
+) -> [Place; JOIN_MAX]
     requires entry { ⌜ EntryIn (now index) entry ⌝ }
-    requires list { ⌜ j < 16 ⌝ }
+    requires list { ⌜ j < joinMax ⌝ }
     requires goes { ⌜ GoesIn (now index) entry (getD places j start) ⌝ }
     ensures { λ r. ⌜ r ≡ set places j (placeBehind (now (index .entry)) entry (getD places j start)) ⌝ }
 {

@@ -4,6 +4,7 @@ use mathlib.Core.Path.{_≡_}
 use mathlib.Core.Bool.{Bool, true}
 use mathlib.Core.List.{List, []}
 use lib.ListN.{length}
+use Rattle.limits.specs.Limits.{bracketsMax, questionWordsMax, recordMax}
 use Rattle.list.specs.declared.answer.Tally.{Tally}
 use Rattle.list.specs.Sense.{Steady}
 use Rattle.list.specs.Stretches.{cellsOf}
@@ -29,7 +30,7 @@ pub record TreeOf (codes : List ℕ) (t : Tree) : Type 0 where
   pub are : codesOf toks ≡ codes
   pub fuel : ℕ
   pub words : ℕ
-  pub reads : question fromLeft fuel 8 0 toks ≡ good t [] words
+  pub reads : question fromLeft fuel bracketsMax 0 toks ≡ good t [] words
 
 -- which records satisfy it, by what its slots have
 abbrev pub testOf : List ℕ → List ℕ → Tree → ℕ → Bool
@@ -42,8 +43,8 @@ OfEach codes index entries P = (t : Tree) → TreeOf codes t → P (testOf index
 -- what a question is asked by: a sound index, its codes, and 16 entries, of which the first `slots` are those of its words
 pub record AskedBy (codes index entries : List ℕ) (slots : ℕ) : Type 0 where
   pub sound : Sound index
-  pub entries-long : length entries ≡ 16
-  pub few : slots ≤ 16
+  pub entries-long : length entries ≡ questionWordsMax
+  pub few : slots ≤ questionWordsMax
   pub all : slots ≡ wordCodes codes
 
 -- the hints are moved, and nothing else is said of them
@@ -53,8 +54,8 @@ pub record SameLengths (hints ws hints′ ws′ : List ℕ) : Type 0 where
 
 -- what is kept of the slots before record x: a sense of each, and the first `slots` are those of the question's words
 pub record Slotted (codes index entries senses : List ℕ) (slots x : ℕ) : Type 0 where
-  pub long : length senses ≡ 16
-  pub few : slots ≤ 16
+  pub long : length senses ≡ questionWordsMax
+  pub few : slots ≤ questionWordsMax
   pub all : slots ≡ wordCodes codes
   pub sensed : Sensed (slotHas index entries) senses x
 
@@ -77,7 +78,7 @@ pub record WindowAt (ws : List ℕ) (at : At) : Type 0 where
   pub some : 1 ≤ length ws
   pub most : length ws ≤ windowMost
   pub begun : 1 ≤ at .x
-  pub near : at .x ≤ 16777215
+  pub near : at .x ≤ recordMax
   pub few : at .cells < 4294967296
   pub counted : at .records < 4294967296
 
@@ -96,7 +97,7 @@ pub record Stands (n : ℕ) (at : At) : Type 0 where
   pub most : at .width ≤ windowMost
   pub begun : 1 ≤ at .x
   pub more : at .x ≤ n
-  pub near : n ≤ 16777215
+  pub near : n ≤ recordMax
   pub few : at .cells ≤ n + 1
   pub counted : at .records ≤ n
 

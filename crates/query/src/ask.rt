@@ -8,6 +8,8 @@ use crate::drive::sweep_question;
 use index::Checked;
 use index::check::check_index;
 use index::trailer::read_trailer;
+use limits::QUESTION_MAX;
+use limits::QUESTION_WORDS_MAX;
 use list::answer::Answer;
 use question::read_question;
 use question::reader::Reading;
@@ -44,8 +46,8 @@ fn answer_accepted(index: &[u8], question: &[u8], out: &mut [u32]) -> Answer
     requires parsed { ⌜ IsParsed (now question) ⌝ }
     ensures { λ r. ⌜ Answers fromLeft (now (index .entry)) (now (question .entry)) (now (out .entry)) (now (out .exit)) r ⌝ }
 {
-    let mut codes: [u8; 256] = [0; 256];
-    let mut entries: [usize; 16] = [0; 16];
+    let mut codes: [u8; QUESTION_MAX] = [0; QUESTION_MAX];
+    let mut entries: [usize; QUESTION_WORDS_MAX] = [0; QUESTION_WORDS_MAX];
     let compiled = compile(index, question, &mut codes, &mut entries);
     let count = compiled.codes;
     put_answer(&codes[0..count], index, &entries, compiled.slots, out)

@@ -2,6 +2,7 @@
 ghost use mathlib.Core.Path.{_≡_};
 ghost use Prim.Native.Nat.{_≤_};
 ghost use lib.ListN.{length};
+ghost use Rattle.limits.specs.Limits.{recordMax};
 ghost use Rattle.index.specs.Format.{highest};
 ghost use Rattle.slots.specs.Slots.{slotHas, ReadBy};
 ghost use Rattle.evaluate.specs.Senses.{Sensed};
@@ -23,7 +24,10 @@ use evaluate::eval::eval_level;
 use evaluate::look::Look;
 use evaluate::look::look_level;
 use evaluate::senses::renew_senses;
+use limits::BRACKETS_MAX;
+use limits::QUESTION_WORDS_MAX;
 use list::answer::Tally;
+use list::hints::HINTS;
 use list::sense::smaller;
 use window::fill::clear;
 use window::members::count_members;
@@ -69,7 +73,7 @@ fn take_window(
 {
     let x = at.x;
     clear(ws);
-    eval_level(codes, 0, 0, 8, index, entries, x, hints, ws);
+    eval_level(codes, 0, 0, BRACKETS_MAX, index, entries, x, hints, ws);
     let cells = put_flips(ws, x, at.cells, writing, out);
     Done {
         cells,
@@ -88,7 +92,7 @@ fn look_at(
     senses: &mut [u32],
 ) -> Look
     requires lends { ⌜ ReadBy (now index) (now entries) (now hints) ⌝ }
-    requires near { ⌜ x ≤ 16777215 ⌝ }
+    requires near { ⌜ x ≤ recordMax ⌝ }
     requires slotted { ⌜ Slotted (now codes) (now index) (now entries) (now senses) slots x ⌝ }
     ensures hints { λ _. ⌜ length (now (hints .exit)) ≡ length (now (hints .entry)) ⌝ }
     ensures senses { λ _. ⌜ length (now (senses .exit)) ≡ length (now (senses .entry)) ⌝ }
@@ -96,7 +100,7 @@ fn look_at(
     ensures steady { λ r. ⌜ LooksAt (now (codes .entry)) (now (index .entry)) (now (entries .entry)) x r ⌝ }
 {
     renew_senses(index, entries, slots, x, hints, senses);
-    look_level(codes, 0, 0, 8, senses)
+    look_level(codes, 0, 0, BRACKETS_MAX, senses)
 }
 
 // One step from where the driver stands.
@@ -219,8 +223,8 @@ pub fn sweep_question(
     requires room { ⌜ Fits (now codes) (now index) (now entries) n writing (now out) ⌝ }
     ensures { λ r. ⌜ Tallies (now (codes .entry)) (now (index .entry)) (now (entries .entry)) n writing (now (out .entry)) (now (out .exit)) r ⌝ }
 {
-    let mut hints: [usize; 32] = [0; 32];
-    let mut senses: [u32; 16] = [0; 16];
+    let mut hints: [usize; HINTS] = [0; HINTS];
+    let mut senses: [u32; QUESTION_WORDS_MAX] = [0; QUESTION_WORDS_MAX];
     let mut ws: [u64; MOST] = [0; MOST];
     sweep(
         codes,

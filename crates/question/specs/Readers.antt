@@ -3,6 +3,7 @@ use Prim.Native.Nat.{ℕ, _+_, _-_, _*_, _≤_, _<_}
 use mathlib.Core.Path.{_≡_}
 use mathlib.Core.List.{List}
 use lib.ListN.{length}
+use Rattle.limits.specs.Limits.{questionWordsMax}
 use Rattle.refusal.specs.declared.Refusal.{Refusal}
 use Rattle.question.specs.declared.reader.Read.{Read}
 use Rattle.question.specs.declared.reader.Read.the-variants.{At, Bad}
@@ -28,7 +29,7 @@ Is s (Bad refusal) o = BadAt s refusal o
 
 -- a place not before `at`, and words not below k
 abbrev pub Ahead : ℕ → ℕ → ℕ → Read → Type 0
-Ahead at len k (At n j) = (at ≤ n) × (n ≤ len) × (k ≤ j) × (j ≤ 16)
+Ahead at len k (At n j) = (at ≤ n) × (n ≤ len) × (k ≤ j) × (j ≤ questionWordsMax)
 Ahead at len k (Bad refusal) = Unit {0}
 
 pub record ReadsQuestion (s : List ℕ) (d k at : ℕ) (r : Read) : Type 0 where

@@ -4,6 +4,7 @@ use mathlib.Core.List.{List, [], _∷_}
 use mathlib.Core.Bool.{Bool, not, cond, _||_}
 use lib.ListN.{length, getD, drop}
 use lib.Dec.{ltb, eqb}
+use Rattle.limits.specs.Limits.{questionMax, wordMax}
 use Rattle.word.specs.Word.{isWordByte}
 use Rattle.refusal.specs.First.{first}
 use Rattle.refusal.specs.Refusal.{numberOf, valueOf}
@@ -30,7 +31,7 @@ foreignAt s i = isForeign (getD s i 0)
 
 -- Reference 9.1, row 8: at the first such place a run starts, since from a word byte before it the run would be longer still
 abbrev pub longAt : List ℕ → ℕ → Bool
-longAt s i = ltb 32 (run (drop i s))
+longAt s i = ltb wordMax (run (drop i s))
 
 -- Reference 9.1, rows 9 to 11: the place of the first token left; where none is left, the question's length
 abbrev pub tokenPlace : ℕ → List Tok → ℕ
@@ -58,7 +59,7 @@ unless Nowhere fault next = next tt
 -- Reference 9.2: each refusal is asked of the whole question before the next one is; the last three are met by reading it
 unfoldable pub parsed : Rule → List ℕ → Parsed
 parsed rule s =
-    choose (ltb 256 (length s)) (λ _. refuses (QuestionLength (length s)))
+    choose (ltb questionMax (length s)) (λ _. refuses (QuestionLength (length s)))
     (λ _. unless (first (foreignAt s) (length s)) QuestionByte
     (λ _. unless (first (longAt s) (length s)) LongWord
     (λ _. outcome (length s) (whole rule s))))

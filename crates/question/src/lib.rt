@@ -1,6 +1,7 @@
 // Reference 6: questions, their tokens, the readers, and the refusals 6 to 11.
 ghost use mathlib.Core.Path.{_≡_};
 ghost use Rattle.question.specs.Reading.{readingOf};
+use limits::QUESTION_MAX;
 use refusal::Found;
 use refusal::Refusal;
 
@@ -14,7 +15,7 @@ pub use reader::Reading;
 pub fn read_question(question: &[u8]) -> Reading
     ensures { λ r. ⌜ r ≡ readingOf (now (question .entry)) ⌝ }
 {
-    if question.len() > 256 {
+    if question.len() > QUESTION_MAX {
         return Reading::Refused(Refusal::QuestionLength(question.len()));
     }
     match faults::first_foreign(question) {

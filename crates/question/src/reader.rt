@@ -1,6 +1,7 @@
 // Reference 6.2: the readers of a question, which go from operand to operand by the links between them.
 ghost use Prim.Native.Nat.{_≤_};
 ghost use lib.ListN.{length};
+ghost use Rattle.limits.specs.Limits.{questionWordsMax};
 ghost use Rattle.question.specs.Readers.{
   ReadsQuestion,
   ReadsOperand,
@@ -10,6 +11,8 @@ ghost use Rattle.question.specs.Readers.{
 use super::token::Token;
 use super::token::next_token;
 use super::token::token_start;
+use limits::BRACKETS_MAX;
+use limits::QUESTION_WORDS_MAX;
 use refusal::Refusal;
 
 // Reference 6.4: accepted, with the number of words, each as often as it stands there; or refused.
@@ -27,7 +30,7 @@ pub enum Read {
 // An operand and its links, where `room` brackets may still open and `words` words were read before.
 fn question(s: &[u8], room: usize, words: usize, at: usize) -> Read
     requires inside { ⌜ at ≤ length (now s) ⌝ }
-    requires few { ⌜ words ≤ 16 ⌝ }
+    requires few { ⌜ words ≤ questionWordsMax ⌝ }
     ensures { λ r. ⌜ ReadsQuestion (now (s .entry)) room words at r ⌝ }
 {
     match operand(s, room, words, at) {
@@ -38,13 +41,13 @@ fn question(s: &[u8], room: usize, words: usize, at: usize) -> Read
 
 fn operand(s: &[u8], room: usize, words: usize, at: usize) -> Read
     requires inside { ⌜ at ≤ length (now s) ⌝ }
-    requires few { ⌜ words ≤ 16 ⌝ }
+    requires few { ⌜ words ≤ questionWordsMax ⌝ }
     ensures { λ r. ⌜ ReadsOperand (now (s .entry)) room words at r ⌝ }
 {
     let token = next_token(s, at);
     match token {
         Token::Word(start, end) => {
-            if words < 16 {
+            if words < QUESTION_WORDS_MAX {
                 Read::At(end, words + 1)
             } else {
                 Read::Bad(Refusal::WordLimit(start))
@@ -71,7 +74,7 @@ fn operand(s: &[u8], room: usize, words: usize, at: usize) -> Read
 
 fn links(s: &[u8], room: usize, words: usize, at: usize) -> Read
     requires inside { ⌜ at ≤ length (now s) ⌝ }
-    requires few { ⌜ words ≤ 16 ⌝ }
+    requires few { ⌜ words ≤ questionWordsMax ⌝ }
     ensures { λ r. ⌜ ReadsLinks (now (s .entry)) room words at r ⌝ }
 {
     let token = next_token(s, at);
@@ -88,7 +91,7 @@ fn links(s: &[u8], room: usize, words: usize, at: usize) -> Read
 pub fn read_whole(s: &[u8]) -> Reading
     ensures { λ r. ⌜ ReadsWhole (now (s .entry)) r ⌝ }
 {
-    match question(s, 8, 0, 0) {
+    match question(s, BRACKETS_MAX, 0, 0) {
         Read::At(next, words) => {
             let rest = next_token(s, next);
             match rest {

@@ -2,6 +2,7 @@
 ghost use mathlib.Core.Path.{_≡_};
 ghost use Prim.Native.Nat.{_≤_, _<_};
 ghost use lib.ListN.{length};
+ghost use Rattle.limits.specs.Limits.{questionWordsMax};
 ghost use Rattle.index.specs.Sound.{Sound};
 ghost use Rattle.slots.specs.Bound.{slotIntervals, slotsIntervals};
 use directory::parts::interval_count;
@@ -24,7 +25,7 @@ fn slot_intervals(index: &[u8], entries: &[usize], k: usize) -> usize
 pub fn slots_sum(index: &[u8], entries: &[usize], count: usize) -> usize
     requires sound { ⌜ Sound (now index) ⌝ }
     requires slots { ⌜ count ≤ length (now entries) ⌝ }
-    requires few { ⌜ count ≤ 16 ⌝ }
+    requires few { ⌜ count ≤ questionWordsMax ⌝ }
     ensures { λ r. ⌜ r ≡ slotsIntervals (now (index .entry)) (now (entries .entry)) 0 count ⌝ }
 {
     let mut sum = 0;

@@ -7,10 +7,10 @@ use mathlib.Core.List.{List, [], _∷_}
 use lib.ListN.{length, getD, replicate}
 use borrow.Author.Tests.{ltb-true, ltb-false}
 use Rattle.laws.proofs.Tests.{by-test, leb-cases}
+use Rattle.limits.specs.Limits.{recordMax}
 use Rattle.list.specs.declared.Place.{Place}
 use Rattle.list.specs.declared.answer.Tally.{Tally}
 use Rattle.list.specs.declared.reading.Interval.{Interval}
-use Rattle.list.specs.Interval.{top}
 use Rattle.list.specs.Ginix.{unionOf}
 use Rattle.list.specs.Kept.{start}
 use Rattle.merge.specs.Request.{SoundRequest, listsOf}
@@ -66,7 +66,7 @@ module _ {index entries : List ℕ} {places : List Place} {most : ℕ} (r : AllR
     }
 
   module _ {j : ℕ} {next : Interval} (n : Next index entries places j next) where
-    next-ordered : (1 ≤ next .lower) × (next .lower ≤ next .upper) × (next .upper ≤ top)
+    next-ordered : (1 ≤ next .lower) × (next .lower ≤ next .upper) × (next .upper ≤ recordMax)
     next-ordered = let b = next-bounds (r .list j (n .list)) (n .goes) in (omega arith, omega arith, omega arith)
 
     next-in : (x : ℕ) → next .lower ≤ x → x ≤ next .upper → inAny index entries x ≡ true
@@ -77,7 +77,7 @@ module _ {index entries : List ℕ} {places : List Place} {most : ℕ} (r : AllR
 pub record Active (index entries : List ℕ) (writing : Bool) (out₀ out : List ℕ) (places : List Place) (t : Tally) (active : Interval) : Type 0 where
   pub below : Tallied (inAny index entries) writing out₀ out t (active .lower)
   pub order : active .lower ≤ active .upper
-  pub high : active .upper ≤ top
+  pub high : active .upper ≤ recordMax
   pub inside : (x : ℕ) → active .lower ≤ x → x ≤ active .upper → inAny index entries x ≡ true
   pub read : AllRead index entries places (active .upper + 2)
 

@@ -8,8 +8,8 @@ use mathlib.Core.List.{List}
 use lib.Dec.{eqb}
 use borrow.Author.Tests.{eq-eqb, ne-eqb}
 use Rattle.laws.proofs.Tests.{leb-cases}
+use Rattle.limits.specs.Limits.{recordMax}
 use Rattle.list.specs.declared.answer.Tally.{Tally}
-use Rattle.list.specs.Interval.{top}
 use Rattle.list.specs.Stretches.{cellsOf}
 use Rattle.merge.specs.Put.{Fitting, PutWhere, upTo}
 use Rattle.list.specs.Answer.{HasRoom}
@@ -26,7 +26,7 @@ pub record Stretch (p : ℕ → Bool) (writing : Bool) (out₀ out : List ℕ) (
 
 module _ {p : ℕ → Bool} {writing : Bool} {out₀ out : List ℕ} {t : Tally} {s count lower : ℕ} (g : Stretch p writing out₀ out t s count lower) where
   -- a lower bound comes at v
-  pub stretch-begun : {v lower′ : ℕ} → s ≤ v → v ≤ top + 1 → (count ≡ 0 → (z : ℕ) → s ≤ z → z < v → p z ≡ false) → (0 < count → (z : ℕ) → s ≤ z → z < v → p z ≡ true) →
+  pub stretch-begun : {v lower′ : ℕ} → s ≤ v → v ≤ recordMax + 1 → (count ≡ 0 → (z : ℕ) → s ≤ z → z < v → p z ≡ false) → (0 < count → (z : ℕ) → s ≤ z → z < v → p z ≡ true) →
       lower′ ≡ lowerFrom count lower v → Stretch p writing out₀ out t v (count + 1) lower′
   stretch-begun {v} {lower′} h m shut wide e = go (ℕ-discrete count 0)
     where
@@ -53,7 +53,7 @@ module _ {p : ℕ → Bool} {writing : Bool} {out₀ out : List ℕ} {t : Tally}
           }
 
   -- an upper bound comes before v
-  module _ (v : ℕ) (some : 0 < count) (h : s ≤ v) (m : v ≤ top + 1) (wide : (z : ℕ) → s ≤ z → z < v → p z ≡ true) (long : lower < v) where
+  module _ (v : ℕ) (some : 0 < count) (h : s ≤ v) (m : v ≤ recordMax + 1) (wide : (z : ℕ) → s ≤ z → z < v → p z ≡ true) (long : lower < v) where
     wide-on : (z : ℕ) → g .x ≤ z → z < v → p z ≡ true
     wide-on z a b = leb-cases s z (λ w. wide z w b) (λ w. g .opened some .1 z a w)
 
@@ -69,7 +69,7 @@ module _ {p : ℕ → Bool} {writing : Bool} {out₀ out : List ℕ} {t : Tally}
           stop = λ n. let q : v - 1 + 1 ≡ v = omega arith in ap p q ∙ e;
         }
 
-    pub stretch-fits : p v ≡ false → HasRoom (cellsOf p top) writing out₀ → Fitting writing out t (upTo lower v)
+    pub stretch-fits : p v ≡ false → HasRoom (cellsOf p recordMax) writing out₀ → Fitting writing out t (upTo lower v)
     stretch-fits e r = tallied-fits (g .below) (whole e) r
 
     pub stretch-closed : {count′ : ℕ} {out′ : List ℕ} {t′ : Tally} → (count′ ≡ 0 → p v ≡ false) → PutWhere (eqb count′ 0) writing out out′ t (upTo lower v) t′ →

@@ -9,8 +9,8 @@ use lib.Dec.{eqb}
 use lib.ListN.{length}
 use borrow.Author.Tests.{eq-eqb, ne-eqb}
 use Rattle.laws.proofs.Tests.{true-false, by-test, leb-cases}
+use Rattle.limits.specs.Limits.{recordMax}
 use Rattle.list.specs.declared.Place.{Place}
-use Rattle.list.specs.Interval.{top}
 use Rattle.list.specs.Ginix.{one}
 use Rattle.list.proofs.SeekLaws.{one-small}
 use Rattle.merge.specs.Request.{SoundRequest}
@@ -138,7 +138,7 @@ module _ {index entries : List ℕ} (asked : SoundRequest index entries) {places
       lower-at : y / 32 ≡ lowerNext index entries places (y % 16)
       lower-at = let m = mark-out front-out in omega arith
 
-      pub begun-reach : (s ≤ y / 32) × (y / 32 ≤ top + 1)
+      pub begun-reach : (s ≤ y / 32) × (y / 32 ≤ recordMax + 1)
       begun-reach =
           let a = o .ahead (y % 16) (y / 16) (fr .rest) (fr .list) front-out (due-out front-out) in
           let b = next-bounds (o .read .list (y % 16) (fr .list)) begun-goes in
@@ -202,7 +202,7 @@ module _ {index entries : List ℕ} (asked : SoundRequest index entries) {places
       pub ended-some : 0 < count
       ended-some = over-one o (y % 16) (fr .list) front-in
 
-      pub ended-reach : (s ≤ y / 32) × (y / 32 ≤ top + 1) × (lower < y / 32)
+      pub ended-reach : (s ≤ y / 32) × (y / 32 ≤ recordMax + 1) × (lower < y / 32)
       ended-reach =
           let b = next-bounds (o .read .list (y % 16) (fr .list)) ended-goes in
           let p = o .spans (y % 16) (fr .list) front-in in

@@ -8,9 +8,9 @@ use lib.Dec.{eqb}
 use lib.ListN.{length, getD, replicate}
 use borrow.Author.Tests.{eq-eqb, ne-eqb}
 use Rattle.laws.proofs.Tests.{true-false, leb-cases}
+use Rattle.limits.specs.Limits.{recordMax}
 use Rattle.list.specs.declared.Place.{Place}
 use Rattle.list.specs.declared.answer.Tally.{Tally}
-use Rattle.list.specs.Interval.{top}
 use Rattle.list.specs.Ginix.{one, unionOf}
 use Rattle.list.specs.Kept.{start}
 use Rattle.merge.specs.Request.{SoundRequest, listsOf}
@@ -119,7 +119,7 @@ module _ {index entries : List ℕ} (asked : SoundRequest index entries) {writin
         pub upper-some : 0 < count
         upper-some = ended-some asked (g .over) front odd
 
-        reach : (g .line ≤ getD keys 0 0 / 32) × (getD keys 0 0 / 32 ≤ top + 1) × (lower < getD keys 0 0 / 32)
+        reach : (g .line ≤ getD keys 0 0 / 32) × (getD keys 0 0 / 32 ≤ recordMax + 1) × (lower < getD keys 0 0 / 32)
         reach = ended-reach asked (g .over) front odd
 
         in-line : (z : ℕ) → g .line ≤ z → z < getD keys 0 0 / 32 → inAny index entries z ≡ true

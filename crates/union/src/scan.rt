@@ -7,8 +7,11 @@ ghost use Rattle.merge.specs.Request.{SoundRequest, listsOf};
 ghost use Rattle.merge.specs.Put.{Fitting, PutWhere, upTo};
 ghost use Rattle.list.specs.Answer.{HasRoom, Sweeps};
 ghost use Rattle.union.specs.Scan.{lowerFrom};
+use limits::JOIN_MAX;
 use list::answer::Tally;
 use list::reading::Interval;
+use merge::keys::BOUND;
+use merge::keys::LISTS;
 use merge::keys::fill;
 use merge::keys::refill;
 use merge::keys::to_upper;
@@ -52,7 +55,7 @@ pub fn sweep_scan(index: &[u8], entries: &[u32], writing: bool, out: &mut [u32])
     requires room { ⌜ HasRoom (unionOf (listsOf (now index) (now entries))) writing (now out) ⌝ }
     ensures { λ r. ⌜ Sweeps (unionOf (listsOf (now (index .entry)) (now (entries .entry)))) writing (now (out .entry)) (now (out .exit)) r ⌝ }
 {
-    let mut keys = [0; 16];
+    let mut keys = [0; JOIN_MAX];
     fill(index, entries, &mut keys);
     let mut size = entries.len();
     let mut places = all_at_start();
@@ -64,15 +67,15 @@ pub fn sweep_scan(index: &[u8], entries: &[u32], writing: bool, out: &mut [u32])
     let mut lower = 0;
     while 0 < size {
         let key = keys[0];
-        let j = (key % 16) as usize;
+        let j = (key % LISTS) as usize;
         let entry = entries[j] as usize;
-        if key / 16 % 2 == 0 {
-            lower = begun(count, lower, key / 32);
+        if key / LISTS % 2 == 0 {
+            lower = begun(count, lower, key / BOUND);
             count += 1;
             to_upper(index, entry, places[j], j, &mut keys, size);
         } else {
             count -= 1;
-            tally = put_closed(out, writing, tally, count, lower, key / 32);
+            tally = put_closed(out, writing, tally, count, lower, key / BOUND);
             places = moved_on(index, entry, places, j);
             size = refill(index, entry, places[j], j, &mut keys, size);
         }

@@ -10,6 +10,7 @@ use lib.ListN.{length, getD, drop}
 use borrow.Author.Tests.{eqb-true, eqb-false, ltb-true, ltb-false, lt-ltb, le-ltb, eq-eqb, ne-eqb, le-leb, lt-leb}
 use Rattle.laws.proofs.Tests.{true-false, and-both, both-and, or-either, by-test}
 use Rattle.laws.proofs.Lists.{drop-next, drop-none}
+use Rattle.limits.specs.Limits.{wordMax}
 use Rattle.word.specs.declared.Operator.{Operator}
 use Rattle.word.specs.declared.Operator.the-variants.{And, Or, Not, Neither}
 use Rattle.word.specs.declared.Order.{Order}
@@ -253,14 +254,14 @@ pub word-short : (w : List ℕ) → length w < 1 → isWord w ≡ false
 unfolding isWord
 word-short w h = rw (lt-leb 1 (length w) h)
 
-pub word-long : (w : List ℕ) → 32 < length w → isWord w ≡ false
+pub word-long : (w : List ℕ) → wordMax < length w → isWord w ≡ false
 unfolding isWord
-word-long w h = rw (le-leb 1 (length w) (omega arith), lt-leb (length w) 32 h)
+word-long w h = rw (le-leb 1 (length w) (omega arith), lt-leb (length w) wordMax h)
 
-pub word-bytes-fail : (w : List ℕ) → 1 ≤ length w → length w ≤ 32 → allWordBytes w ≡ false → isWord w ≡ false
+pub word-bytes-fail : (w : List ℕ) → 1 ≤ length w → length w ≤ wordMax → allWordBytes w ≡ false → isWord w ≡ false
 unfolding isWord
-word-bytes-fail w h k e = rw (le-leb 1 (length w) h, le-leb (length w) 32 k, e)
+word-bytes-fail w h k e = rw (le-leb 1 (length w) h, le-leb (length w) wordMax k, e)
 
-pub word-else : (w : List ℕ) → 1 ≤ length w → length w ≤ 32 → allWordBytes w ≡ true → isWord w ≡ not (isOperator w)
+pub word-else : (w : List ℕ) → 1 ≤ length w → length w ≤ wordMax → allWordBytes w ≡ true → isWord w ≡ not (isOperator w)
 unfolding isWord
-word-else w h k e = rw (le-leb 1 (length w) h, le-leb (length w) 32 k, e)
+word-else w h k e = rw (le-leb 1 (length w) h, le-leb (length w) wordMax k, e)

@@ -5,7 +5,8 @@ use native.Mathlib.Omega.{arith}
 use lib.ListN.{length, drop}
 use denote.Ref.{now}
 use borrow.Author.Needs.{needs}
-use Rattle.list.specs.Interval.{top, intervals}
+use Rattle.limits.specs.Limits.{recordMax}
+use Rattle.list.specs.Interval.{intervals}
 use Rattle.list.specs.Among.{among}
 use Rattle.list.proofs.StretchLaws.{cells-proper-from}
 use Rattle.convert.specs.Convert.{intervalsOf}
@@ -20,7 +21,7 @@ use Rattle.build.proofs.size.count_kept.Tie as tie
 abbrev Inv-loop : tie.InvT-loop
 Inv-loop numbers upper₀ begins₀ n₀ pairs₀ i₀ upper begins n pairs i =
     (i ≤ length numbers)
-    × (upper ≤ top)
+    × (upper ≤ recordMax)
     × (begins ≤ 1)
     × (n + pairs ≤ i)
     × (pairs + begins ≤ n)
@@ -34,7 +35,7 @@ returns : tie.Need-returns Inv-loop μ-loop
 returns c =
     let start = c .before .before in
     let xs = now (start .args .numbers) in
-    let e = sym (runs-cells top xs (start .pre)) ∙ runs-none xs (c .if1 .taken) in
+    let e = sym (runs-cells recordMax xs (start .pre)) ∙ runs-none xs (c .if1 .taken) in
     record { singles = rw e (sym (none-kept .0)); pairs = rw e (sym (none-kept .1)); most = omega arith }
 
 loop-holds : tie.Need-loop-holds Inv-loop μ-loop
@@ -42,7 +43,7 @@ loop-holds c =
     let start = c .before .before .before in
     let xs = now (start .args .numbers) in
     let some : 0 < length xs = omega arith in
-    (omega arith, good-number-small top xs (start .pre) 0 some, omega arith, omega arith, omega arith, runs-count xs some, omega (arith, runs-pairs xs some))
+    (omega arith, good-number-small recordMax xs (start .pre) 0 some, omega arith, omega arith, omega arith, runs-count xs some, omega (arith, runs-pairs xs some))
 
 loop-again : tie.Need-loop-again Inv-loop μ-loop
 loop-again c =
@@ -54,7 +55,7 @@ loop-again c =
     let on = c .goes-on .ensures in
     let next = rw (← apart .0) at (pairs-at (at .begins) (at .upper) xs (at .i) some) in (
       omega arith,
-      good-number-small top xs (start .pre) (at .i) some,
+      good-number-small recordMax xs (start .pre) (at .i) some,
       apart .1,
       omega (arith, at .inv .3, on .1 .1),
       omega (arith, at .inv .4, on .1 .0),
@@ -67,10 +68,10 @@ returns-2 c =
     let at = c .before .loop in
     let start = c .before .before .before .before .before in
     let xs = now (start .args .numbers) in
-    let e = runs-cells top xs (start .pre) in
+    let e = runs-cells recordMax xs (start .pre) in
     let n = rw e at (at .inv .5) in
     let pairs = rw e at (at .inv .6) in
-    let both = cells-count top 1 (intervalsOf xs) (cells-proper-from (among xs) top top (omega arith)) in
+    let both = cells-count recordMax 1 (intervalsOf xs) (cells-proper-from (among xs) recordMax recordMax (omega arith)) in
     let none = breaks-end (at .upper) xs (at .i) (c .loop-test .left) in
     let no-more = pairs-end (at .begins) (at .upper) xs (at .i) (c .loop-test .left) in
     record { singles = omega arith; pairs = omega arith; most = omega arith }

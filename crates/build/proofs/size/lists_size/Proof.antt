@@ -6,7 +6,7 @@ use mathlib.Core.List.{List}
 use lib.ListN.{length, drop, getD, take}
 use denote.Ref.{now}
 use borrow.Author.Needs.{needs}
-use Rattle.list.specs.Interval.{top}
+use Rattle.limits.specs.Limits.{recordMax}
 use Rattle.convert.specs.Convert.{intervalsOf}
 use Rattle.build.specs.Lent.{sumTo, listsFrom}
 use Rattle.build.specs.Layout.{listsBytes}
@@ -22,7 +22,7 @@ Inv-loop counts numbers size₀ start₀ i₀ size start i =
     × (start ≡ sumTo counts i)
     × (start ≤ length numbers)
     × (size ≤ 4 * start)
-    × (length (listsBytes top (listsFrom counts numbers)) ≡ size + length (listsBytes top (listsFrom (drop i counts) (drop start numbers))))
+    × (length (listsBytes recordMax (listsFrom counts numbers)) ≡ size + length (listsBytes recordMax (listsFrom (drop i counts) (drop start numbers))))
 
 abbrev μ-loop : tie.MeasureT-loop
 μ-loop counts numbers size₀ start₀ i₀ size start i = length counts - i
@@ -65,8 +65,8 @@ loop-again c =
     let n = c .before .before .before .before in
     let at = n .before .loop in
     let kept = c .before .count-kept .ensures in
-    let next = ap (λ (xss : List (List ℕ)). length (listsBytes top xss)) (lists-next (counts n) (numbers n) (at .i) (at .start) (n .loop-test .taken) refl) in
-    let bytes = lists-bytes-next top (list n) (listsFrom (drop (at .i + 1) (counts n)) (drop (end n) (numbers n))) in (
+    let next = ap (λ (xss : List (List ℕ)). length (listsBytes recordMax xss)) (lists-next (counts n) (numbers n) (at .i) (at .start) (n .loop-test .taken) refl) in
+    let bytes = lists-bytes-next recordMax (list n) (listsFrom (drop (at .i + 1) (counts n)) (drop (end n) (numbers n))) in (
       search needs,
       omega (arith, sum-next (counts n) (at .i)),
       omega (arith, within n),
@@ -80,8 +80,8 @@ returns c =
     let start = c .before .before .before .before in
     let counts = now (start .args .counts) in
     let numbers = now (start .args .numbers) in
-    let none = ap (λ (xss : List (List ℕ)). length (listsBytes top xss)) (lists-none counts (drop (at .start) numbers) (at .i) (c .loop-test .left)) in
-    omega (arith, lists-bytes-none top, at .inv .4)
+    let none = ap (λ (xss : List (List ℕ)). length (listsBytes recordMax xss)) (lists-none counts (drop (at .start) numbers) (at .i) (c .loop-test .left)) in
+    omega (arith, lists-bytes-none recordMax, at .inv .4)
 
 pub lists-size-spec : {M : Type 1} → statement M
 lists-size-spec =

@@ -6,7 +6,7 @@ use mathlib.Core.List.{List, _∷_}
 use lib.ListN.{length, drop, getD}
 use denote.Ref.{now}
 use borrow.Author.Needs.{needs}
-use Rattle.list.specs.Interval.{top}
+use Rattle.limits.specs.Limits.{recordMax}
 use Rattle.convert.specs.Runs.{RunAt}
 use Rattle.convert.proofs.NumberLaws.{good-number-small}
 use Rattle.convert.proofs.RunLaws.{runsFrom, runs, runs-at, runsFrom-on, runsFrom-off, runsFrom-end, run-ended}
@@ -17,7 +17,7 @@ abbrev Inv-loop : tie.InvT-loop
 Inv-loop numbers i lower upper₀ next₀ upper next =
     (next ≤ length numbers)
     × (lower ≤ upper)
-    × (upper ≤ top)
+    × (upper ≤ recordMax)
     × (next ≡ i + (upper + 1 - lower))
     × (runs (drop i numbers) ≡ runsFrom lower upper (drop next numbers))
 
@@ -29,7 +29,7 @@ loop-holds c =
     let start = c .before in
     let xs = now (start .args .numbers) in
     let i = start .args .i in
-    (omega (arith, start .pre .1), omega arith, good-number-small top xs (start .pre .0) i (start .pre .1), omega arith, runs-at xs i (start .pre .1))
+    (omega (arith, start .pre .1), omega arith, good-number-small recordMax xs (start .pre .0) i (start .pre .1), omega arith, runs-at xs i (start .pre .1))
 
 abbrev xs : tie.At-loop Inv-loop μ-loop → List ℕ
 xs c = now (c .before .before .args .numbers)
@@ -62,7 +62,7 @@ loop-again c =
     let start = c .before .before .before .before .before in
     let xs = now (start .args .numbers) in
     let on = runsFrom-on (getD xs (start .args .i) 0) (at .upper) xs (at .next) (omega arith) (c .if1 .left) in
-    (omega arith, omega (arith, at .inv .1), good-number-small top xs (start .pre .0) (at .next) (omega arith), omega (arith, at .inv .1, at .inv .3), at .inv .4 ∙ on)
+    (omega arith, omega (arith, at .inv .1), good-number-small recordMax xs (start .pre .0) (at .next) (omega arith), omega (arith, at .inv .1, at .inv .3), at .inv .4 ∙ on)
 
 returns-2 : tie.Need-returns-2 Inv-loop μ-loop
 returns-2 c = let l = c .before in ended l (runsFrom-end (lower l) (l .loop .upper) (xs l) (l .loop .next) (c .loop-test .left))

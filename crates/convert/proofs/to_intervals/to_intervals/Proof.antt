@@ -4,7 +4,7 @@ use native.Mathlib.Omega.{arith}
 use denote.Ref.{now}
 use borrow.Author.Tests.{le-leb, lt-leb}
 use borrow.Author.Needs.{needs}
-use Rattle.list.specs.Interval.{top}
+use Rattle.limits.specs.Limits.{recordMax}
 use Rattle.list.specs.Among.{among}
 use Rattle.list.proofs.StretchLaws.{cells-even}
 use Rattle.refusal.specs.declared.Found.the-variants.{Nowhere}
@@ -33,7 +33,7 @@ write-intervals-requires : tie.Need-write-intervals-requires
 write-intervals-requires c κs =
     let told = c .before .before .before in
     let xs = now (told .before .before .before .before .before .args .numbers) in
-    (good told, omega (arith, cells-even (among xs) top, c .before .before .count-intervals .ensures))
+    (good told, omega (arith, cells-even (among xs) recordMax, c .before .before .count-intervals .ensures))
 
 returns-3 : tie.Need-returns-3
 returns-3 c =

@@ -5,7 +5,8 @@ use native.Mathlib.Omega.{arith}
 use lib.ListN.{length, drop}
 use denote.Ref.{now}
 use borrow.Author.Needs.{needs}
-use Rattle.list.specs.Interval.{top, records}
+use Rattle.limits.specs.Limits.{recordMax}
+use Rattle.list.specs.Interval.{records}
 use Rattle.list.proofs.ProperLaws.{ProperFrom}
 use Rattle.convert.proofs.IntervalLaws.{Next, good-proper, good-proper-from, proper-next, next-rest}
 use Rattle.convert.proofs.SpanLaws.{records-at, records-end, records-small}
@@ -14,7 +15,7 @@ use Rattle.convert.proofs.to_numbers.count_numbers.Tie as tie
 
 abbrev Inv-loop : tie.InvT-loop
 Inv-loop cells n₀ i₀ n i =
-    (i ≤ length cells) × ProperFrom top 0 (drop i cells) × (n + records (drop i cells) ≡ records cells) × (records cells ≤ top)
+    (i ≤ length cells) × ProperFrom recordMax 0 (drop i cells) × (n + records (drop i cells) ≡ records cells) × (records cells ≤ recordMax)
 
 abbrev μ-loop : tie.MeasureT-loop
 μ-loop cells n₀ i₀ n i = length cells - i
@@ -22,10 +23,10 @@ abbrev μ-loop : tie.MeasureT-loop
 loop-holds : tie.Need-loop-holds Inv-loop μ-loop
 loop-holds c =
     let cells = now (c .args .cells) in
-    (search needs, good-proper-from cells (c .pre), omega arith, records-small top cells (good-proper cells (c .pre)))
+    (search needs, good-proper-from cells (c .pre), omega arith, records-small recordMax cells (good-proper cells (c .pre)))
 
 -- the interval of the turn
-next : (c : tie.In-loop Inv-loop μ-loop) → Next top 0 (c .before .loop .i) (now (c .before .before .args .cells))
+next : (c : tie.In-loop Inv-loop μ-loop) → Next recordMax 0 (c .before .loop .i) (now (c .before .before .args .cells))
 next c = proper-next (omega arith) (c .before .loop .inv .1)
 
 loop-again : tie.Need-loop-again Inv-loop μ-loop

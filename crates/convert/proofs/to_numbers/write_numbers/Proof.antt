@@ -8,7 +8,8 @@ use lib.Seq.{sets, length-sets}
 use denote.Ref.{now}
 use borrow.Author.Needs.{needs}
 use Rattle.laws.proofs.Lists.{sets-front}
-use Rattle.list.specs.Interval.{top, records}
+use Rattle.limits.specs.Limits.{recordMax}
+use Rattle.list.specs.Interval.{records}
 use Rattle.list.proofs.ProperLaws.{ProperFrom}
 use Rattle.convert.specs.Front.{inFront}
 use Rattle.convert.proofs.IntervalLaws.{Next, good-proper, good-proper-from, proper-next, next-rest}
@@ -19,7 +20,7 @@ use Rattle.convert.proofs.to_numbers.write_numbers.Tie as tie
 abbrev Inv-loop : tie.InvT-loop
 Inv-loop cells out₀ k₀ i₀ out k i =
     (i ≤ length cells)
-    × ProperFrom top 0 (drop i cells)
+    × ProperFrom recordMax 0 (drop i cells)
     × (length out ≡ length out₀)
     × (k + records (drop i cells) ≤ length out)
     × (sets out₀ 0 (spans cells) ≡ sets out k (spans (drop i cells)))
@@ -33,7 +34,7 @@ loop-holds c =
     (search needs, good-proper-from (now (start .args .cells)) (start .pre .0), refl, omega (arith, start .pre .1), refl)
 
 -- the interval of the turn
-next : (c : tie.In-loop Inv-loop μ-loop) → Next top 0 (c .before .loop .i) (now (c .before .before .before .before .args .cells))
+next : (c : tie.In-loop Inv-loop μ-loop) → Next recordMax 0 (c .before .loop .i) (now (c .before .before .before .before .args .cells))
 next c = proper-next (omega arith) (c .before .loop .inv .1)
 
 write-range-requires : tie.Need-write-range-requires Inv-loop μ-loop
@@ -67,7 +68,7 @@ returns c =
     let e = spans-end cells (at .loop .i) (c .loop-test .left) in
     sym (at .loop .inv .4 ∙ ap (sets (at .loop .out) (at .loop .k)) e)
     ∙ sets-front (spans cells) out (omega (arith, spans-length cells, start .pre .1))
-    ∙ ap (λ (numbers : List ℕ). inFront numbers out) (spans-records top cells (good-proper cells (start .pre .0)))
+    ∙ ap (λ (numbers : List ℕ). inFront numbers out) (spans-records recordMax cells (good-proper cells (start .pre .0)))
 
 pub write-numbers-spec : {M : Type 1} → statement M
 write-numbers-spec =

@@ -6,7 +6,7 @@ use native.Mathlib.Omega.{arith}
 use denote.Ref.{now}
 use lib.ListN.{length, getD}
 use borrow.Author.Needs.{needs}
-use Rattle.list.specs.Interval.{top}
+use Rattle.limits.specs.Limits.{recordMax}
 use Rattle.list.specs.Kept.{start}
 use Rattle.merge.specs.Places.{usedUp}
 use Rattle.merge.specs.Request.{SoundRequest}
@@ -68,7 +68,7 @@ Roomy = tie.After-with-room Inv-loop μ-loop
 
 largest : (c : Roomy) → let i = c .before .before in
     Largest (now (begin i .args .index)) (now (begin i .args .entries)) (λ k. getD (i .loop .places) k start) (length (now (begin i .args .entries)))
-    (top + 1 - getD (c .with-room .last .1 .1 .1 .0) 0 0)
+    (recordMax + 1 - getD (c .with-room .last .1 .1 .1 .0) 0 0)
 largest c = let i = c .before .before in let room = c .with-room .ensures in turn-largest (asked i) (i .loop .inv .0) (room .0) (room .1 .0) (room .1 .1)
 
 -- the list has moved on
@@ -88,7 +88,7 @@ goes-on c = sym (c .before .used-up .ensures) ∙ c .if1 .left
 
 -- or it is, and all is swept
 swept : (c : tie.Then1 Inv-loop μ-loop) → let a = begin (turn (c .before)) .args in let put = c .before .before .before .before .before .before .put-overlap in
-    Tallied (inAll (now (a .index)) (now (a .entries))) (a .writing) (now (a .out)) (put .last .0) (put .result) (top + 1)
+    Tallied (inAll (now (a .index)) (now (a .entries))) (a .writing) (now (a .out)) (put .last .0) (put .result) (recordMax + 1)
 swept c =
     let i = turn (c .before) in
     turn-end (asked i) (i .loop .inv .0) (c .before .before .before .moved-on .ensures) (largest (roomy (c .before)))
@@ -136,7 +136,7 @@ next-bounds : (c : tie.Else1 Inv-loop μ-loop) → let i = turn (c .before) in l
     let at = getD (c .before .before .before .moved-on .result) (j i) start in
     (1 ≤ nextLower (now (a .index)) (now (a .entries)) (j i) at)
     × (nextLower (now (a .index)) (now (a .entries)) (j i) at ≤ nextUpper (now (a .index)) (now (a .entries)) (j i) at)
-    × (nextUpper (now (a .index)) (now (a .entries)) (j i) at ≤ top)
+    × (nextUpper (now (a .index)) (now (a .entries)) (j i) at ≤ recordMax)
 next-bounds c = let i = turn (c .before) in turn-next-bounds (asked i) (i .loop .inv .0) (c .before .before .before .moved-on .ensures) (goes-on c)
 
 next-interval-requires : tie.Need-next-interval-requires Inv-loop μ-loop
