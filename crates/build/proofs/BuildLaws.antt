@@ -10,7 +10,7 @@ use lib.Seq.{take-at, drop-at}
 use borrow.Author.Tests.{ltb-false}
 use Rattle.limits.specs.Limits.{indexMax}
 use Rattle.refusal.specs.declared.Refusal.{Refusal}
-use Rattle.refusal.specs.declared.Refusal.the-variants.{BuildLimit, Room}
+use Rattle.refusal.specs.declared.Refusal.the-variants.{BuildSize, Room}
 use Rattle.list.specs.declared.Written.{Written}
 use Rattle.list.specs.declared.Written.the-variants.{Wrote, Refused}
 use Rattle.list.specs.Among.{among}
@@ -37,8 +37,8 @@ use Rattle.build.proofs.GoodLaws.{EachGood, each-good, lent-good, good-
 never : {A : Type 0} (r : Refusal) (size : ℕ) → Refused r ≡ Wrote size → A
 never r size e = absurd (let z : _≡_ {A = ℕ} 0 1 = cc in omega arith)
 
-size-step : (large fits : Bool) (a size : ℕ) → cond large (Refused (BuildLimit 1)) (cond fits (Wrote a) (Refused (Room a))) ≡ Wrote size → (large ≡ false) × (a ≡ size)
-size-step true fits a size e = never (BuildLimit 1) size e
+size-step : (large fits : Bool) (a size : ℕ) → cond large (Refused (BuildSize 1)) (cond fits (Wrote a) (Refused (Room a))) ≡ Wrote size → (large ≡ false) × (a ≡ size)
+size-step true fits a size e = never (BuildSize 1) size e
 size-step false true a size e = (refl, cc)
 size-step false false a size e = never (Room a) size e
 

@@ -13,7 +13,7 @@ use Rattle.limits.specs.Limits.{indexMax, recordMax, wordsMax}
 use Rattle.refusal.specs.declared.Found.{Found}
 use Rattle.refusal.specs.declared.Found.the-variants.{At, Nowhere}
 use Rattle.refusal.specs.declared.Refusal.{Refusal}
-use Rattle.refusal.specs.declared.Refusal.the-variants.{BuildWord, BuildCount, BuildLimit, Number, Room}
+use Rattle.refusal.specs.declared.Refusal.the-variants.{BuildWord, BuildCount, BuildSize, Number, Room}
 use Rattle.refusal.specs.First.{first}
 use Rattle.refusal.proofs.FirstLaws.{first-none}
 use Rattle.list.specs.declared.Written.the-variants as written
@@ -58,7 +58,7 @@ fair-counts counts total words e =
 -- ---- the check's answer
 
 module _ (n : ℕ) (words counts numbers : List ℕ) where
-  pub refused-limit : recordMax < n → lentOf n words counts numbers ≡ Refused (BuildLimit 0)
+  pub refused-limit : recordMax < n → lentOf n words counts numbers ≡ Refused (BuildSize 0)
   unfolding lentOf
   refused-limit h = rw (lt-ltb recordMax n h)
 
@@ -104,7 +104,7 @@ unfolding lentOf
 each-good {n} {words} {counts} {numbers} e =
     let k = length (lentWords words) in
     let total = length numbers in
-    let a = cond-good (ltb recordMax n) (BuildLimit 0) _ e in
+    let a = cond-good (ltb recordMax n) (BuildSize 0) _ e in
     let b = then-good BuildWord (badWords words) _ (a .1) in
     let c = then-good BuildCount (badCounts words counts numbers) _ (b .1) in
     let d = then-good Number (badNumbers n words counts numbers) _ (c .1) in
@@ -164,7 +164,7 @@ module _ {n : ℕ} {words counts numbers : List ℕ} (is : GoodLent n words coun
   abbrev index : List ℕ
   index = indexFrom n words counts numbers
 
-  pub build-large : {out : List ℕ} → indexMax < length index → Builds n words counts numbers out out (written.Refused (BuildLimit 1))
+  pub build-large : {out : List ℕ} → indexMax < length index → Builds n words counts numbers out out (written.Refused (BuildSize 1))
   unfolding buildOf
   build-large h = let large = lt-ltb indexMax (length index) h in record { answer = rw (is .good, large); bytes = rw (is .good, large) }
 

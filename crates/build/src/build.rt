@@ -20,7 +20,7 @@ fn check_lent(n: u32, words: &[u8], counts: &[u32], numbers: &[u32]) -> Checked
     ensures { λ r. ⌜ r ≡ lentOf n (now (words .entry)) (now (counts .entry)) (now (numbers .entry)) ⌝ }
 {
     if n > RECORD_MAX {
-        return Checked::Refused(Refusal::BuildLimit(0));
+        return Checked::Refused(Refusal::BuildSize(0));
     }
     match check_words(words) {
         Words::Bad(i) => Checked::Refused(Refusal::BuildWord(i)),
@@ -41,11 +41,11 @@ fn build_checked(n: u32, words: &[u8], counts: &[u32], numbers: &[u32], out: &mu
 {
     let lists = lists_size(counts, numbers);
     if lists > INDEX_MAX {
-        return Written::Refused(Refusal::BuildLimit(1));
+        return Written::Refused(Refusal::BuildSize(1));
     }
     let size = lists + (words.len() - counts.len()) + 20 * counts.len() + 20;
     if size > INDEX_MAX {
-        return Written::Refused(Refusal::BuildLimit(1));
+        return Written::Refused(Refusal::BuildSize(1));
     }
     if out.len() < size {
         return Written::Refused(Refusal::Room(size));

@@ -8,7 +8,7 @@ use borrow.Author.Tests.{ltb-true, ltb-false, lt-ltb, le-ltb}
 use Rattle.laws.proofs.Tests.{or-neither}
 use Rattle.limits.specs.Limits.{recordMax}
 use Rattle.refusal.specs.declared.Refusal.{Refusal}
-use Rattle.refusal.specs.declared.Refusal.the-variants.{EntryNumber, ProbeRange, Missing}
+use Rattle.refusal.specs.declared.Refusal.the-variants.{EntryNumber, ProbeRange, NoWord}
 use Rattle.refusal.specs.declared.Found.the-variants.{At, Nowhere}
 use Rattle.refusal.specs.First.{first}
 use Rattle.word.specs.Word.{same}
@@ -35,7 +35,7 @@ module _ (index word : List ℕ) where
   unfolding lookupOf
   lookup-found i e f = rw (e, f)
 
-  pub lookup-missing : checkOf index ≡ Good → first (λ j. same (wordOf index j) word) (wordCount index) ≡ Nowhere → lookupOf index word ≡ NoEntry Missing
+  pub lookup-missing : checkOf index ≡ Good → first (λ j. same (wordOf index j) word) (wordCount index) ≡ Nowhere → lookupOf index word ≡ NoEntry NoWord
   unfolding lookupOf
   lookup-missing e f = rw (e, f)
 

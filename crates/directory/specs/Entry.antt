@@ -6,7 +6,7 @@ use lib.Dec.{eqb, ltb}
 use Rattle.limits.specs.Limits.{recordMax}
 use Rattle.refusal.specs.declared.Found.{Found}
 use Rattle.refusal.specs.declared.Found.the-variants.{At, Nowhere}
-use Rattle.refusal.specs.declared.Refusal.the-variants.{EntryNumber, ProbeRange, Missing}
+use Rattle.refusal.specs.declared.Refusal.the-variants.{EntryNumber, ProbeRange, NoWord}
 use Rattle.refusal.specs.First.{first}
 use Rattle.word.specs.Word.{same}
 use Rattle.list.specs.Ginix.{belowCount, overlapCount}
@@ -23,7 +23,7 @@ use Rattle.directory.specs.declared.Probed.the-variants.{Counted, NoCoun
 -- Reference 8.2: the entry, or 21 behind the check
 abbrev pub foundAnswer : Found → Lookup
 foundAnswer (At i) = Entry i
-foundAnswer Nowhere = NoEntry Missing
+foundAnswer Nowhere = NoEntry NoWord
 
 abbrev pub lookupAfter : Checked → Found → Lookup
 lookupAfter (Refused r) found = NoEntry r

@@ -75,7 +75,7 @@ pub fn look_up(index: &[u8], word: &[u8]) -> Lookup
         Checked::Refused(refusal) => Lookup::NoEntry(refusal),
         Checked::Good => match find_word(index, word) {
             Found::At(i) => Lookup::Entry(i),
-            Found::Nowhere => Lookup::NoEntry(Refusal::Missing),
+            Found::Nowhere => Lookup::NoEntry(Refusal::NoWord),
         },
     }
 }

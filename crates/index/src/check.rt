@@ -150,9 +150,9 @@ fn check_entries(index: &[u8], trailer: Trailer) -> Checked
     ensures { λ r. ⌜ r ≡ contentsOf (now (index .entry)) ⌝ }
 {
     match first_bad_entry(index, trailer) {
-        Found::At(i) => Checked::Refused(Refusal::Directory(i)),
+        Found::At(i) => Checked::Refused(Refusal::IndexEntry(i)),
         Found::Nowhere => match first_bad_list(index, trailer) {
-            Found::At(i) => Checked::Refused(Refusal::KeptList(i)),
+            Found::At(i) => Checked::Refused(Refusal::IndexList(i)),
             Found::Nowhere => Checked::Good,
         },
     }
@@ -171,10 +171,10 @@ pub fn check_index(index: &[u8]) -> Checked
     }
     let trailer = read_trailer(index);
     if trailer.edition != 1 {
-        return Checked::Refused(Refusal::Edition(trailer.edition));
+        return Checked::Refused(Refusal::IndexEdition(trailer.edition));
     }
     if !trailer_good(index, trailer) {
-        return Checked::Refused(Refusal::Trailer);
+        return Checked::Refused(Refusal::IndexTrailer);
     }
     check_entries(index, trailer)
 }

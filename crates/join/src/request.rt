@@ -36,10 +36,10 @@ fn check_entries(index: &[u8], entries: &[u32]) -> Checked
 {
     let count = entries.len();
     if count == 0 {
-        return Checked::Refused(Refusal::ListCount(count));
+        return Checked::Refused(Refusal::Lists(count));
     }
     if JOIN_MAX < count {
-        return Checked::Refused(Refusal::ListCount(count));
+        return Checked::Refused(Refusal::Lists(count));
     }
     match first_bad_number(index, entries) {
         Found::At(i) => Checked::Refused(Refusal::EntryNumber(i)),

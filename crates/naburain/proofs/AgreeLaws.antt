@@ -19,26 +19,26 @@ use Rattle.naburain.specs.Agree.{Reported}
 -- 0 is the number of no refusal, so that a caller tells an answer by it
 pub number-above-zero : (r : Refusal) → 0 < numberOf r
 number-above-zero (refusal.IndexLength n) = omega arith
-number-above-zero (refusal.Edition e) = omega arith
-number-above-zero refusal.Trailer = omega arith
-number-above-zero (refusal.Directory i) = omega arith
-number-above-zero (refusal.KeptList i) = omega arith
+number-above-zero (refusal.IndexEdition e) = omega arith
+number-above-zero refusal.IndexTrailer = omega arith
+number-above-zero (refusal.IndexEntry i) = omega arith
+number-above-zero (refusal.IndexList i) = omega arith
 number-above-zero (refusal.QuestionLength n) = omega arith
 number-above-zero (refusal.QuestionByte i) = omega arith
-number-above-zero (refusal.LongWord i) = omega arith
+number-above-zero (refusal.QuestionWord i) = omega arith
 number-above-zero (refusal.Grammar i) = omega arith
-number-above-zero (refusal.WordLimit i) = omega arith
-number-above-zero (refusal.BracketLimit i) = omega arith
+number-above-zero (refusal.Words i) = omega arith
+number-above-zero (refusal.Brackets i) = omega arith
 number-above-zero (refusal.Room n) = omega arith
-number-above-zero (refusal.ListCount n) = omega arith
+number-above-zero (refusal.Lists n) = omega arith
 number-above-zero (refusal.EntryNumber i) = omega arith
 number-above-zero (refusal.Number i) = omega arith
 number-above-zero (refusal.Interval i) = omega arith
 number-above-zero (refusal.BuildWord i) = omega arith
 number-above-zero (refusal.BuildCount i) = omega arith
-number-above-zero (refusal.BuildLimit i) = omega arith
+number-above-zero (refusal.BuildSize i) = omega arith
 number-above-zero refusal.ProbeRange = omega arith
-number-above-zero refusal.Missing = omega arith
+number-above-zero refusal.NoWord = omega arith
 
 -- by what the index and the number are refused by, if anything
 agree-at : (index : Slice) (i : ℕ) (k : Checked) → entryCheck (index .bytes) i ≡ k →

@@ -5,7 +5,7 @@ use mathlib.Core.Path.{_≡_, refl, sym, ap, _∙_}
 use mathlib.Core.List.{List, [], _∷_, _++_}
 use lib.ListN.{length, getD}
 use Rattle.laws.proofs.Tests.{true-false}
-use Rattle.refusal.specs.declared.Refusal.the-variants.{Grammar, Missing}
+use Rattle.refusal.specs.declared.Refusal.the-variants.{Grammar, NoWord}
 use Rattle.refusal.specs.Refusal.{valueOf}
 use Rattle.list.specs.declared.answer.Answer.{Answer}
 use Rattle.list.specs.declared.answer.Answer.the-variants.{Listed, Refused}
@@ -91,7 +91,7 @@ p6-place = not-answer (row-right table 5 (omega arith) table-right) (λ e. let z
     value (Refused r) = valueOf r
 
 -- a word that no record has, refused
-pub p7-refused : Right (line pier (Refused Missing) lent) → ⊥
+pub p7-refused : Right (line pier (Refused NoWord) lent) → ⊥
 p7-refused = not-answer (row-right table 6 (omega arith) table-right) (λ e. true-false (sym (ap answerRefused e)))
 
 -- intervals that touch left apart

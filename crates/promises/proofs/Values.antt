@@ -3,7 +3,7 @@ use mathlib.Core.Path.{_≡_, refl}
 use mathlib.Core.Bool.{true, false}
 use mathlib.Core.List.{[], _∷_, _++_}
 use mathlib.Core.Option.{none, some}
-use Rattle.refusal.specs.declared.Refusal.the-variants.{Grammar, Room, Number, ProbeRange, Missing}
+use Rattle.refusal.specs.declared.Refusal.the-variants.{Grammar, Room, Number, ProbeRange, NoWord}
 use Rattle.word.specs.Word.{isWordByte, same, isAnd, isOr, isNot, operatorOf}
 use Rattle.list.specs.declared.Written.the-variants as written
 use Rattle.list.specs.declared.answer.Answer.the-variants as answer
@@ -51,8 +51,8 @@ answers-told = (refl, refl, refl, refl, refl, refl, refl)
 pub refusals-told :
     (writtenRefused (written.Refused (Room 0)) ≡ true)
     × (answerRefused (answer.Refused (Room 0)) ≡ true)
-    × (checkRefused (checked.Refused Missing) ≡ true)
-    × (lookupRefused (NoEntry Missing) ≡ true)
+    × (checkRefused (checked.Refused NoWord) ≡ true)
+    × (lookupRefused (NoEntry NoWord) ≡ true)
     × (wordRefused [] ≡ true)
     × (probeRefused (NoCount ProbeRange) ≡ true)
     × (readingRefused (reading.Refused (Grammar 0)) ≡ true)

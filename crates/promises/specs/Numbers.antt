@@ -6,26 +6,26 @@ use lib.ListN.{getD}
 use Rattle.refusal.specs.declared.Refusal.{Refusal}
 use Rattle.refusal.specs.declared.Refusal.the-variants.{
   IndexLength,
-  Edition,
-  Trailer,
-  Directory,
-  KeptList,
+  IndexEdition,
+  IndexTrailer,
+  IndexEntry,
+  IndexList,
   QuestionLength,
   QuestionByte,
-  LongWord,
+  QuestionWord,
   Grammar,
-  WordLimit,
-  BracketLimit,
+  Words,
+  Brackets,
   Room,
-  ListCount,
+  Lists,
   EntryNumber,
   Number,
   Interval,
   BuildWord,
   BuildCount,
-  BuildLimit,
+  BuildSize,
   ProbeRange,
-  Missing,
+  NoWord,
 }
 use Rattle.refusal.specs.Refusal.{numberOf, valueOf}
 
@@ -37,26 +37,26 @@ pub data Numbered : Type 0 where
 abbrev pub refusals : List Numbered
 refusals =
     carries 1 IndexLength
-    ∷ carries 2 Edition
-    ∷ zeroed 3 Trailer
-    ∷ carries 4 Directory
-    ∷ carries 5 KeptList
+    ∷ carries 2 IndexEdition
+    ∷ zeroed 3 IndexTrailer
+    ∷ carries 4 IndexEntry
+    ∷ carries 5 IndexList
     ∷ carries 6 QuestionLength
     ∷ carries 7 QuestionByte
-    ∷ carries 8 LongWord
+    ∷ carries 8 QuestionWord
     ∷ carries 9 Grammar
-    ∷ carries 10 WordLimit
-    ∷ carries 11 BracketLimit
+    ∷ carries 10 Words
+    ∷ carries 11 Brackets
     ∷ carries 12 Room
-    ∷ carries 13 ListCount
+    ∷ carries 13 Lists
     ∷ carries 14 EntryNumber
     ∷ carries 15 Number
     ∷ carries 16 Interval
     ∷ carries 17 BuildWord
     ∷ carries 18 BuildCount
-    ∷ carries 19 BuildLimit
+    ∷ carries 19 BuildSize
     ∷ zeroed 20 ProbeRange
-    ∷ zeroed 21 Missing
+    ∷ zeroed 21 NoWord
     ∷ []
 
 -- Reference 9.1: the numbers that the rows give
@@ -82,4 +82,4 @@ made (zeroed n refusal) value = refusal
 pub record AllNumbered (rows : List Numbered) : Type 0 where
   pub right : RowsRight rows
   pub ordered : numbersIn rows ≡ 1 ∷ 2 ∷ 3 ∷ 4 ∷ 5 ∷ 6 ∷ 7 ∷ 8 ∷ 9 ∷ 10 ∷ 11 ∷ 12 ∷ 13 ∷ 14 ∷ 15 ∷ 16 ∷ 17 ∷ 18 ∷ 19 ∷ 20 ∷ 21 ∷ []
-  pub complete : (r : Refusal) → made (getD rows (numberOf r - 1) (zeroed 0 Missing)) (valueOf r) ≡ r
+  pub complete : (r : Refusal) → made (getD rows (numberOf r - 1) (zeroed 0 NoWord)) (valueOf r) ≡ r

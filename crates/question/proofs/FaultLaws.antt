@@ -10,7 +10,7 @@ use borrow.Author.Tests.{lt-ltb, le-ltb}
 use Rattle.word.specs.Word.{isWordByte}
 use Rattle.refusal.specs.First.{firstFrom, first}
 use Rattle.refusal.specs.declared.Found.the-variants.{At, Nowhere}
-use Rattle.refusal.specs.declared.Refusal.the-variants.{QuestionLength, QuestionByte, LongWord}
+use Rattle.refusal.specs.declared.Refusal.the-variants.{QuestionLength, QuestionByte, QuestionWord}
 use Rattle.refusal.proofs.FirstLaws.{first-hit, first-miss, first-end}
 use Rattle.question.specs.declared.reader.Reading.the-variants.{Refused}
 use Rattle.question.specs.Token.{choose, run}
@@ -77,7 +77,7 @@ module _ (s : List ℕ) where
     reading-foreign i e = rw (le-ltb 256 (length s) short, e)
 
     module _ (proper : first (foreignAt s) (length s) ≡ Nowhere) where
-      pub reading-long : (i : ℕ) → first (longAt s) (length s) ≡ At i → readingOf s ≡ Refused (LongWord i)
+      pub reading-long : (i : ℕ) → first (longAt s) (length s) ≡ At i → readingOf s ≡ Refused (QuestionWord i)
       unfolding readingOf parsed
       reading-long i e = rw (le-ltb 256 (length s) short, proper, e)
 

@@ -19,7 +19,7 @@ use Rattle.refusal.specs.Refusal.{numberOf, valueOf}
 use Rattle.refusal.specs.declared.Found.{Found}
 use Rattle.refusal.specs.declared.Found.the-variants.{At, Nowhere}
 use Rattle.refusal.specs.declared.Refusal.{Refusal}
-use Rattle.refusal.specs.declared.Refusal.the-variants.{QuestionLength, QuestionByte, LongWord, Grammar, WordLimit, BracketLimit}
+use Rattle.refusal.specs.declared.Refusal.the-variants.{QuestionLength, QuestionByte, QuestionWord, Grammar, Words, Brackets}
 use Rattle.question.specs.declared.reader.Reading.{Reading}
 use Rattle.question.specs.declared.reader.Reading.the-variants.{Accepted, Refused}
 use Rattle.question.specs.Token.{choose, Tok, tokens}
@@ -43,10 +43,10 @@ data Call (s : List ℕ) (o a : Parsed) : Type 0 where
 
 module _ (s : List ℕ) (o : Parsed) where
   call-step : (b : Bool) (f g : Found) → ltb 256 (length s) ≡ b → first (foreignAt s) (length s) ≡ f → first (longAt s) (length s) ≡ g →
-      Call s o (choose b (λ _. refuses (QuestionLength (length s))) (λ _. unless f QuestionByte (λ _. unless g LongWord (λ _. o))))
+      Call s o (choose b (λ _. refuses (QuestionLength (length s))) (λ _. unless f QuestionByte (λ _. unless g QuestionWord (λ _. o))))
   call-step true f g eb ef eg = early (QuestionLength (length s)) (omega arith) refl
   call-step false (At i) g eb ef eg = early (QuestionByte i) (omega arith) refl
-  call-step false Nowhere (At i) eb ef eg = early (LongWord i) (omega arith) refl
+  call-step false Nowhere (At i) eb ef eg = early (QuestionWord i) (omega arith) refl
   call-step false Nowhere Nowhere eb ef eg = late (record { bytes = ltb-false 256 (length s) eb; proper = ef; short = eg }) refl
 
 module _ (rule : Rule) (s : List ℕ) where
@@ -153,13 +153,13 @@ module _ (rule : Rule) (s : List ℕ) (p : ℕ) where
   unfolding refusalOf
   grammar-asked = exactly-asked rule s (Grammar p) Misplaced (omega arith) refl (λ r. (λ h. h, λ h. h))
 
-  pub word-limit-asked : Exactly (parsed rule s ≡ refuses (WordLimit p)) (StopsAt WordTooMany s p)
+  pub word-limit-asked : Exactly (parsed rule s ≡ refuses (Words p)) (StopsAt WordTooMany s p)
   unfolding refusalOf
-  word-limit-asked = exactly-asked rule s (WordLimit p) WordTooMany (omega arith) refl (word-limit-walk (tokens s))
+  word-limit-asked = exactly-asked rule s (Words p) WordTooMany (omega arith) refl (word-limit-walk (tokens s))
 
-  pub bracket-limit-asked : Exactly (parsed rule s ≡ refuses (BracketLimit p)) (StopsAt BracketTooMany s p)
+  pub bracket-limit-asked : Exactly (parsed rule s ≡ refuses (Brackets p)) (StopsAt BracketTooMany s p)
   unfolding refusalOf
-  bracket-limit-asked = exactly-asked rule s (BracketLimit p) BracketTooMany (omega arith) refl (bracket-limit-walk (tokens s))
+  bracket-limit-asked = exactly-asked rule s (Brackets p) BracketTooMany (omega arith) refl (bracket-limit-walk (tokens s))
 
 -- ---- two rules accept and refuse alike
 
@@ -180,8 +180,8 @@ unfolding parsed
 answer-any-rule rule rule′ s = go (ltb 256 (length s)) (first (foreignAt s) (length s)) (first (longAt s) (length s))
   where
     go : (b : Bool) (f g : Found) →
-        answer (choose b (λ _. refuses (QuestionLength (length s))) (λ _. unless f QuestionByte (λ _. unless g LongWord (λ _. outcome (length s) (whole rule s))))) ≡
-        answer (choose b (λ _. refuses (QuestionLength (length s))) (λ _. unless f QuestionByte (λ _. unless g LongWord (λ _. outcome (length s) (whole rule′ s)))))
+        answer (choose b (λ _. refuses (QuestionLength (length s))) (λ _. unless f QuestionByte (λ _. unless g QuestionWord (λ _. outcome (length s) (whole rule s))))) ≡
+        answer (choose b (λ _. refuses (QuestionLength (length s))) (λ _. unless f QuestionByte (λ _. unless g QuestionWord (λ _. outcome (length s) (whole rule′ s)))))
     go true f g = refl
     go false (At i) g = refl
     go false Nowhere (At i) = refl

@@ -9,7 +9,7 @@ use borrow.Author.Tests.{lt-ltb, le-ltb, eq-eqb, ne-eqb}
 use types.Run.{OneOf, miss}
 use denote.Enum.Declared.{tagOf}
 use Rattle.refusal.specs.declared.Refusal.{Refusal}
-use Rattle.refusal.specs.declared.Refusal.the-variants.{Grammar, WordLimit, BracketLimit}
+use Rattle.refusal.specs.declared.Refusal.the-variants.{Grammar, Words, Brackets}
 use Rattle.question.proofs.token.Token.{the-type}
 use Rattle.question.specs.declared.token.Op as op
 use Rattle.question.specs.declared.token.Token.{Token}
@@ -144,23 +144,23 @@ module _ {s : List ℕ} {d k at : ℕ} {t : Token} (nt : NextToken s at t) where
             (λ g le. record { got = word (cut s p q); says = rw (heads nt e, lt-ltb k 16 h) });
       }
 
-  pub operand-many : {p q : ℕ} → t ≡ Word p q → 16 ≤ k → ReadsOperand s d k at (Bad (WordLimit p))
+  pub operand-many : {p q : ℕ} → t ≡ Word p q → 16 ≤ k → ReadsOperand s d k at (Bad (Words p))
   unfolding operand refusalOf
   operand-many {p} {q} e h =
       record {
         ahead = tt;
         reads =
-            λ rule f lt. above (λ f. BadAt s (WordLimit p) (operand rule f d k (tokensAt s at))) f (2 * (length s - at)) lt
+            λ rule f lt. above (λ f. BadAt s (Words p) (operand rule f d k (tokensAt s at))) f (2 * (length s - at)) lt
             (λ g le. record { number = 10; left = headed s (Word p q); says = rw (heads nt e, le-ltb k 16 h); is = refl });
       }
 
-  pub operand-deep : {p : ℕ} → t ≡ Open p → d ≡ 0 → ReadsOperand s d k at (Bad (BracketLimit p))
+  pub operand-deep : {p : ℕ} → t ≡ Open p → d ≡ 0 → ReadsOperand s d k at (Bad (Brackets p))
   unfolding operand refusalOf
   operand-deep {p} e h =
       record {
         ahead = tt;
         reads =
-            λ rule f lt. above (λ f. BadAt s (BracketLimit p) (operand rule f d k (tokensAt s at))) f (2 * (length s - at)) lt
+            λ rule f lt. above (λ f. BadAt s (Brackets p) (operand rule f d k (tokensAt s at))) f (2 * (length s - at)) lt
             (λ g le. record { number = 11; left = headed s (Open p); says = rw (heads nt e, eq-eqb d 0 h); is = refl });
       }
 

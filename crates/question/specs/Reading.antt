@@ -11,7 +11,7 @@ use Rattle.refusal.specs.Refusal.{numberOf, valueOf}
 use Rattle.refusal.specs.declared.Found.{Found}
 use Rattle.refusal.specs.declared.Found.the-variants.{At, Nowhere}
 use Rattle.refusal.specs.declared.Refusal.{Refusal}
-use Rattle.refusal.specs.declared.Refusal.the-variants.{QuestionLength, QuestionByte, LongWord, Grammar, WordLimit, BracketLimit}
+use Rattle.refusal.specs.declared.Refusal.the-variants.{QuestionLength, QuestionByte, QuestionWord, Grammar, Words, Brackets}
 use Rattle.question.specs.declared.reader.Reading.{Reading}
 use Rattle.question.specs.declared.reader.Reading.the-variants.{Accepted, Refused}
 use Rattle.question.specs.Token.{choose, run, Tok, wordT, opT, openT, closeT, otherT}
@@ -45,7 +45,7 @@ tokenPlace len (otherT p ∷ r) = p
 -- Reference 9.1, rows 9 to 11: what is neither 10 nor 11 is 9, for the bound on the calls is never used up
 -- (`refused-number` and `never-used-up` in proofs/StopLaws.antt).
 unfoldable pub refusalOf : ℕ → ℕ → Refusal
-refusalOf number place = cond (eqb number 10) (WordLimit place) (cond (eqb number 11) (BracketLimit place) (Grammar place))
+refusalOf number place = cond (eqb number 10) (Words place) (cond (eqb number 11) (Brackets place) (Grammar place))
 
 abbrev pub outcome : ℕ → Out Tree → Parsed
 outcome len (good t r k) = parses t k
@@ -61,7 +61,7 @@ unfoldable pub parsed : Rule → List ℕ → Parsed
 parsed rule s =
     choose (ltb questionMax (length s)) (λ _. refuses (QuestionLength (length s)))
     (λ _. unless (first (foreignAt s) (length s)) QuestionByte
-    (λ _. unless (first (longAt s) (length s)) LongWord
+    (λ _. unless (first (longAt s) (length s)) QuestionWord
     (λ _. outcome (length s) (whole rule s))))
 
 -- Reference 8.10: what the call answers

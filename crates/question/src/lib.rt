@@ -21,7 +21,7 @@ pub fn read_question(question: &[u8]) -> Reading
     match faults::first_foreign(question) {
         Found::At(place) => Reading::Refused(Refusal::QuestionByte(place)),
         Found::Nowhere => match faults::first_long(question) {
-            Found::At(place) => Reading::Refused(Refusal::LongWord(place)),
+            Found::At(place) => Reading::Refused(Refusal::QuestionWord(place)),
             Found::Nowhere => reader::read_whole(question),
         },
     }

@@ -50,12 +50,12 @@ fn operand(s: &[u8], room: usize, words: usize, at: usize) -> Read
             if words < QUESTION_WORDS_MAX {
                 Read::At(end, words + 1)
             } else {
-                Read::Bad(Refusal::WordLimit(start))
+                Read::Bad(Refusal::Words(start))
             }
         }
         Token::Open(place) => {
             if room == 0 {
-                return Read::Bad(Refusal::BracketLimit(place));
+                return Read::Bad(Refusal::Brackets(place));
             }
             match question(s, room - 1, words, place + 1) {
                 Read::At(next, read) => {
