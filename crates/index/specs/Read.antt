@@ -6,19 +6,8 @@ use lib.ListN.{length}
 use Rattle.limits.specs.Limits.{indexMax, recordMax}
 use Rattle.index.specs.declared.trailer.Trailer.{Trailer}
 use Rattle.index.specs.declared.entry.Entry.{Entry}
-use Rattle.index.specs.Format.{
-  wordsStart,
-  directoryStart,
-  wordCount,
-  highest,
-  edition,
-  entrySize,
-  wordStart,
-  wordLength,
-  listStart,
-  singleCount,
-  pairCount,
-}
+use Rattle.index.specs.Format.{wordsStart, directoryStart, wordCount, highest, edition, entrySize, wordStart, wordLength, listStart}
+use Rattle.index.specs.Format.{singleCount, pairCount}
 
 pub record TrailerOf (index : List ℕ) (t : Trailer) : Type 0 where
   pub words : t .words ≡ wordsStart index

@@ -9,26 +9,8 @@ use Rattle.limits.specs.Limits.{indexMax, indexMin, recordMax, wordsMax}
 use Rattle.word.specs.Word.{before, isWord}
 use Rattle.list.specs.Cell.{numbersIn}
 use Rattle.list.specs.Kept.{isKept}
-use Rattle.index.specs.Format.{
-  wordsStart,
-  directoryStart,
-  wordCount,
-  highest,
-  edition,
-  entrySize,
-  wordStart,
-  wordLength,
-  listStart,
-  singleCount,
-  pairCount,
-  listLength,
-  wordsEnd,
-  listsEnd,
-  wordOf,
-  singlesOf,
-  lowerOf,
-  upperOf,
-}
+use Rattle.index.specs.Format.{wordsStart, directoryStart, wordCount, highest, edition, entrySize, wordStart, listStart, singleCount, pairCount}
+use Rattle.index.specs.Format.{wordsEnd, listsEnd, wordOf, singlesOf, lowerOf, upperOf}
 
 -- Reference 5.1, rule 1
 unfoldable pub badLength : List ℕ → Bool

@@ -23,23 +23,8 @@ use Rattle.merge.specs.Put.{Fitting, PutWhere}
 use Rattle.list.specs.Answer.{HasRoom, Sweeps}
 use Rattle.merge.proofs.ListsLaws.{asked-entry}
 use Rattle.merge.proofs.TallyLaws.{Tallied, Whole, tallied-start, tallied-skip, tallied-fits, tallied-put, tallied-end}
-use Rattle.merge.proofs.DueLaws.{
-  AllRead,
-  GoesAt,
-  placesOn,
-  goes-start,
-  goes-at,
-  all-read-start,
-  all-read-later,
-  next-bounds,
-  next-before,
-  next-inside,
-  next-behind,
-  quiet-used,
-  places-other,
-  on-later,
-  all-read-on,
-}
+use Rattle.merge.proofs.DueLaws.{AllRead, GoesAt, placesOn, goes-start, goes-at, all-read-start, all-read-later, next-bounds, next-before}
+use Rattle.merge.proofs.DueLaws.{next-inside, next-behind, quiet-used, places-other, on-later, all-read-on}
 use Rattle.intersection.specs.Probing.{inAll}
 use Rattle.intersection.specs.Twin.{nextLower, nextUpper, keyOf, lackOf, Standing, Frontier, Lowers}
 use Rattle.intersection.proofs.ProbingLaws.{every-out}

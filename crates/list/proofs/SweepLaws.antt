@@ -1,16 +1,16 @@
 -- A sweep over the numbers from 1 to n that counts, or writes, the list of a test interval by interval: proved once, for any test.
 use mathlib.Core.Path.{_≡_, refl, sym, ap, _∙_}
-use Prim.Native.Nat.{ℕ, zero, suc, _+_, _-_, _*_, _/_, _≤_, _<_}
+use Prim.Native.Nat.{ℕ, zero, suc, _+_, _-_, _≤_, _<_}
 use native.Mathlib.Omega.{arith}
 use native.Mathlib.Nat.{zero-add}
 use mathlib.Core.Bool.{Bool, true, false, cond}
 use mathlib.Core.List.{List, [], _∷_, _++_, append-nil, append-assoc}
 use lib.ListN.{length, drop, set, length-append}
 use lib.Seq.{sets, length-sets}
-use Rattle.laws.proofs.Tests.{true-false, leb-cases}
+use Rattle.laws.proofs.Tests.{leb-cases}
 use Rattle.laws.proofs.Lists.{sets-two, sets-front, sets-append}
-use Rattle.list.specs.Interval.{intervals, records}
-use Rattle.list.specs.Stretches.{turned, stretches, cellsOf, recordsFrom, recordsOf}
+use Rattle.list.specs.Interval.{records}
+use Rattle.list.specs.Stretches.{stretches, cellsOf, recordsFrom, recordsOf}
 use Rattle.list.proofs.StretchLaws.{cells-start, cells-length, stretches-on, stretches-end}
 use Rattle.list.proofs.RecordLaws.{recordsFrom-parts, recordsFrom-length, records-count}
 

@@ -26,7 +26,6 @@ use Rattle.merge.proofs.ListsLaws.{entry-kept, entry-some, asked-entry}
 use Rattle.merge.proofs.KeysLaws.{sum-change}
 
 -- ---- the list of one entry
-
 module _ {index : List ℕ} {i : ℕ} (n : EntryIn index i) {at : Place} (g : GoesIn index i at) where
   bounds-of : (t : Bool) → singleNext (entrySingles index i) (entryLowers index i) (at .p .0) (at .q .0) ≡ t →
       (cond t (getD (entrySingles index i) (at .p .0) 0) (getD (entryLowers index i) (at .q .0) 0) ≤ highest index)

@@ -10,19 +10,8 @@ use Rattle.list.specs.declared.answer.Tally.{Tally}
 use Rattle.list.specs.declared.reading.Interval.{Interval}
 use Rattle.list.specs.Interval.{intervals, records}
 use Rattle.list.specs.Stretches.{cellsOf}
-use Rattle.list.proofs.SweepLaws.{
-  Swept,
-  swept-start,
-  swept-cells-few,
-  swept-records-few,
-  swept-length,
-  swept-skip,
-  swept-room,
-  swept-put,
-  swept-count,
-  swept-records,
-  swept-written,
-}
+use Rattle.list.proofs.SweepLaws.{Swept, swept-start, swept-cells-few, swept-records-few, swept-length, swept-skip, swept-room, swept-put}
+use Rattle.list.proofs.SweepLaws.{swept-count, swept-records, swept-written}
 use Rattle.merge.specs.Put.{Fitting, Put}
 use Rattle.list.specs.Answer.{HasRoom, Sweeps}
 

@@ -5,29 +5,9 @@ use native.Mathlib.Omega.{arith}
 use mathlib.Core.List.{List, [], _∷_, _++_}
 use lib.ListN.{length, getD}
 use Rattle.refusal.specs.declared.Refusal.{Refusal}
-use Rattle.refusal.specs.declared.Refusal.the-variants.{
-  IndexLength,
-  IndexEdition,
-  IndexTrailer,
-  IndexEntry,
-  IndexList,
-  QuestionLength,
-  QuestionByte,
-  QuestionWord,
-  Grammar,
-  Words,
-  Brackets,
-  Room,
-  Lists,
-  EntryNumber,
-  Number,
-  Interval,
-  BuildWord,
-  BuildCount,
-  BuildSize,
-  ProbeRange,
-  NoWord,
-}
+use Rattle.refusal.specs.declared.Refusal.the-variants.{IndexLength, IndexEdition, IndexTrailer, IndexEntry, IndexList, QuestionLength, QuestionByte}
+use Rattle.refusal.specs.declared.Refusal.the-variants.{QuestionWord, Grammar, Words, Brackets, Room, Lists, EntryNumber, Number, Interval, BuildWord}
+use Rattle.refusal.specs.declared.Refusal.the-variants.{BuildCount, BuildSize, ProbeRange, NoWord}
 use Rattle.refusal.specs.Refusal.{numberOf, valueOf}
 use Rattle.promises.proofs.Rows.{_&_}
 use Rattle.promises.specs.Numbers.{Numbered, carries, zeroed, refusals, numbersIn, RowRight, RowsRight, made, AllNumbered}

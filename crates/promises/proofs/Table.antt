@@ -14,19 +14,7 @@ use Rattle.list.specs.Cell.{numbersIn}
 use Rattle.list.specs.Kept.{walkFrom, walked}
 use Rattle.list.specs.declared.answer.Answer.{Answer}
 use Rattle.list.proofs.JoinLaws.{AllProper, union-limit, intersection-limit}
-use Rattle.index.specs.Format.{
-  entryPlace,
-  wordStart,
-  wordLength,
-  listStart,
-  singleCount,
-  pairCount,
-  wordOf,
-  singlesOf,
-  lowerOf,
-  upperOf,
-  listOf,
-}
+use Rattle.index.specs.Format.{entryPlace, wordStart, wordLength, listStart, singleCount, pairCount, wordOf, singlesOf, lowerOf, upperOf, listOf}
 use Rattle.directory.specs.Has.{hasWithin, has}
 use Rattle.question.specs.Token.{run, gather, tokensAt, tokens}
 use Rattle.question.specs.Grammar.{fromLeft, question, operand, links, whole}

@@ -15,25 +15,9 @@ use Rattle.question.specs.Token.{run, gather, tokensAt, tokens}
 use Rattle.question.specs.Limits.{tokenWords}
 use Rattle.promises.specs.Example.{boats, tide, or′}
 use Rattle.promises.specs.Table.{listed}
-use Rattle.promises.specs.Wrong.{
-  writtenRefused,
-  answerRefused,
-  checkRefused,
-  lookupRefused,
-  wordRefused,
-  probeRefused,
-  readingRefused,
-  firstEntry,
-  firstWord,
-  firstBuilt,
-  intervalsIn,
-  recordsIn,
-  neededIn,
-  writtenIn,
-  neededBy,
-  belowIn,
-  overlappingIn,
-}
+use Rattle.promises.specs.Wrong.{writtenRefused, answerRefused, checkRefused, lookupRefused, wordRefused, probeRefused, readingRefused}
+use Rattle.promises.specs.Wrong.{firstEntry, firstWord, firstBuilt, intervalsIn, recordsIn, neededIn, writtenIn, neededBy, belowIn}
+use Rattle.promises.specs.Wrong.{overlappingIn}
 use Rattle.promises.specs.Made.{withIntervals, withRecords, withNeeded, withWritten, withNeededBy, withBelow, withOverlapping}
 use Rattle.promises.proofs.WrongReturns.{counted}
 

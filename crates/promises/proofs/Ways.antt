@@ -8,45 +8,11 @@ use Rattle.index.specs.Check.{checkOf}
 use Rattle.question.specs.Reading.{readingOf}
 use Rattle.promises.specs.Example.{boats, tide, or′, example}
 use Rattle.promises.specs.Table.{lent, listed, table}
-use Rattle.promises.specs.Wrong.{
-  Meets,
-  Misreporting,
-  toIntervals,
-  toNumbers,
-  joins,
-  asks,
-  builds,
-  lookup,
-  entry,
-  word,
-  probe,
-  writtenRefused,
-  answerRefused,
-  checkRefused,
-  lookupRefused,
-  partRefused,
-  probeRefused,
-  readingRefused,
-  firstEntry,
-  firstWord,
-  firstBuilt,
-  intervalsIn,
-}
-use Rattle.promises.specs.Made.{
-  rightIntervals,
-  rightNumbers,
-  rightJoin,
-  rightAsk,
-  rightBuild,
-  returning,
-  withIntervals,
-  WrongWays,
-  WrongFirst,
-  WrongCounts,
-  WrongWritten,
-  WrongRefusal,
-  WrongProbe,
-}
+use Rattle.promises.specs.Wrong.{Meets, Misreporting, toIntervals, toNumbers, joins, asks, builds, lookup, entry, word, probe, writtenRefused}
+use Rattle.promises.specs.Wrong.{answerRefused, checkRefused, lookupRefused, partRefused, probeRefused, readingRefused, firstEntry, firstWord}
+use Rattle.promises.specs.Wrong.{firstBuilt, intervalsIn}
+use Rattle.promises.specs.Made.{rightIntervals, rightNumbers, rightJoin, rightAsk, rightBuild, returning, withIntervals, WrongWays, WrongFirst}
+use Rattle.promises.specs.Made.{WrongCounts, WrongWritten, WrongRefusal, WrongProbe}
 use Rattle.promises.proofs.Made.{misreporting-kind, some-is, wrong-ways, wrong-first, wrong-counts, wrong-written, wrong-refusal, wrong-probe}
 use Rattle.promises.proofs.Table.{table-right}
 use Rattle.promises.proofs.TableLaws.{row-right}

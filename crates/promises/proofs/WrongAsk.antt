@@ -13,19 +13,7 @@ use Rattle.list.specs.Cell.{numbersIn}
 use Rattle.list.specs.Kept.{walkFrom, walked}
 use Rattle.list.specs.declared.answer.Answer.{Answer}
 use Rattle.list.specs.declared.answer.Answer.the-variants.{Refused}
-use Rattle.index.specs.Format.{
-  entryPlace,
-  wordStart,
-  wordLength,
-  listStart,
-  singleCount,
-  pairCount,
-  wordOf,
-  singlesOf,
-  lowerOf,
-  upperOf,
-  listOf,
-}
+use Rattle.index.specs.Format.{entryPlace, wordStart, wordLength, listStart, singleCount, pairCount, wordOf, singlesOf, lowerOf, upperOf, listOf}
 use Rattle.directory.specs.Has.{hasWithin, has}
 use Rattle.question.specs.Token.{run, gather, tokensAt, tokens}
 use Rattle.question.specs.Grammar.{fromLeft, question, operand, links, whole}
@@ -36,21 +24,8 @@ use Rattle.query.specs.Ask.{satisfying, Asks}
 use Rattle.promises.specs.Example.{boats, maps, tide, or′, example}
 use Rattle.promises.specs.Outcome.{OneOutcome}
 use Rattle.promises.specs.Table.{lent, listed}
-use Rattle.promises.specs.Wrong.{
-  Fails,
-  asks,
-  Refusing,
-  Fixed,
-  Silent,
-  FirstOnly,
-  Inventing,
-  Misreporting,
-  answerRefused,
-  firstWord,
-  intervalsIn,
-  recordsIn,
-  neededIn,
-}
+use Rattle.promises.specs.Wrong.{Fails, asks, Refusing, Fixed, Silent, FirstOnly, Inventing, Misreporting, answerRefused, firstWord}
+use Rattle.promises.specs.Wrong.{intervalsIn, recordsIn, neededIn}
 use Rattle.promises.proofs.Determined.{asks-determined}
 use Rattle.promises.proofs.Table.{asks-example}
 use Rattle.promises.proofs.WrongLaws.{refusing-fails, fixed-fails, silent-fails, first-fails, inventing-fails, misreporting-fails, differ-at}

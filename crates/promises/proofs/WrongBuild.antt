@@ -18,20 +18,8 @@ use Rattle.build.specs.Lent.{wordsFrom, lentWords, restFrom, restOf, wordTotal,
 use Rattle.build.specs.Layout.{cellsBytes, cellSingles, lowersIn, uppersIn, keptBytes, listsBytes, wordsBytes, directoryBytes, indexOf}
 use Rattle.build.specs.Build.{lentOf, indexFrom, buildOf, bytesAfter}
 use Rattle.promises.specs.Outcome.{OneOutcome}
-use Rattle.promises.specs.Wrong.{
-  Fails,
-  builds,
-  Refusing,
-  Fixed,
-  Silent,
-  FirstOnly,
-  Inventing,
-  Misreporting,
-  writtenRefused,
-  firstBuilt,
-  writtenIn,
-  neededBy,
-}
+use Rattle.promises.specs.Wrong.{Fails, builds, Refusing, Fixed, Silent, FirstOnly, Inventing, Misreporting, writtenRefused, firstBuilt}
+use Rattle.promises.specs.Wrong.{writtenIn, neededBy}
 use Rattle.promises.proofs.Determined.{builds-determined}
 use Rattle.promises.proofs.WrongLaws.{refusing-fails, fixed-fails, silent-fails, first-fails, inventing-fails, misreporting-fails, differ-at}
 

@@ -18,34 +18,12 @@ use Rattle.list.specs.declared.answer.Answer.the-variants.{Refused}
 use Rattle.index.specs.declared.Checked.the-variants.{Good}
 use Rattle.index.specs.Format.{entryPlace, listStart, singleCount, pairCount, singlesOf, lowerOf, upperOf, listOf}
 use Rattle.merge.specs.Request.{listsOf}
-use Rattle.join.specs.Join.{
-  badListCount,
-  badEntryNumber,
-  entriesOf,
-  requestAfter,
-  requestOf,
-  joinAnswer,
-  joinCells,
-  Joins,
-}
+use Rattle.join.specs.Join.{badListCount, badEntryNumber, entriesOf, requestAfter, requestOf, joinAnswer, joinCells, Joins}
 use Rattle.promises.specs.Example.{example}
 use Rattle.promises.specs.Outcome.{OneOutcome}
 use Rattle.promises.specs.Table.{lent, listed}
-use Rattle.promises.specs.Wrong.{
-  Fails,
-  joins,
-  Refusing,
-  Fixed,
-  Silent,
-  FirstOnly,
-  Inventing,
-  Misreporting,
-  answerRefused,
-  firstEntry,
-  intervalsIn,
-  recordsIn,
-  neededIn,
-}
+use Rattle.promises.specs.Wrong.{Fails, joins, Refusing, Fixed, Silent, FirstOnly, Inventing, Misreporting, answerRefused, firstEntry}
+use Rattle.promises.specs.Wrong.{intervalsIn, recordsIn, neededIn}
 use Rattle.promises.proofs.Determined.{joins-determined}
 use Rattle.promises.proofs.ExampleLaws.{example-good}
 use Rattle.promises.proofs.Table.{union-is, intersection-is}

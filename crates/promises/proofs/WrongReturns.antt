@@ -18,23 +18,8 @@ use Rattle.question.specs.Token.{run, gather, tokensAt, tokens}
 use Rattle.question.specs.Grammar.{fromLeft, question, operand, links, whole}
 use Rattle.question.specs.Reading.{isForeign, refusalOf, parsed, readingOf}
 use Rattle.promises.specs.Example.{boats, example}
-use Rattle.promises.specs.Wrong.{
-  FailsToBe,
-  RefusingAll,
-  InventingAll,
-  lookup,
-  entry,
-  word,
-  probe,
-  checkRefused,
-  lookupRefused,
-  wordRefused,
-  partRefused,
-  probeRefused,
-  readingRefused,
-  belowIn,
-  overlappingIn,
-}
+use Rattle.promises.specs.Wrong.{FailsToBe, RefusingAll, InventingAll, lookup, entry, word, probe, checkRefused, lookupRefused, wordRefused}
+use Rattle.promises.specs.Wrong.{partRefused, probeRefused, readingRefused, belowIn, overlappingIn}
 use Rattle.promises.proofs.ExampleLaws.{example-good}
 use Rattle.promises.proofs.WrongLaws.{refusing-all-fails, inventing-all-fails}
 

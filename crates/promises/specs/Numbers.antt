@@ -4,29 +4,9 @@ use mathlib.Core.Path.{_≡_}
 use mathlib.Core.List.{List, [], _∷_}
 use lib.ListN.{getD}
 use Rattle.refusal.specs.declared.Refusal.{Refusal}
-use Rattle.refusal.specs.declared.Refusal.the-variants.{
-  IndexLength,
-  IndexEdition,
-  IndexTrailer,
-  IndexEntry,
-  IndexList,
-  QuestionLength,
-  QuestionByte,
-  QuestionWord,
-  Grammar,
-  Words,
-  Brackets,
-  Room,
-  Lists,
-  EntryNumber,
-  Number,
-  Interval,
-  BuildWord,
-  BuildCount,
-  BuildSize,
-  ProbeRange,
-  NoWord,
-}
+use Rattle.refusal.specs.declared.Refusal.the-variants.{IndexLength, IndexEdition, IndexTrailer, IndexEntry, IndexList, QuestionLength, QuestionByte}
+use Rattle.refusal.specs.declared.Refusal.the-variants.{QuestionWord, Grammar, Words, Brackets, Room, Lists, EntryNumber, Number, Interval, BuildWord}
+use Rattle.refusal.specs.declared.Refusal.the-variants.{BuildCount, BuildSize, ProbeRange, NoWord}
 use Rattle.refusal.specs.Refusal.{numberOf, valueOf}
 
 -- Reference 9.1: a row, a number with a refusal that carries any value, or with one whose value is 0

@@ -1,29 +1,9 @@
 -- Reference 9.1: each refusal with its number and its value.
 use Prim.Native.Nat.{ℕ}
 use Rattle.refusal.specs.declared.Refusal.{Refusal}
-use Rattle.refusal.specs.declared.Refusal.the-variants.{
-  IndexLength,
-  IndexEdition,
-  IndexTrailer,
-  IndexEntry,
-  IndexList,
-  QuestionLength,
-  QuestionByte,
-  QuestionWord,
-  Grammar,
-  Words,
-  Brackets,
-  Room,
-  Lists,
-  EntryNumber,
-  Number,
-  Interval,
-  BuildWord,
-  BuildCount,
-  BuildSize,
-  ProbeRange,
-  NoWord,
-}
+use Rattle.refusal.specs.declared.Refusal.the-variants.{IndexLength, IndexEdition, IndexTrailer, IndexEntry, IndexList, QuestionLength}
+use Rattle.refusal.specs.declared.Refusal.the-variants.{QuestionByte, QuestionWord, Grammar, Words, Brackets, Room, Lists, EntryNumber, Number}
+use Rattle.refusal.specs.declared.Refusal.the-variants.{Interval, BuildWord, BuildCount, BuildSize, ProbeRange, NoWord}
 
 -- Reference 9.1: the number
 abbrev pub numberOf : Refusal → ℕ

@@ -1,9 +1,9 @@
 -- The active interval: all below it is swept, all of it is in, and what is in above it is left at the lists' places.
-use mathlib.Core.Path.{_≡_, refl, ap, _∙_}
+use mathlib.Core.Path.{_≡_, refl, _∙_}
 use Prim.Native.Nat.{ℕ, max, _+_, _/_, _%_, _≤_, _<_}
 use native.Mathlib.Omega.{arith}
 use mathlib.Core.Bool.{Bool, true, false}
-use mathlib.Core.List.{List, [], _∷_}
+use mathlib.Core.List.{List, []}
 use lib.ListN.{length, getD, replicate}
 use borrow.Author.Tests.{ltb-true, ltb-false}
 use Rattle.laws.proofs.Tests.{by-test, leb-cases}
@@ -19,21 +19,8 @@ use Rattle.merge.specs.Put.{Fitting, Put, PutWhere}
 use Rattle.list.specs.Answer.{HasRoom, Sweeps}
 use Rattle.merge.proofs.KeysLaws.{Front, keys-front, keys-none, keys-refill}
 use Rattle.merge.proofs.TallyLaws.{Tallied, Whole, tallied-start, tallied-skip, tallied-fits, tallied-put, tallied-end}
-use Rattle.merge.proofs.DueLaws.{
-  AllRead,
-  GoesAt,
-  lowerNext,
-  upperNext,
-  placesOn,
-  all-read-start,
-  all-read-later,
-  marked-goes,
-  marked-lower,
-  next-bounds,
-  next-inside,
-  all-read-on,
-  due-other,
-}
+use Rattle.merge.proofs.DueLaws.{AllRead, GoesAt, lowerNext, upperNext, placesOn, all-read-start, all-read-later, marked-goes, marked-lower}
+use Rattle.merge.proofs.DueLaws.{next-bounds, next-inside, all-read-on, due-other}
 use Rattle.union.specs.Active.{isApart, Joined}
 use Rattle.union.proofs.AnyLaws.{inAny, any-in, DueFrom, none-below, none-left}
 

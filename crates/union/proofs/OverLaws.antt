@@ -16,23 +16,8 @@ use Rattle.list.proofs.SeekLaws.{one-small}
 use Rattle.merge.specs.Request.{SoundRequest}
 use Rattle.merge.specs.Keys.{sumOf, lowerMark, upperMark, dueAt}
 use Rattle.merge.proofs.KeysLaws.{sum-change, sum-at, sum-where, sum-most, Front}
-use Rattle.merge.proofs.DueLaws.{
-  AllRead,
-  GoesAt,
-  lowerNext,
-  upperNext,
-  placesOn,
-  marked-goes,
-  marked-lower,
-  next-bounds,
-  next-inside,
-  all-read-later,
-  all-read-on,
-  read-at-on,
-  on-later,
-  places-other,
-  due-other,
-}
+use Rattle.merge.proofs.DueLaws.{AllRead, GoesAt, lowerNext, upperNext, placesOn, marked-goes, marked-lower, next-bounds, next-inside, all-read-later}
+use Rattle.merge.proofs.DueLaws.{all-read-on, read-at-on, on-later, places-other, due-other}
 use Rattle.union.specs.Scan.{lowerFrom}
 use Rattle.union.proofs.AnyLaws.{inAny, any-in, DueFrom, none-below, none-left}
 

@@ -1,5 +1,5 @@
 -- The scan line as a whole: the heap, the places, the counter and the open stretch.
-use mathlib.Core.Path.{_≡_, refl, sym, ap, _∙_}
+use mathlib.Core.Path.{_≡_, refl, sym, _∙_}
 use Prim.Native.Nat.{ℕ, _+_, _-_, _/_, _%_, _≤_, _<_}
 use native.Mathlib.Omega.{arith}
 use mathlib.Core.Bool.{Bool, true, false}
@@ -23,24 +23,8 @@ use Rattle.merge.proofs.TallyLaws.{tallied-start, tallied-skip, tallied-end}
 use Rattle.union.specs.Scan.{lowerFrom}
 use Rattle.union.proofs.AnyLaws.{inAny}
 use Rattle.union.proofs.OpenLaws.{Stretch, stretch-begun, stretch-fits, stretch-closed}
-use Rattle.union.proofs.OverLaws.{
-  turnedTo,
-  dueScan,
-  Over,
-  over-few,
-  over-end,
-  begun-goes,
-  begun-reach,
-  begun-shut,
-  begun-wide,
-  begun-over,
-  ended-goes,
-  ended-some,
-  ended-reach,
-  ended-wide,
-  ended-over,
-  ended-stop,
-}
+use Rattle.union.proofs.OverLaws.{turnedTo, dueScan, Over, over-few, over-end, begun-goes, begun-reach, begun-shut, begun-wide, begun-over}
+use Rattle.union.proofs.OverLaws.{ended-goes, ended-some, ended-reach, ended-wide, ended-over, ended-stop}
 
 pub record Scan (index entries : List ℕ) (writing : Bool) (out₀ out keys : List ℕ) (size : ℕ) (places : List Place) (t : Tally) (count lower : ℕ) : Type 0 where
   pub long : length keys ≡ 16

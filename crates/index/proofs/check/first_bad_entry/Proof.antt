@@ -9,19 +9,8 @@ use borrow.Author.Needs.{needs}
 use Rattle.index.specs.Format.{wordCount}
 use Rattle.index.specs.Sound.{badDirectory, badWord}
 use Rattle.index.proofs.RuleLaws.{told-bad, told-good}
-use Rattle.index.proofs.GoingLaws.{
-  Going,
-  entry-misplaced,
-  entry-misspelt,
-  next-within,
-  going-start,
-  going-hit,
-  going-word,
-  going-step,
-  going-lists-short,
-  going-words-short,
-  going-whole,
-}
+use Rattle.index.proofs.GoingLaws.{Going, entry-misplaced, entry-misspelt, next-within, going-start, going-hit, going-word, going-step}
+use Rattle.index.proofs.GoingLaws.{going-lists-short, going-words-short, going-whole}
 use Rattle.index.proofs.check.first_bad_entry.Statement.{statement}
 use Rattle.index.proofs.check.first_bad_entry.Tie as tie
 

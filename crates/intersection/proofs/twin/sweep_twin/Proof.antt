@@ -17,24 +17,9 @@ use Rattle.intersection.specs.Probing.{inAll}
 use Rattle.intersection.specs.Twin.{AllLowers, nextLower, nextUpper}
 use Rattle.intersection.proofs.FrontierLaws.{whose}
 use Rattle.intersection.proofs.LowersLaws.{Largest}
-use Rattle.intersection.proofs.TwinLaws.{
-  Turning,
-  standing-start,
-  turning-start,
-  turn-standing,
-  turn-list,
-  turn-goes,
-  turn-front,
-  turn-largest,
-  overlap-fits,
-  turn-end,
-  turn-next-goes,
-  turn-next-bounds,
-  turn-lowers,
-  turn-next,
-  turn-falls,
-  turned-out,
-}
+use Rattle.intersection.proofs.TwinLaws.{Turning, standing-start, turning-start, turn-standing, turn-list, turn-goes, turn-front, turn-largest}
+use Rattle.intersection.proofs.TwinLaws.{overlap-fits, turn-end, turn-next-goes, turn-next-bounds, turn-lowers, turn-next, turn-falls}
+use Rattle.intersection.proofs.TwinLaws.{turned-out}
 use Rattle.intersection.proofs.twin.sweep_twin.Statement.{statement}
 use Rattle.intersection.proofs.twin.sweep_twin.Tie as tie
 
