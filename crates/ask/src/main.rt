@@ -14,7 +14,7 @@ use lines::split::INPUT_MOST;
 use lines::split::answered_end;
 use lines::split::is_past;
 use parts::part_end;
-use transfer::Reading;
+use transfer::FileRead;
 use transfer::read_file;
 use transfer::write_whole;
 ghost use mathlib.Core.Path.{_≡_};
@@ -36,8 +36,8 @@ fn read_index(bytes: &mut [u8]) -> usize
     let reading = read_file(fd, bytes);
     libc::close(fd);
     match reading {
-        Reading::Bytes(count) => count,
-        Reading::Failed => 0,
+        FileRead::Bytes(count) => count,
+        FileRead::Failed => 0,
     }
 }
 
@@ -103,8 +103,8 @@ fn main() {
     let index_size = read_index(&mut index);
     let mut input = [0u8; INPUT_MOST + 1];
     match read_file(STDIN_FILENO, &mut input) {
-        Reading::Failed => os::fail(b"ask: cannot read the questions"),
-        Reading::Bytes(size) => {
+        FileRead::Failed => os::fail(b"ask: cannot read the questions"),
+        FileRead::Bytes(size) => {
             if !answer_input(&index[..index_size], &input[..size]) {
                 os::fail(b"ask: cannot write the answers");
             }

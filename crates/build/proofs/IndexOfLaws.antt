@@ -346,7 +346,7 @@ module _ {n : ℕ} {ws xss : List (List ℕ)} (is : Indexable n ws xss) where
   built-sound =
       record {
         size = length-good index (omega (arith, long)) (is .size);
-        issue = edition-good index built-edition;
+        edition-one = edition-good index built-edition;
         trailer = good-trailer;
         entries = λ i h. good-entry i (omega (arith, built-word-count));
         ends = good-end;

@@ -1,5 +1,5 @@
 // Reading a question.
-use question::Reading;
+use question::Verdict;
 use question::token::Token;
 use question::token::next_token;
 use question::token::token_end;
@@ -40,11 +40,11 @@ fn print_places(question: &[u8]) {
 
 fn read_question(question: &[u8]) {
     match question::read_question(question) {
-        Reading::Accepted(words) => {
+        Verdict::Accepted(words) => {
             print_two(0, b" ", words as u64);
             print_places(question);
         }
-        Reading::Refused(refusal) => {
+        Verdict::Refused(refusal) => {
             print_two(
                 refusal::number_of(refusal),
                 b" ",

@@ -100,7 +100,7 @@ good-sound index e =
     let d = entries-passed (badEntryOf index) (listsAnswer (badListOf index)) (c .1) in
     record {
       size = a .0;
-      issue = b .0;
+      edition-one = b .0;
       trailer = c .0;
       entries = entries-good index (d .0);
       ends = place-none (first (badEntry index) (wordCount index)) (badEnd index) (wordCount index) (d .0) .1;
@@ -109,5 +109,5 @@ good-sound index e =
 
 pub sound-good : (index : List ℕ) → Sound index → checkOf index ≡ Good
 sound-good index s =
-    check-contents index (s .size) (s .issue) (s .trailer)
+    check-contents index (s .size) (s .edition-one) (s .trailer)
     ∙ contents-good index (rw (first-none-is (badEntry index) (wordCount index) (s .entries), s .ends)) (first-none-is (badList index) (wordCount index) (s .lists))

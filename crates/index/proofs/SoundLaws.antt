@@ -28,7 +28,7 @@ sound-length index s =
 
 pub sound-edition : (index : List ℕ) → Sound index → edition index ≡ 1
 unfolding badEdition
-sound-edition index s = eqb-true (edition index) 1 (not-false (eqb (edition index) 1) (s .issue))
+sound-edition index s = eqb-true (edition index) 1 (not-false (eqb (edition index) 1) (s .edition-one))
 
 pub record TrailerFacts (index : List ℕ) : Type 0 where
   pub highest-bound : highest index ≤ recordMax

@@ -64,7 +64,7 @@ badList index i =
 -- Reference 5.1: no rule is broken
 pub record Sound (index : List ℕ) : Type 0 where
   pub size : badLength index ≡ false
-  pub issue : badEdition index ≡ false
+  pub edition-one : badEdition index ≡ false
   pub trailer : badTrailer index ≡ false
   pub entries : (i : ℕ) → i < wordCount index → badEntry index i ≡ false
   pub ends : badEnd index ≡ false

@@ -21,7 +21,7 @@ use Rattle.merge.specs.Places.{entrySingles, entryLowers, entryUppers}
 use Rattle.list.specs.Answer.{HasRoom, Sweeps}
 use Rattle.merge.proofs.ListsLaws.{entry-kept, asked-entry}
 use Rattle.merge.proofs.TallyLaws.{Tallied, tallied-start, tallied-skip, tallied-end}
-use Rattle.intersection.specs.Probing.{between, CellsFit, CellsPut, inAll, Within}
+use Rattle.intersection.specs.Probing.{cellsBetween, PiecesFit, PiecesPut, inAll, StandsIn}
 use Rattle.intersection.proofs.BetweenLaws.{between-fits, between-put}
 use Rattle.intersection.proofs.ProbingLaws.{every-out}
 
@@ -90,7 +90,7 @@ module _ {index entries : List ℕ} (asked : SoundRequest index entries) {j : �
       up : u ≤ recordMax
       up = let b = bounds in let t = list-top in omega arith
 
-      pub going-within : Within index entries j l u
+      pub going-within : StandsIn index entries j l u
       unfolding listOf
       going-within = record { asked = asked; list = h; high = up; covers = read-inside (g .read) o }
 
@@ -108,11 +108,11 @@ module _ {index entries : List ℕ} (asked : SoundRequest index entries) {j : �
       unfolding listOf
       stop f = out-all (u + 1) (read-behind (g .read) o)
 
-      pub going-fits : HasRoom (intersectionOf (listsOf index entries)) writing out₀ → CellsFit writing out t (between (inAll index entries) l u)
+      pub going-fits : HasRoom (intersectionOf (listsOf index entries)) writing out₀ → PiecesFit writing out t (cellsBetween (inAll index entries) l u)
       unfolding intersectionOf
       going-fits r = between-fits (g .swept) l u reach (bounds .1) up low stop r
 
-      pub going-next : {out′ : List ℕ} {t′ : Tally} → CellsPut writing out out′ t (between (inAll index entries) l u) t′ →
+      pub going-next : {out′ : List ℕ} {t′ : Tally} → PiecesPut writing out out′ t (cellsBetween (inAll index entries) l u) t′ →
           Going index entries (getD entries j 0) writing out₀ out′ t′ (nextPlace S L at) (i + 1)
       going-next q =
           let f = next-fits S L at o in

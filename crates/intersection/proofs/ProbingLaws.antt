@@ -20,7 +20,7 @@ use Rattle.index.specs.Format.{listOf}
 use Rattle.merge.specs.Request.{listsOf}
 use Rattle.merge.specs.Put.{Fitting, Put, PutWhere, upTo}
 use Rattle.merge.proofs.ListsLaws.{lists-next, lists-end}
-use Rattle.intersection.specs.Probing.{between, CellsFit, CellsPut, inAll, Within, closes, lowerOn}
+use Rattle.intersection.specs.Probing.{cellsBetween, PiecesFit, PiecesPut, inAll, StandsIn, closes, lowerOn}
 
 -- ---- a list with the fewest intervals of those below j
 
@@ -52,7 +52,7 @@ every-out index [] k y h e = absurd (omega arith)
 every-out index (i ∷ es) zero y h e = rw e
 every-out index (i ∷ es) (suc k) y h e = rw (every-out index es k y (omega arith) e) (and-false (names (listOf index i) y))
 
-pub probe-out : {index entries : List ℕ} {j x until b : ℕ} {inside : Bool} → Within index entries j x b → x ≤ b → (k : ℕ) → k < length entries → inside ≡ false →
+pub probe-out : {index entries : List ℕ} {j x until b : ℕ} {inside : Bool} → StandsIn index entries j x b → x ≤ b → (k : ℕ) → k < length entries → inside ≡ false →
     Steady (names (listOf index (getD entries k 0))) x inside until → Steady (inAll index entries) x false (min until (b + 1))
 probe-out {index} {entries} w g k h o s =
     let m = w .high in
@@ -93,7 +93,7 @@ module _ {index entries : List ℕ} {x b until k : ℕ} (r : Looked index entrie
   unfolding inEvery
   looked-end h m = let c = r .near in record { later = r .later; near = omega arith; same = λ y f g. r .left y f g ∙ rw (lists-end index entries k h) }
 
-pub within-later : {index entries : List ℕ} {j a b x : ℕ} → a ≤ x → Within index entries j a b → Within index entries j x b
+pub within-later : {index entries : List ℕ} {j a b x : ℕ} → a ≤ x → StandsIn index entries j a b → StandsIn index entries j x b
 within-later h w = record { asked = w .asked; list = w .list; high = w .high; covers = λ y f g. w .covers y (omega arith) g }
 
 -- ---- what is left to put: putting the cells c behind a tally is putting the cells c₀ behind the one before
@@ -103,13 +103,13 @@ record Left (writing : Bool) (out₀ : List ℕ) (t₀ : Tally) (c₀ out : List
   records-left : t₀ .records + records c₀ ≡ t .records + records c
   cells-left : cond writing (sets out₀ (2 * t₀ .intervals) c₀) out₀ ≡ cond writing (sets out (2 * t .intervals) c) out
 
-pub cells-put-long : (writing : Bool) (out out′ : List ℕ) (t : Tally) (c : List ℕ) (r : Tally) → CellsPut writing out out′ t c r → length out′ ≡ length out
+pub cells-put-long : (writing : Bool) (out out′ : List ℕ) (t : Tally) (c : List ℕ) (r : Tally) → PiecesPut writing out out′ t c r → length out′ ≡ length out
 cells-put-long true out out′ t c r q = ap length (q .cells) ∙ length-sets out (2 * t .intervals) c
 cells-put-long false out out′ t c r q = ap length (q .cells)
 
 module _ {writing : Bool} {out₀ : List ℕ} {t₀ : Tally} {c₀ out : List ℕ} {t : Tally} where
   -- the first interval of what is left fits, where all does
-  left-fits : {l u : ℕ} {c : List ℕ} → l ≤ u → u ≤ recordMax → Left writing out₀ t₀ c₀ out t (l ∷ u ∷ c) → CellsFit writing out₀ t₀ c₀ → Fitting writing out t (record { lower = l; upper = u })
+  left-fits : {l u : ℕ} {c : List ℕ} → l ≤ u → u ≤ recordMax → Left writing out₀ t₀ c₀ out t (l ∷ u ∷ c) → PiecesFit writing out₀ t₀ c₀ → Fitting writing out t (record { lower = l; upper = u })
   left-fits {l} {u} {c} o m s f = record {
     room = λ w. let g = f .room w in omega (arith, s .intervals-left, long w);
     few = let g = f .intervals-small in omega (arith, s .intervals-left);
@@ -142,7 +142,7 @@ module _ {writing : Bool} {out₀ : List ℕ} {t₀ : Tally} {c₀ out : List �
           rw (e, k) (sets-two out (2 * t .intervals) l u c)
       go false e = sym e
 
-  left-end : Left writing out₀ t₀ c₀ out t [] → CellsPut writing out₀ out t₀ c₀ t
+  left-end : Left writing out₀ t₀ c₀ out t [] → PiecesPut writing out₀ out t₀ c₀ t
   unfolding records
   left-end s = record {
     intervals-more = omega (arith, s .intervals-left);
@@ -189,10 +189,10 @@ pending-end p b o l x h = rw (stretches-end p o b x h) (pending-turn o false l x
 pub record Cut (p : ℕ → Bool) (a b : ℕ) (writing : Bool) (out₀ : List ℕ) (t₀ : Tally) (out : List ℕ) (t : Tally) (o : Bool) (l x : ℕ) : Type 0 where
   pub near : (a ≤ x) × (x ≤ b + 1)
   pub begun : o ≡ true → l < x
-  left : Left writing out₀ t₀ (between p a b) out t (pending p b o l x)
+  left : Left writing out₀ t₀ (cellsBetween p a b) out t (pending p b o l x)
 
 pub cut-start : {p : ℕ → Bool} {a b : ℕ} {writing : Bool} {out : List ℕ} {t : Tally} {l : ℕ} → a ≤ b → Cut p a b writing out t out t false l a
-unfolding between
+unfolding cellsBetween
 cut-start h = record {
   near = (omega arith, omega arith);
   begun = λ e. true-false (sym e);
@@ -201,17 +201,17 @@ cut-start h = record {
 
 module _ {p : ℕ → Bool} {a b : ℕ} {writing : Bool} {out₀ : List ℕ} {t₀ : Tally} {out : List ℕ} {t : Tally} {o : Bool} {l x : ℕ}
     (c : Cut p a b writing out₀ t₀ out t o l x) where
-  part-fits : (v : Bool) (r : List ℕ) → b ≤ recordMax → CellsFit writing out₀ t₀ (between p a b) → pending p b o l x ≡ closed (closes o v) l x r → closes o v ≡ true →
+  part-fits : (v : Bool) (r : List ℕ) → b ≤ recordMax → PiecesFit writing out₀ t₀ (cellsBetween p a b) → pending p b o l x ≡ closed (closes o v) l x r → closes o v ≡ true →
       Fitting writing out t (upTo l x)
   part-fits v r m f e k =
       let n = c .near in
       let g = c .begun (and-both o (not v) k .0) in
       left-fits (omega arith) (omega arith) (rw (e, k) at (c .left)) f
 
-  pub cut-fits : {v : Bool} {u : ℕ} → b ≤ recordMax → CellsFit writing out₀ t₀ (between p a b) → Steady p x v u → u ≤ b + 1 → closes o v ≡ true → Fitting writing out t (upTo l x)
+  pub cut-fits : {v : Bool} {u : ℕ} → b ≤ recordMax → PiecesFit writing out₀ t₀ (cellsBetween p a b) → Steady p x v u → u ≤ b + 1 → closes o v ≡ true → Fitting writing out t (upTo l x)
   cut-fits {v} {u} m f s h = part-fits v (pending p b v (lowerOn o l x) u) m f (pending-next p b o v l x u s h)
 
-  pub cut-end-fits : b ≤ recordMax → CellsFit writing out₀ t₀ (between p a b) → b < x → closes o false ≡ true → Fitting writing out t (upTo l x)
+  pub cut-end-fits : b ≤ recordMax → PiecesFit writing out₀ t₀ (cellsBetween p a b) → b < x → closes o false ≡ true → Fitting writing out t (upTo l x)
   cut-end-fits m f h = part-fits false [] m f (pending-end p b o l x h)
 
   begun-next : (o v : Bool) (u : ℕ) → (o ≡ true → l < x) → x < u → v ≡ true → lowerOn o l x < u
@@ -219,7 +219,7 @@ module _ {p : ℕ → Bool} {a b : ℕ} {writing : Bool} {out₀ : List ℕ} {t�
   begun-next false v u f h e = h
 
   left-next : (v : Bool) (r out′ : List ℕ) (t′ : Tally) → pending p b o l x ≡ closed (closes o v) l x r → PutWhere (closes o v) writing out out′ t (upTo l x) t′ →
-      Left writing out₀ t₀ (between p a b) out′ t′ r
+      Left writing out₀ t₀ (cellsBetween p a b) out′ t′ r
   left-next v r out′ t′ e q =
       by-test (closes o v)
       (λ k. left-put (rw (e, k) at (c .left)) (q .0 k))
@@ -236,5 +236,5 @@ module _ {p : ℕ → Bool} {a b : ℕ} {writing : Bool} {out₀ : List ℕ} {t�
         left = left-next v (pending p b v (lowerOn o l x) u) out′ t′ (pending-next p b o v l x u s h) q;
       }
 
-  pub cut-end : {out′ : List ℕ} {t′ : Tally} → b < x → PutWhere (closes o false) writing out out′ t (upTo l x) t′ → CellsPut writing out₀ out′ t₀ (between p a b) t′
+  pub cut-end : {out′ : List ℕ} {t′ : Tally} → b < x → PutWhere (closes o false) writing out out′ t (upTo l x) t′ → PiecesPut writing out₀ out′ t₀ (cellsBetween p a b) t′
   cut-end {out′} {t′} h q = left-end (left-next false [] out′ t′ (pending-end p b o l x h) q)

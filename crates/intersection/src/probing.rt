@@ -12,7 +12,7 @@ ghost use Rattle.directory.specs.Regions.{EntryIn};
 ghost use Rattle.merge.specs.Request.{SoundRequest, listsOf};
 ghost use Rattle.merge.specs.Put.{Fitting, PutWhere, upTo};
 ghost use Rattle.list.specs.Answer.{HasRoom, Sweeps};
-ghost use Rattle.intersection.specs.Probing.{Shortest, CellsFit, CellsPut, inAll, piecesIn, Within, closes, lowerOn};
+ghost use Rattle.intersection.specs.Probing.{Shortest, PiecesFit, PiecesPut, inAll, piecesIn, StandsIn, closes, lowerOn};
 use directory::parts::Regions;
 use directory::parts::interval_count;
 use directory::parts::regions_of;
@@ -67,7 +67,7 @@ fn sense_in(index: &[u8], entry: usize, x: u32) -> Sense
 
 // The same of list k of a request, where [x, b] is known to stand in list j: that one is not searched.
 fn sense_of(index: &[u8], entries: &[u32], j: usize, k: usize, x: u32, b: u32) -> Sense
-    requires within { ⌜ Within (now index) (now entries) j x b ⌝ }
+    requires within { ⌜ StandsIn (now index) (now entries) j x b ⌝ }
     requires order { ⌜ x ≤ b ⌝ }
     requires list { ⌜ k < length (now entries) ⌝ }
     ensures { λ r. ⌜ Steady (names (listOf (now (index .entry)) (getD (now (entries .entry)) k 0))) x (r .inside) (r .until) ⌝ }
@@ -84,7 +84,7 @@ fn sense_of(index: &[u8], entries: &[u32], j: usize, k: usize, x: u32, b: u32) -
 // Probes [x, b], which stands in list j, in every list: whether x is in all of them, and up to where that stays so, within the probe.
 // The first list that x is not in decides.
 fn probe(index: &[u8], entries: &[u32], j: usize, x: u32, b: u32) -> Sense
-    requires within { ⌜ Within (now index) (now entries) j x b ⌝ }
+    requires within { ⌜ StandsIn (now index) (now entries) j x b ⌝ }
     requires order { ⌜ x ≤ b ⌝ }
     ensures steady { λ r. ⌜ Steady (inAll (now (index .entry)) (now (entries .entry))) x (r .inside) (r .until) ⌝ }
     ensures near { λ r. ⌜ r .until ≤ b + 1 ⌝ }
@@ -168,10 +168,10 @@ fn put_within(
     out: &mut [u32],
     before: Tally,
 ) -> Tally
-    requires within { ⌜ Within (now index) (now entries) j (within .lower) (within .upper) ⌝ }
+    requires within { ⌜ StandsIn (now index) (now entries) j (within .lower) (within .upper) ⌝ }
     requires order { ⌜ within .lower ≤ within .upper ⌝ }
-    requires fits { ⌜ CellsFit writing (now out) before (piecesIn (now index) (now entries) within) ⌝ }
-    ensures { λ r. ⌜ CellsPut writing (now (out .entry)) (now (out .exit)) before (piecesIn (now (index .entry)) (now (entries .entry)) within) r ⌝ }
+    requires fits { ⌜ PiecesFit writing (now out) before (piecesIn (now index) (now entries) within) ⌝ }
+    ensures { λ r. ⌜ PiecesPut writing (now (out .entry)) (now (out .exit)) before (piecesIn (now (index .entry)) (now (entries .entry)) within) r ⌝ }
 {
     let b = within.upper;
     let mut x = within.lower;

@@ -10,7 +10,7 @@ use Rattle.refusal.specs.declared.Refusal.the-variants.{QuestionWord, Grammar, 
 use Rattle.refusal.specs.declared.Refusal.the-variants.{BuildCount, BuildSize, ProbeRange, NoWord}
 use Rattle.refusal.specs.Refusal.{numberOf, valueOf}
 use Rattle.promises.proofs.Rows.{_&_}
-use Rattle.promises.specs.Numbers.{Numbered, carries, zeroed, refusals, numbersIn, RowRight, RowsRight, made, AllNumbered}
+use Rattle.promises.specs.Numbers.{Numbered, carries, zeroed, refusals, rowNumbers, RowRight, RowsRight, made, AllNumbered}
 
 given-back : (r : Refusal) → made (getD refusals (numberOf r - 1) (zeroed 0 NoWord)) (valueOf r) ≡ r
 given-back (IndexLength v) = refl
@@ -78,7 +78,7 @@ numbers-tell rows all r s e f =
 pub refusals-tell : (r s : Refusal) → numberOf r ≡ numberOf s → valueOf r ≡ valueOf s → r ≡ s
 refusals-tell = numbers-tell refusals refusals-numbered
 
-pub numbers-many : (rows : List Numbered) → AllNumbered rows → length (numbersIn rows) ≡ 21
+pub numbers-many : (rows : List Numbered) → AllNumbered rows → length (rowNumbers rows) ≡ 21
 numbers-many rows all = ap length (all .ordered)
 
 -- ---- a row with another number or another value is wrong, and so are rows with one such

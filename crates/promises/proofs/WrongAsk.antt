@@ -23,7 +23,7 @@ use Rattle.question.specs.Limits.{tokenWords}
 use Rattle.query.specs.Ask.{satisfying, Asks}
 use Rattle.promises.specs.Example.{boats, maps, tide, or′, example}
 use Rattle.promises.specs.Outcome.{OneOutcome}
-use Rattle.promises.specs.Table.{lent, listed}
+use Rattle.promises.specs.Table.{lent, answered}
 use Rattle.promises.specs.Wrong.{Fails, asks, Refusing, Fixed, Silent, FirstOnly, Inventing, Misreporting, answerRefused, firstWord}
 use Rattle.promises.specs.Wrong.{intervalsIn, recordsIn, neededIn}
 use Rattle.promises.proofs.Determined.{asks-determined}
@@ -39,9 +39,9 @@ boats-or-maps = boats ++ or′ ++ maps
 -- what each comes to, with four cells lent and with none
 abbrev Outcomes : Type 0
 Outcomes =
-    Asks fromLeft example boats-or-tide lent (2 ∷ 4 ∷ 8 ∷ 9 ∷ []) (listed 2 5)
-    × Asks fromLeft example boats-or-maps lent (2 ∷ 9 ∷ 0 ∷ 0 ∷ []) (listed 1 8)
-    × Asks fromLeft example boats lent (2 ∷ 4 ∷ 8 ∷ 8 ∷ []) (listed 2 4)
+    Asks fromLeft example boats-or-tide lent (2 ∷ 4 ∷ 8 ∷ 9 ∷ []) (answered 2 5)
+    × Asks fromLeft example boats-or-maps lent (2 ∷ 9 ∷ 0 ∷ 0 ∷ []) (answered 1 8)
+    × Asks fromLeft example boats lent (2 ∷ 4 ∷ 8 ∷ 8 ∷ []) (answered 2 4)
     × Asks fromLeft example boats-or-tide [] [] (Refused (Room 2))
     × Asks fromLeft example boats-or-maps [] [] (Refused (Room 1))
 

@@ -40,10 +40,10 @@ refusals =
     ∷ []
 
 -- Reference 9.1: the numbers that the rows give
-abbrev pub numbersIn : List Numbered → List ℕ
-numbersIn [] = []
-numbersIn (carries n refusal ∷ rows) = n ∷ numbersIn rows
-numbersIn (zeroed n refusal ∷ rows) = n ∷ numbersIn rows
+abbrev pub rowNumbers : List Numbered → List ℕ
+rowNumbers [] = []
+rowNumbers (carries n refusal ∷ rows) = n ∷ rowNumbers rows
+rowNumbers (zeroed n refusal ∷ rows) = n ∷ rowNumbers rows
 
 abbrev pub RowRight : Numbered → Type 0
 RowRight (carries n refusal) = (value : ℕ) → (numberOf (refusal value) ≡ n) × (valueOf (refusal value) ≡ value)
@@ -61,5 +61,5 @@ made (zeroed n refusal) value = refusal
 -- Reference 9.1: each row is right, the numbers are 1 to 21 in their order, and the row that a refusal's number names gives it back from its value
 pub record AllNumbered (rows : List Numbered) : Type 0 where
   pub right : RowsRight rows
-  pub ordered : numbersIn rows ≡ 1 ∷ 2 ∷ 3 ∷ 4 ∷ 5 ∷ 6 ∷ 7 ∷ 8 ∷ 9 ∷ 10 ∷ 11 ∷ 12 ∷ 13 ∷ 14 ∷ 15 ∷ 16 ∷ 17 ∷ 18 ∷ 19 ∷ 20 ∷ 21 ∷ []
+  pub ordered : rowNumbers rows ≡ 1 ∷ 2 ∷ 3 ∷ 4 ∷ 5 ∷ 6 ∷ 7 ∷ 8 ∷ 9 ∷ 10 ∷ 11 ∷ 12 ∷ 13 ∷ 14 ∷ 15 ∷ 16 ∷ 17 ∷ 18 ∷ 19 ∷ 20 ∷ 21 ∷ []
   pub complete : (r : Refusal) → made (getD rows (numberOf r - 1) (zeroed 0 NoWord)) (valueOf r) ≡ r

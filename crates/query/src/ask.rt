@@ -12,7 +12,7 @@ use limits::QUESTION_MAX;
 use limits::QUESTION_WORDS_MAX;
 use list::answer::Answer;
 use question::read_question;
-use question::reader::Reading;
+use question::reader::Verdict;
 use refusal::Refusal;
 use slots::bound::slots_sum;
 use slots::compile::compile;
@@ -59,8 +59,8 @@ pub fn answer_question(index: &[u8], question: &[u8], out: &mut [u32]) -> Answer
     ensures { λ r. ⌜ Answers fromLeft (now (index .entry)) (now (question .entry)) (now (out .entry)) (now (out .exit)) r ⌝ }
 {
     match read_question(question) {
-        Reading::Accepted(_) => answer_accepted(index, question, out),
-        Reading::Refused(refusal) => Answer::Refused(refusal),
+        Verdict::Accepted(_) => answer_accepted(index, question, out),
+        Verdict::Refused(refusal) => Answer::Refused(refusal),
     }
 }
 

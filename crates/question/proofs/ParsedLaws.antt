@@ -20,12 +20,12 @@ use Rattle.refusal.specs.declared.Found.{Found}
 use Rattle.refusal.specs.declared.Found.the-variants.{At, Nowhere}
 use Rattle.refusal.specs.declared.Refusal.{Refusal}
 use Rattle.refusal.specs.declared.Refusal.the-variants.{QuestionLength, QuestionByte, QuestionWord, Grammar, Words, Brackets}
-use Rattle.question.specs.declared.reader.Reading.{Reading}
-use Rattle.question.specs.declared.reader.Reading.the-variants.{Accepted, Refused}
+use Rattle.question.specs.declared.reader.Verdict.{Verdict}
+use Rattle.question.specs.declared.reader.Verdict.the-variants.{Accepted, Refused}
 use Rattle.question.specs.Token.{choose, Tok, tokens}
 use Rattle.question.specs.Grammar.{Tree, Rule, fromLeft, Out, good, bad, bind, question, ended, whole}
 use Rattle.question.specs.Limits.{WithinLimits}
-use Rattle.question.specs.Reading.{Parsed, parses, refuses, foreignAt, longAt, tokenPlace, refusalOf, outcome, unless, parsed, answer, readingOf}
+use Rattle.question.specs.Reading.{Parsed, parses, refuses, foreignAt, longAt, tokenPlace, refusalOf, outcome, unless, parsed, answer, verdictOf}
 use Rattle.question.specs.Walk.{operatorNext, Walked, reached, stopped, walk, walkAll, fresh, verdict}
 use Rattle.question.specs.Stops.{StopNumber, Misplaced, WordTooMany, BracketTooMany, Faultless, StopsAt, Exactly}
 use Rattle.question.specs.Exchange.{AcceptedBy}
@@ -164,7 +164,7 @@ module _ (rule : Rule) (s : List ℕ) (p : ℕ) where
 -- ---- two rules accept and refuse alike
 
 -- what is answered, by the walk
-abbrev said : ℕ → Walked ℕ → Reading
+abbrev said : ℕ → Walked ℕ → Verdict
 said len (reached k) = Accepted k
 said len (stopped c r) = Refused (refusalOf c (tokenPlace len r))
 
@@ -198,11 +198,11 @@ refused-step rule s r (parses t k) e h = zero-one (cc)
 refused-step rule s r (refuses q) e h = let w : q ≡ r = cc in e ∙ rw w
 
 -- accepted, by every rule
-pub reading-accepted : (rule : Rule) (s : List ℕ) (n : ℕ) → readingOf s ≡ Accepted n → AcceptedBy rule s n
-unfolding readingOf
+pub reading-accepted : (rule : Rule) (s : List ℕ) (n : ℕ) → verdictOf s ≡ Accepted n → AcceptedBy rule s n
+unfolding verdictOf
 reading-accepted rule s n h = accepted-step rule s n (parsed rule s) refl (answer-any-rule rule fromLeft s ∙ h)
 
 -- refused, by every rule
-pub reading-refused : (rule : Rule) (s : List ℕ) (r : Refusal) → readingOf s ≡ Refused r → parsed rule s ≡ refuses r
-unfolding readingOf
+pub reading-refused : (rule : Rule) (s : List ℕ) (r : Refusal) → verdictOf s ≡ Refused r → parsed rule s ≡ refuses r
+unfolding verdictOf
 reading-refused rule s r h = refused-step rule s r (parsed rule s) refl (answer-any-rule rule fromLeft s ∙ h)

@@ -16,7 +16,7 @@ use Rattle.question.specs.declared.token.Op.the-variants as op
 use Rattle.question.specs.declared.token.Token.{Token}
 use Rattle.question.specs.declared.token.Token.the-variants.{End, Word, Op, Open, Close, Other}
 use Rattle.question.specs.Token.{cut, run, spaces, runTok, mark, gather, tokensAt}
-use Rattle.question.specs.Next.{Within, NextToken, IsRun}
+use Rattle.question.specs.Next.{TokenWithin, NextToken, IsRun}
 use Rattle.question.proofs.RunLaws.{run-more, after-spaces}
 
 -- ---- spaces are passed
@@ -117,7 +117,7 @@ module _ {s : List ℕ} {at p : ℕ} (is : p ≡ at + spaces (drop at s)) where
       let lt : p < q = omega (arith, run-more s p h e) in
       record { heads = skipped s at p is ∙ tokens-run s p q h e iq ∙ sym (i .0); lies = widen t le (i .1 lt) }
     where
-      widen : (t : Token) → at ≤ p → Within p (length s) t → Within at (length s) t
+      widen : (t : Token) → at ≤ p → TokenWithin p (length s) t → TokenWithin at (length s) t
       widen (End a) h w = (omega arith, w .1)
       widen (Word a b) h w = (omega arith, w .1, w .2)
       widen (Op o a b) h w = (omega arith, w .1, w .2)

@@ -12,8 +12,8 @@ use Rattle.refusal.specs.declared.Found.{Found}
 use Rattle.refusal.specs.declared.Found.the-variants.{At, Nowhere}
 use Rattle.refusal.specs.declared.Refusal.{Refusal}
 use Rattle.refusal.specs.declared.Refusal.the-variants.{QuestionLength, QuestionByte, QuestionWord, Grammar, Words, Brackets}
-use Rattle.question.specs.declared.reader.Reading.{Reading}
-use Rattle.question.specs.declared.reader.Reading.the-variants.{Accepted, Refused}
+use Rattle.question.specs.declared.reader.Verdict.{Verdict}
+use Rattle.question.specs.declared.reader.Verdict.the-variants.{Accepted, Refused}
 use Rattle.question.specs.Token.{choose, run, Tok, wordT, opT, openT, closeT, otherT}
 use Rattle.question.specs.Grammar.{Tree, Rule, fromLeft, Out, good, bad, whole}
 
@@ -65,14 +65,14 @@ parsed rule s =
     (λ _. outcome (length s) (whole rule s))))
 
 -- Reference 8.10: what the call answers
-abbrev pub answer : Parsed → Reading
+abbrev pub answer : Parsed → Verdict
 answer (parses t k) = Accepted k
 answer (refuses refusal) = Refused refusal
 
-unfoldable pub readingOf : List ℕ → Reading
-readingOf s = answer (parsed fromLeft s)
+unfoldable pub verdictOf : List ℕ → Verdict
+verdictOf s = answer (parsed fromLeft s)
 
 -- Reference 8.10: the answer as two numbers, 0 and how many words, or the refusal's number and value
-abbrev pub readingResult : Reading → ℕ × ℕ
-readingResult (Accepted words) = (0, words)
-readingResult (Refused refusal) = (numberOf refusal, valueOf refusal)
+abbrev pub verdictResult : Verdict → ℕ × ℕ
+verdictResult (Accepted words) = (0, words)
+verdictResult (Refused refusal) = (numberOf refusal, valueOf refusal)

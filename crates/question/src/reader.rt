@@ -16,7 +16,7 @@ use limits::QUESTION_WORDS_MAX;
 use refusal::Refusal;
 
 // Reference 6.4: accepted, with the number of words, each as often as it stands there; or refused.
-pub enum Reading {
+pub enum Verdict {
     Accepted(usize),
     Refused(Refusal),
 }
@@ -88,17 +88,17 @@ fn links(s: &[u8], room: usize, words: usize, at: usize) -> Read
 }
 
 // Reference 9.1, rows 9 to 11: the one that the reading meets.
-pub fn read_whole(s: &[u8]) -> Reading
+pub fn read_whole(s: &[u8]) -> Verdict
     ensures { λ r. ⌜ ReadsWhole (now (s .entry)) r ⌝ }
 {
     match question(s, BRACKETS_MAX, 0, 0) {
         Read::At(next, words) => {
             let rest = next_token(s, next);
             match rest {
-                Token::End(_) => Reading::Accepted(words),
-                _ => Reading::Refused(Refusal::Grammar(token_start(rest))),
+                Token::End(_) => Verdict::Accepted(words),
+                _ => Verdict::Refused(Refusal::Grammar(token_start(rest))),
             }
         }
-        Read::Bad(refusal) => Reading::Refused(refusal),
+        Read::Bad(refusal) => Verdict::Refused(refusal),
     }
 }

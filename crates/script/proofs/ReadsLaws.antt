@@ -8,7 +8,7 @@ use lib.Seq.{sets, set-out, length-sets}
 use Rattle.io.specs.Counts.{Counts}
 use Rattle.laws.proofs.Lists.{sets-one}
 use Rattle.parts.proofs.PartLaws.{counts-within}
-use Rattle.script.specs.Reads.{Reads}
+use Rattle.script.specs.Reads.{Lays}
 
 -- behind the end nothing is laid
 sets-out : (vs out : List ℕ) (k : ℕ) → length out ≤ k → sets out k vs ≡ out
@@ -38,14 +38,14 @@ left-one {vs} {out} {ws} {now} {from} {at} v rest l h e =
     }
 
 -- the room is used up, or nothing is left
-pub left-full : {vs out ws now : List ℕ} {from at : ℕ} → Left vs out from ws now at → length now ≤ at → Reads vs out from now at
+pub left-full : {vs out ws now : List ℕ} {from at : ℕ} → Left vs out from ws now at → length now ≤ at → Lays vs out from now at
 left-full {vs} {out} {ws} {now} {from} {at} l h =
     record { cells = sym (l .cells ∙ sets-out ws now at h); end = omega (arith, l .count, l .same, l .onward, l .within) }
 
-pub left-none : {vs out ws now : List ℕ} {from at : ℕ} → Left vs out from ws now at → ws ≡ [] → Reads vs out from now at
+pub left-none : {vs out ws now : List ℕ} {from at : ℕ} → Left vs out from ws now at → ws ≡ [] → Lays vs out from now at
 left-none {vs} {out} {ws} {now} {from} {at} l e =
     record { cells = sym (l .cells ∙ ap (sets now at) e); end = omega (arith, l .count, l .same, l .onward, l .within, ap length e) }
 
 -- what is read from the front on counts cells at the front
-pub reads-counts : {vs out out′ : List ℕ} {r : ℕ} → Reads vs out 0 out′ r → Counts r out′
+pub reads-counts : {vs out out′ : List ℕ} {r : ℕ} → Lays vs out 0 out′ r → Counts r out′
 reads-counts {vs} {out} {out′} {r} reads = counts-within r out′ (omega (arith, reads .end, ap length (reads .cells), length-sets out 0 vs))

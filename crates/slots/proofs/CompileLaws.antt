@@ -22,7 +22,7 @@ use Rattle.question.proofs.ReaderLaws.{end-headed}
 use Rattle.question.specs.declared.token.Token.{Token}
 use Rattle.question.specs.declared.token.Token.the-variants.{End, Word, Op, Open, Close, Other}
 use Rattle.question.specs.Token.{cut, tokensAt, tokens}
-use Rattle.question.specs.Next.{headed, Within, NextToken, endOf}
+use Rattle.question.specs.Next.{headed, TokenWithin, NextToken, endOf}
 use Rattle.question.specs.Limits.{tokenWords}
 use Rattle.codes.specs.Code.{wordCode, codesOf, tokenCode}
 use Rattle.slots.specs.Slots.{slotHas}
@@ -47,7 +47,7 @@ pub record Coded (s : List ℕ) (at n code : ℕ) : Type 0 where
 
 -- the word from p up to q, or a token that is neither a word nor the end, is the next one
 pub record NextWord (s : List ℕ) (at p q : ℕ) : Type 0 where
-  pub lies : Within at (length s) (Word p q)
+  pub lies : TokenWithin at (length s) (Word p q)
   pub coded : Coded s at q wordCode
   pub words : tokenWords (tokensAt s at) ≡ cut s p q ∷ tokenWords (tokensAt s q)
 
@@ -60,14 +60,14 @@ module _ {s : List ℕ} {at : ℕ} where
   unfolding codesOf tokenWords
   next-word {t} {p} {q} next e =
       let h : tokensAt s at ≡ headed s (Word p q) = next .heads ∙ ap (headed s) e in
-      let w : Within at (length s) (Word p q) = subst (Within at (length s)) e (next .lies) in
+      let w : TokenWithin at (length s) (Word p q) = subst (TokenWithin at (length s)) e (next .lies) in
       record { lies = w; coded = record { ahead = omega arith; inside = w .2; codes = rw h }; words = rw h }
 
   pub next-other : {t : Token} → NextToken s at t → OneOf (2 ∷ 3 ∷ 4 ∷ 5 ∷ []) (tagOf the-type t) → NextOther s at t
   unfolding codesOf tokenWords
   next-other {t} next = go t (next .heads) (next .lies)
     where
-      go : (t : Token) → tokensAt s at ≡ headed s t → Within at (length s) t → OneOf (2 ∷ 3 ∷ 4 ∷ 5 ∷ []) (tagOf the-type t) → NextOther s at t
+      go : (t : Token) → tokensAt s at ≡ headed s t → TokenWithin at (length s) t → OneOf (2 ∷ 3 ∷ 4 ∷ 5 ∷ []) (tagOf the-type t) → NextOther s at t
       go (End p) e w h = absurd (miss (2 ∷ 3 ∷ 4 ∷ 5 ∷ []) 0 tt h)
       go (Word p q) e w h = absurd (miss (2 ∷ 3 ∷ 4 ∷ 5 ∷ []) 1 tt h)
       go (Op o p q) e w h = record { coded = record { ahead = omega arith; inside = w .2; codes = rw e }; words = rw e }

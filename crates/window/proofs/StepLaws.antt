@@ -14,7 +14,7 @@ use Rattle.list.specs.Stretches.{turned, stretches, cellsOf, recordsFrom}
 use Rattle.list.proofs.StretchLaws.{stretches-end}
 use Rattle.list.proofs.SweepLaws.{Swept, members-on, members-all, members-none}
 use Rattle.window.specs.Window.{membersOf, Holds}
-use Rattle.window.specs.Flips.{odd, flips, windowCells, before}
+use Rattle.window.specs.Flips.{odd, flips, windowCells, lastIn}
 use Rattle.window.proofs.FlipLaws.{stretches-past, flips-parity}
 use Rattle.window.proofs.MemberLaws.{records-held}
 use Rattle.window.proofs.SweepLaws.{part-turn, window-part, jump-part}
@@ -51,7 +51,7 @@ stepped-window p x k recs ws writing out out′ k′ recs′ h put e =
 
 -- ---- one step of a sweep
 
-before-last : (p : ℕ → Bool) (b : Bool) (x m y : ℕ) → x + m ≡ y + 1 → 1 ≤ m → before p b x m ≡ p y
+before-last : (p : ℕ → Bool) (b : Bool) (x m y : ℕ) → x + m ≡ y + 1 → 1 ≤ m → lastIn p b x m ≡ p y
 before-last p b x zero y e h = absurd (omega arith)
 before-last p b x (suc m) y e h = ap p (omega arith)
 

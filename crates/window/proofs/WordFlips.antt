@@ -15,7 +15,7 @@ use Rattle.laws.proofs.Lists.{sets-one, sets-append}
 use Rattle.list.specs.Stretches.{turned, consIf}
 use Rattle.window.specs.Bit.{on, set?}
 use Rattle.window.specs.Window.{member}
-use Rattle.window.specs.Flips.{odd, flips, windowCells, before, marks, cellsAt}
+use Rattle.window.specs.Flips.{odd, flips, windowCells, lastIn, marks, cellsAt}
 use Rattle.window.proofs.BitLaws.{differs, on-or, on-xor, on-suc, on-zero, on-low, on-up, on-below, on-high}
 use Rattle.window.proofs.MarkLaws.{places, marks-places, marks-count, cleared, marks-next, marks-none}
 use Rattle.window.proofs.FlipLaws.{flips-add, flips-parity, before-next}
@@ -67,7 +67,7 @@ pub flip-count : (w k : ℕ) → w < 2 ^ 64 → length (flipMarks w k) ≡ ones 
 flip-count w k h = marks-count (flipped w (k % 2)) (flipped-fits w (k % 2) h (omega arith))
 
 on-flipped : (p : ℕ → Bool) (b : Bool) (x w : ℕ) → ((i : ℕ) → i < 64 → on w i ≡ p (x + i)) →
-    (i : ℕ) → i < 64 → on (flipped w (digit b)) i ≡ differs (p (x + i)) (before p b x i)
+    (i : ℕ) → i < 64 → on (flipped w (digit b)) i ≡ differs (p (x + i)) (lastIn p b x i)
 on-flipped p b x w h zero l =
     on-xor w (bitOr (digit b) (w * 2 ^ 1 % 2 ^ 64)) 0
     ∙ ap₂ differs (h 0 l)
@@ -90,7 +90,7 @@ turn x k at true false ms r e f = rw (e, f (k + 1) (omega arith))
 turn x k at true true ms r e f = f k e
 
 cells-flips : (p : ℕ → Bool) (b : Bool) (x k d at n : ℕ) → k % 2 ≡ digit b →
-    ((i : ℕ) → i < d → on n i ≡ differs (p (x + at + i)) (before p b (x + at) i)) →
+    ((i : ℕ) → i < d → on n i ≡ differs (p (x + at + i)) (lastIn p b (x + at) i)) →
     cellsAt x k (places d at n) ≡ flips p b (x + at) d
 unfolding places flips cellsAt
 cells-flips p b x k zero at n e h = refl
@@ -113,13 +113,13 @@ module _ (p : ℕ → Bool) (x k w : ℕ) (h : (i : ℕ) → i < 64 → on w i �
   word-cells : cellsAt x k (flipMarks w k) ≡ flips p (odd k) x 64
   word-cells =
       let z : x + 0 ≡ x = omega arith in
-      let g : (i : ℕ) → i < 64 → on (flipped w (k % 2)) i ≡ differs (p (x + 0 + i)) (before p (odd k) (x + 0) i) =
+      let g : (i : ℕ) → i < 64 → on (flipped w (k % 2)) i ≡ differs (p (x + 0 + i)) (lastIn p (odd k) (x + 0) i) =
       rw z (λ i l. ap (λ (c : ℕ). on (flipped w c) i) (digit-odd k) ∙ on-flipped p (odd k) x w h i l) in
       ap (cellsAt x k) (marks-places (flipped w (k % 2)))
       ∙ cells-flips p (odd k) x k 64 0 (flipped w (k % 2)) (digit-odd k) g
       ∙ ap (λ (n : ℕ). flips p (odd k) n 64) z
 
-  word-last : before p (odd k) x 64 ≡ odd (k + length (flipMarks w k))
+  word-last : lastIn p (odd k) x 64 ≡ odd (k + length (flipMarks w k))
   word-last = sym (rw (← cells-length x k (flipMarks w k), word-cells) (flips-parity p (odd k) x 64 k refl))
 
   -- the cells of the numbers from x on, one word on

@@ -21,9 +21,9 @@ abbrev pub windowCells : List ℕ → ℕ → ℕ → List ℕ
 windowCells ws x k = flips (member ws x) (odd k) x (64 * length ws)
 
 -- whether x + k - 1 is in, where b says whether x - 1 is
-abbrev pub before : (ℕ → Bool) → Bool → ℕ → ℕ → Bool
-before p b x zero = b
-before p b x (suc k) = p (x + k)
+abbrev pub lastIn : (ℕ → Bool) → Bool → ℕ → ℕ → Bool
+lastIn p b x zero = b
+lastIn p b x (suc k) = p (x + k)
 
 -- the places of a word's set bits, lowest first
 unfoldable pub marks : ℕ → List ℕ

@@ -9,7 +9,7 @@ use borrow.Author.Needs.{needs}
 use Rattle.question.proofs.token.Token.{the-type}
 use Rattle.question.specs.declared.token.Token.{Token}
 use Rattle.question.specs.declared.token.Token.the-variants.{End, Word, Op, Open, Close, Other}
-use Rattle.question.specs.Next.{Within, endOf}
+use Rattle.question.specs.Next.{TokenWithin, endOf}
 use Rattle.cases_query.proofs.read_case.print_places.Statement.{statement}
 use Rattle.cases_query.proofs.read_case.print_places.Tie as tie
 
@@ -19,7 +19,7 @@ Inv-loop question at₀ at = at ≤ length question
 abbrev μ-loop : tie.MeasureT-loop
 μ-loop question at₀ at = length question - at
 
-lies-ahead : (at len : ℕ) (t : Token) → OneOf (1 ∷ 2 ∷ 3 ∷ 4 ∷ 5 ∷ []) (tagOf the-type t) → Within at len t → (at < endOf t) × (endOf t ≤ len)
+lies-ahead : (at len : ℕ) (t : Token) → OneOf (1 ∷ 2 ∷ 3 ∷ 4 ∷ 5 ∷ []) (tagOf the-type t) → TokenWithin at len t → (at < endOf t) × (endOf t ≤ len)
 lies-ahead at len (End p) h w = absurd (miss (1 ∷ 2 ∷ 3 ∷ 4 ∷ 5 ∷ []) 0 tt h)
 lies-ahead at len (Word p q) h w = (omega arith, omega arith)
 lies-ahead at len (Op o p q) h w = (omega arith, omega arith)

@@ -5,14 +5,14 @@ use native.Mathlib.Omega.{arith}
 use borrow.Author.Needs.{needs}
 use denote.Ref.{now}
 use lib.ListN.{length, drop}
-use Rattle.script.specs.Number.{numbersOf}
+use Rattle.script.specs.Number.{fieldNumbers}
 use Rattle.script.proofs.NumberLaws.{numbers-from, numbers-end}
 use Rattle.script.proofs.ReadsLaws.{Left, left-all, left-one, left-full, left-none, reads-counts}
 use Rattle.script.proofs.number.read_numbers.Statement.{statement}
 use Rattle.script.proofs.number.read_numbers.Tie as tie
 
 abbrev Inv-loop : tie.InvT-loop
-Inv-loop s out₀ count₀ at₀ out count at = Left (numbersOf s) out₀ 0 (numbersOf (drop at s)) out count
+Inv-loop s out₀ count₀ at₀ out count at = Left (fieldNumbers s) out₀ 0 (fieldNumbers (drop at s)) out count
 
 abbrev μ-loop : tie.MeasureT-loop
 μ-loop s out₀ count₀ at₀ out count at = length s - at

@@ -3,8 +3,8 @@ use borrow.Author.Needs.{needs}
 use lib.ListN.{length}
 use mir.Facts.{toZ-ofZ}
 use Rattle.ask.proofs.TransferLaws.{failed-reading, counted-reading}
-use Rattle.ask.proofs.transfer.reading_of.Statement.{statement}
-use Rattle.ask.proofs.transfer.reading_of.Tie as tie
+use Rattle.ask.proofs.transfer.file_read_of.Statement.{statement}
+use Rattle.ask.proofs.transfer.file_read_of.Tie as tie
 
 returns : tie.Need-returns
 returns c =
@@ -19,5 +19,5 @@ returns-2 c =
     let count = rw (toZ-ofZ (start .fits .got)) at (c .count .ensures .1) in
     (counted-reading (start .args .got) (length (start .args .bytes .now)) (c .count .result) whole count, search needs)
 
-pub reading-of-spec : {M : Type 1} → statement M
-reading-of-spec = tie.close (tie.spec (λ c κs. search needs) returns returns-2)
+pub file-read-of-spec : {M : Type 1} → statement M
+file-read-of-spec = tie.close (tie.spec (λ c κs. search needs) returns returns-2)
