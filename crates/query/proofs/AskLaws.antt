@@ -1,5 +1,5 @@
 -- Laws of the whole call: an accepted question made ready, its answer by what the driver tallied, and the refusals before it.
-use Prim.Native.Nat.{ℕ, _+_, _-_, _*_, _≤_}
+use Prim.Native.Nat.{ℕ, _+_, _-_, _*_}
 use native.Mathlib.Nat.{sub-zero}
 use native.Mathlib.Omega.{arith}
 use mathlib.Core.Path.{_≡_, sym, ap, _∙_}
@@ -74,8 +74,8 @@ module _ {codes index entries : List ℕ} {slots n : ℕ} {t : Tree} (prepared :
       Sweeps (satisfying index t) writing out out′ r
   prepared-swept s = rw prepared-cells at s
 
-  pub prepared-room : (out : List ℕ) → length (satisfying index t) ≤ length out → length (cellsOf (testOf index entries t) n) ≤ length out
-  prepared-room out h = rw prepared-cells h
+  pub prepared-length : length (cellsOf (testOf index entries t) n) ≡ length (satisfying index t)
+  prepared-length = ap length prepared-cells
 
 -- ---- the question's promise
 

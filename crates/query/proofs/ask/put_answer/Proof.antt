@@ -1,15 +1,12 @@
 -- Where the bound fits one pass writes; else a pass counts, and leaves the cells as they were for the one that writes.
-use Prim.Native.Nat.{_≤_}
 use mathlib.Core.Path.{_≡_, sym}
 use native.Mathlib.Omega.{arith}
-use lib.ListN.{length}
 use Rattle.laws.proofs.Tests.{true-false}
 use Rattle.index.specs.Format.{highest}
 use Rattle.index.proofs.SoundLaws.{sound-length}
 use Rattle.list.proofs.ListingLaws.{listed, counted-refused, counted-room, counted-listed}
-use Rattle.query.specs.Ask.{satisfying}
 use Rattle.query.proofs.SatisfyLaws.{satisfying-even}
-use Rattle.query.proofs.AskLaws.{prepared-swept, prepared-room}
+use Rattle.query.proofs.AskLaws.{prepared-swept, prepared-length}
 use borrow.Author.Needs.{needs}
 use Rattle.query.proofs.ask.put_answer.Statement.{statement}
 use Rattle.query.proofs.ask.put_answer.Tie as tie
@@ -28,9 +25,11 @@ sweep-question-requires c κs =
     let here = c .before .before .before in
     let a = asked here .args in
     let is = asked here .pre .1 in
-    let fits : length (satisfying (a .index .now) (is .tree)) ≤ length (a .out .now) =
-    omega (arith, satisfying-even (a .index .now) (is .tree), is .prepared .bound, c .before .before .slots-sum .ensures, c .before .if1 .taken) in
-    (asked here .pre .0, (limit here, record { tree = is .tree; reads = is .prepared .reads; room = λ w. prepared-room (is .prepared) (limit here) (a .out .now) fits }))
+    let even = satisfying-even (a .index .now) (is .tree) in
+    let sum = c .before .before .slots-sum .ensures in
+    let enough = c .before .if1 .taken in
+    let bound = is .prepared .bound in
+    (asked here .pre .0, (limit here, record { tree = is .tree; reads = is .prepared .reads; room = λ w. omega (arith, prepared-length (is .prepared) (limit here)) }))
 
 returns : tie.Need-returns
 returns c t prepared =
@@ -55,7 +54,7 @@ sweep-question-requires-3 c κs =
     let is = asked here .pre .1 in
     let counted = prepared-swept (is .prepared) (limit here) (c .before .before .before .before .sweep-question2 .ensures (is .tree) (is .prepared .reads)) in
     let fits = counted-room counted (satisfying-even (asked here .args .index .now) (is .tree)) (c .before .if2 .left) in
-    (asked here .pre .0, (limit here, record { tree = is .tree; reads = is .prepared .reads; room = λ w. prepared-room (is .prepared) (limit here) _ fits }))
+    (asked here .pre .0, (limit here, record { tree = is .tree; reads = is .prepared .reads; room = λ w. omega (arith, prepared-length (is .prepared) (limit here), fits) }))
 
 returns-3 : tie.Need-returns-3
 returns-3 c t prepared =
