@@ -50,5 +50,6 @@ members-turn ws x i h f =
     let e : 64 * (length ws - i) ≡ 64 + 64 * (length ws - (i + 1)) = omega arith in
     let z : x + 64 * i + 64 ≡ x + 64 * (i + 1) = omega arith in
     let first : length (recordsFrom (member ws x) (x + 64 * i) 64) ≡ ones (getD ws i 0) =
-    ap length (sym (places-records (member ws x) 64 (x + 64 * i) (getD ws i 0) (λ j g. member-word ws x (x + 64 * i) i j refl g))) ∙ places-count 64 (x + 64 * i) (getD ws i 0) f in
+    ap length (sym (places-records (member ws x) 64 (x + 64 * i) (getD ws i 0) (λ j g. member-word ws x (x + 64 * i) i j refl g)))
+    ∙ places-count 64 (x + 64 * i) (getD ws i 0) f in
     rw (e, recordsFrom-parts (member ws x) (x + 64 * i) 64 (64 * (length ws - (i + 1))), length-append, first, z)

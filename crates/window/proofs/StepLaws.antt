@@ -119,7 +119,8 @@ module _ {p : ℕ → Bool} {n : ℕ} {writing : Bool} {out₀ out : List ℕ} {
         sym (stretches-past p (odd k) x (n + 1 - x) (m - (n + 1 - x)) (λ i g. ends (x + (n + 1 - x) + i) (omega arith)))
         ∙ ap (stretches p (odd k) x) l
         ∙ part-turn p x m m k (omega arith)
-        ∙ ap (λ (r : List ℕ). vs ++ r) (stretches-none p (odd (k + length vs)) (x + m) (m - m) o (omega arith) ∙ sym (stretches-none p (odd (k + length vs)) next (n + 1 - next) o (omega arith))))
+        ∙ ap (λ (r : List ℕ). vs ++ r)
+        (stretches-none p (odd (k + length vs)) (x + m) (m - m) o (omega arith) ∙ sym (stretches-none p (odd (k + length vs)) next (n + 1 - next) o (omega arith))))
 
     step-members : recs + length (recordsFrom p x m) ≡ length (recordsFrom p 1 (next - 1))
     step-members =

@@ -75,8 +75,8 @@ returns-3 c =
 loop-again : tie.Need-loop-again Inv-loop μ-loop
 loop-again c =
     let read = c .before .before .before .before .before .before .before in
-    side-step (pairs-side (begun (loop read) .pre .0)) (loop read .loop .inv) (inside (read .before .before .before) .2) (read .before .before .number-at .ensures) (read .number-at2 .ensures)
-    (rw (c .before .before .before .before .before .before .above .ensures) at (c .before .before .before .fill-range2 .ensures))
+    side-step (pairs-side (begun (loop read) .pre .0)) (loop read .loop .inv) (inside (read .before .before .before) .2) (read .before .before .number-at .ensures)
+    (read .number-at2 .ensures) (rw (c .before .before .before .before .before .before .above .ensures) at (c .before .before .before .fill-range2 .ensures))
 
 returns-4 : tie.Need-returns-4 Inv-loop μ-loop
 returns-4 c =

@@ -154,7 +154,8 @@ module _ (t : ℕ) where
       let read = c .before .before .before .before .before in
       let n = size (loop read) in
       let most = size-most (loop read) in
-      let whole : length (right read ++ drop (n - 0) (replicate windowMost 0)) ≡ windowMost = same-len-mid 0 (n - 0) (replicate windowMost 0) (right read) (read .eval-operand2 .ensures .ws-long) in
+      let whole : length (right read ++ drop (n - 0) (replicate windowMost 0)) ≡ windowMost =
+      same-len-mid 0 (n - 0) (replicate windowMost 0) (right read) (read .eval-operand2 .ensures .ws-long) in
       omega arith
 
   level-combine-into-requires : eval-level-lts.Need-combine-into-requires (level-claims t) (eval-level-at t) eval-level.Post eval-level-Inv-loop eval-level-μ-loop

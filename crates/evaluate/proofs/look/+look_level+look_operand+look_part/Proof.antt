@@ -145,7 +145,8 @@ module _ (t : ℕ) where
   operand-returns-2 c =
       let start = c .before .before .before .before .before .before in
       let a = start .args in
-      looks-none (start .pre .1 .0) (c .unread .ensures) (λ f. operand-many (a .codes .now) f (a .d) (a .k) (a .i) (word-here (c .before .before) .0) _ _ _ (c .before .if2 .taken))
+      looks-none (start .pre .1 .0) (c .unread .ensures)
+      (λ f. operand-many (a .codes .now) f (a .d) (a .k) (a .i) (word-here (c .before .before) .0) _ _ _ (c .before .if2 .taken))
 
   operand-returns-3 : look-operand-lts.Need-returns-3 (operand-claims t) (look-operand-at t) look-operand.Post
   operand-returns-3 c =
