@@ -13,7 +13,7 @@ use Rattle.question.specs.Token.{Tok}
 use Rattle.question.specs.Grammar.{Tree, Out, word, pair, part, treeWords}
 use Rattle.question.specs.Meaning.{combine}
 use Rattle.fill.specs.Added.{Added}
-use Rattle.slots.specs.Slots.{slotHas, slotFits}
+use Rattle.slots.specs.Slots.{slotHas, slotSatisfies}
 use Rattle.codes.specs.Code.{andCode, notCode, noCode, opCode, opOf}
 use Rattle.codes.specs.Reads.{Reads}
 use Rattle.codes.proofs.CodeLaws.{op-range, operator-code}
@@ -52,22 +52,22 @@ front-back (suc m) (v ∷ vs) r e = ap (λ (l : List ℕ). v ∷ l) (front-back 
 
 -- nothing could be read, and nothing is changed
 pub evaluated-none : {reading : ℕ → List Tok → Out Tree} {codes : List ℕ} {i k : ℕ} {index entries : List ℕ} {base : ℕ} {hints ws : List ℕ} → i ≤ length codes →
-    ((f : ℕ) → Reads (reading f) codes i i k (λ t. Holds (slotFits (slotHas index entries) t k) base ws)) →
+    ((f : ℕ) → Reads (reading f) codes i i k (λ t. Holds (slotSatisfies (slotHas index entries) t k) base ws)) →
     Evaluated reading codes i k index entries base hints ws hints ws (record { code = i; slot = k })
 evaluated-none h r = record { ahead = omega arith; inside = h; hints-long = refl; ws-long = refl; reads = r }
 
 -- ---- what the windows hold
 
 module _ (v : ℕ → ℕ → Bool) (k : ℕ) {base : ℕ} where
-  pub holds-word : (w : List ℕ) {ws₀ ws : List ℕ} → ws₀ ≡ replicate (length ws₀) 0 → Added (v k) base ws₀ ws → Holds (slotFits v (word w) k) base ws
-  holds-word w {ws₀} {ws} e a = holds-agree (v k) (slotFits v (word w) k) base ws (λ n h. sym (slot-word v k (base + n) w)) (added-holds (v k) base (length ws₀) ws₀ ws e a)
+  pub holds-word : (w : List ℕ) {ws₀ ws : List ℕ} → ws₀ ≡ replicate (length ws₀) 0 → Added (v k) base ws₀ ws → Holds (slotSatisfies v (word w) k) base ws
+  holds-word w {ws₀} {ws} e a = holds-agree (v k) (slotSatisfies v (word w) k) base ws (λ n h. sym (slot-word v k (base + n) w)) (added-holds (v k) base (length ws₀) ws₀ ws e a)
 
-  pub holds-part : (t : Tree) {ws : List ℕ} → Holds (slotFits v t k) base ws → Holds (slotFits v (part t) k) base ws
-  holds-part t {ws} h = holds-agree (slotFits v t k) (slotFits v (part t) k) base ws (λ n l. sym (slot-part v k (base + n) t)) h
+  pub holds-part : (t : Tree) {ws : List ℕ} → Holds (slotSatisfies v t k) base ws → Holds (slotSatisfies v (part t) k) base ws
+  holds-part t {ws} h = holds-agree (slotSatisfies v t k) (slotSatisfies v (part t) k) base ws (λ n l. sym (slot-part v k (base + n) t)) h
 
   -- j is the slot of the right side's first word
   pub holds-pair : (o : Op) (a b : Tree) {j : ℕ} {xs ys zs : List ℕ} → j ≡ k + length (treeWords a) → length ys ≡ length xs → Combined (combine o) xs ys zs →
-      Holds (slotFits v a k) base xs → Holds (slotFits v b j) base ys → Holds (slotFits v (pair o a b) k) base zs
+      Holds (slotSatisfies v a k) base xs → Holds (slotSatisfies v b j) base ys → Holds (slotSatisfies v (pair o a b) k) base zs
   holds-pair o a b {j} {xs} {ys} {zs} e l c h g =
-      holds-agree (λ x. combine o (slotFits v a k x) (slotFits v b j x)) (slotFits v (pair o a b) k) base zs (λ n w. sym (slot-pair v k (base + n) o a b j e))
-      (holds-combined (combine o) (slotFits v a k) (slotFits v b j) base xs ys zs l c h g)
+      holds-agree (λ x. combine o (slotSatisfies v a k x) (slotSatisfies v b j x)) (slotSatisfies v (pair o a b) k) base zs (λ n w. sym (slot-pair v k (base + n) o a b j e))
+      (holds-combined (combine o) (slotSatisfies v a k) (slotSatisfies v b j) base xs ys zs l c h g)

@@ -16,7 +16,7 @@ use Rattle.question.specs.Grammar.{Tree, Out, word, pair, part, treeWords}
 use Rattle.question.specs.Meaning.{combine}
 use Rattle.codes.specs.Code.{andCode, orCode, opCode}
 use Rattle.codes.specs.Reads.{Reads}
-use Rattle.slots.specs.Slots.{slotHas, slotFits}
+use Rattle.slots.specs.Slots.{slotHas, slotSatisfies}
 use Rattle.evaluate.specs.Senses.{untilOf, insideOf}
 use Rattle.evaluate.specs.declared.look.Look.{Look}
 use Rattle.evaluate.specs.Look.{Tells, Looks}
@@ -84,11 +84,11 @@ module _ (index entries : List ℕ) (k x : ℕ) where
 module _ (senses : List ℕ) (k : ℕ) (a : Bool) (u : ℕ) where
   pub tells-word : u ≡ untilOf senses k → a ≡ insideOf senses k → (w : List ℕ) → Tells senses k a u (word w)
   unfolding treeWords
-  tells-word e f w v slots x h known = steady-same (v k) (slotFits v (word w) k) x a u (λ y. sym (slot-word v k y w)) (rw (e, f) (known k (omega arith)))
+  tells-word e f w v slots x h known = steady-same (v k) (slotSatisfies v (word w) k) x a u (λ y. sym (slot-word v k y w)) (rw (e, f) (known k (omega arith)))
 
   pub tells-part : (t : Tree) → Tells senses k a u t → Tells senses k a u (part t)
   unfolding treeWords
-  tells-part t s v slots x h known = steady-same (slotFits v t k) (slotFits v (part t) k) x a u (λ y. sym (slot-part v k y t)) (s v slots x h known)
+  tells-part t s v slots x h known = steady-same (slotSatisfies v t k) (slotSatisfies v (part t) k) x a u (λ y. sym (slot-part v k y t)) (s v slots x h known)
 
   pub tells-pair : (o : Op) (left right : Tree) (j : ℕ) → j ≡ k + length (treeWords left) → (b c : Bool) (m n : ℕ) →
       ((p q : ℕ → Bool) (x : ℕ) → Steady p x b m → Steady q x c n → Steady (λ y. combine o (p y) (q y)) x a u) →
@@ -96,8 +96,8 @@ module _ (senses : List ℕ) (k : ℕ) (a : Bool) (u : ℕ) where
   unfolding treeWords
   tells-pair o left right j e b c m n paired s t v slots x h known =
       let l = length-append (treeWords left) (treeWords right) in
-      steady-same (λ y. combine o (slotFits v left k y) (slotFits v right j y)) (slotFits v (pair o left right) k) x a u (λ y. sym (slot-pair v k y o left right j e))
-      (paired (slotFits v left k) (slotFits v right j) x (s v slots x (omega arith) known) (t v slots x (omega arith) known))
+      steady-same (λ y. combine o (slotSatisfies v left k y) (slotSatisfies v right j y)) (slotSatisfies v (pair o left right) k) x a u (λ y. sym (slot-pair v k y o left right j e))
+      (paired (slotSatisfies v left k) (slotSatisfies v right j) x (s v slots x (omega arith) known) (t v slots x (omega arith) known))
 
 -- ---- of a look
 

@@ -14,7 +14,7 @@ use Rattle.question.specs.declared.reader.Verdict.the-variants as reading
 use Rattle.question.specs.Token.{run, gather, tokensAt, tokens}
 use Rattle.question.specs.Limits.{tokenWords}
 use Rattle.promises.specs.Example.{boats, tide, or′}
-use Rattle.promises.specs.Table.{answered}
+use Rattle.promises.specs.Table.{tallied}
 use Rattle.promises.specs.Wrong.{writtenRefused, answerRefused, checkRefused, lookupRefused, wordRefused, probeRefused, verdictRefused}
 use Rattle.promises.specs.Wrong.{firstEntry, firstWord, firstBuilt, intervalsIn, recordsIn, neededIn, writtenIn, neededBy, belowIn}
 use Rattle.promises.specs.Wrong.{overlappingIn}
@@ -24,7 +24,7 @@ use Rattle.promises.proofs.WrongReturns.{counted}
 -- nothing written, listed or counted is an answer too, and so is entry 0
 pub answers-told :
     (writtenRefused (written.Wrote 0) ≡ false)
-    × (answerRefused (answered 0 0) ≡ false)
+    × (answerRefused (tallied 0 0) ≡ false)
     × (checkRefused checked.Good ≡ false)
     × (lookupRefused (Entry 0) ≡ false)
     × (wordRefused boats ≡ false)
@@ -62,9 +62,9 @@ unfolding isWordByte run
 first-builts = refl
 
 pub counts-told :
-    (intervalsIn (answered 2 5) ≡ some 2)
-    × (recordsIn (answered 2 5) ≡ some 5)
-    × (neededIn (answered 2 5) ≡ none)
+    (intervalsIn (tallied 2 5) ≡ some 2)
+    × (recordsIn (tallied 2 5) ≡ some 5)
+    × (neededIn (tallied 2 5) ≡ none)
     × (intervalsIn (answer.Refused (Room 7)) ≡ none)
     × (recordsIn (answer.Refused (Room 7)) ≡ none)
     × (neededIn (answer.Refused (Room 7)) ≡ some 7)
@@ -88,9 +88,9 @@ probes-told = (refl, refl, refl, refl)
 
 -- one number alone is another, and a refusal stays what it is, but for the room that 12 reports
 pub others-kept :
-    (withIntervals 7 (answered 2 5) ≡ answered 7 5)
-    × (withRecords 7 (answered 2 5) ≡ answered 2 7)
-    × (withNeeded 7 (answered 2 5) ≡ answered 2 5)
+    (withIntervals 7 (tallied 2 5) ≡ tallied 7 5)
+    × (withRecords 7 (tallied 2 5) ≡ tallied 2 7)
+    × (withNeeded 7 (tallied 2 5) ≡ tallied 2 5)
     × (withIntervals 7 (answer.Refused (Room 2)) ≡ answer.Refused (Room 2))
     × (withRecords 7 (answer.Refused (Room 2)) ≡ answer.Refused (Room 2))
     × (withNeeded 7 (answer.Refused (Room 2)) ≡ answer.Refused (Room 7))

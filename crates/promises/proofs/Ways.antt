@@ -7,7 +7,7 @@ use Rattle.list.specs.Ginix.{unionOf, intersectionOf}
 use Rattle.index.specs.Check.{checkOf}
 use Rattle.question.specs.Reading.{verdictOf}
 use Rattle.promises.specs.Example.{boats, tide, or′, example}
-use Rattle.promises.specs.Table.{lent, answered, table}
+use Rattle.promises.specs.Table.{lent, tallied, table}
 use Rattle.promises.specs.Wrong.{Meets, Misreporting, toIntervals, toNumbers, joins, asks, builds, lookup, entry, word, probe, writtenRefused}
 use Rattle.promises.specs.Wrong.{answerRefused, checkRefused, lookupRefused, partRefused, probeRefused, verdictRefused, firstEntry, firstWord}
 use Rattle.promises.specs.Wrong.{firstBuilt, intervalsIn}
@@ -95,7 +95,7 @@ ask-misreports =
     misreporting-kind rightAsk ask-met intervalsIn (λ a out. withIntervals 7) (example, boats ++ or′ ++ tide) lent
     (λ e. let z : _≡_ {A = ℕ} 7 2 = some-is 7 2 (sym (ap (λ r. intervalsIn (withIntervals 7 r)) answered) ∙ e ∙ ap intervalsIn answered) in omega arith)
   where
-    answered : rightAsk (example, boats ++ or′ ++ tide) lent .0 ≡ answered 2 5
+    answered : rightAsk (example, boats ++ or′ ++ tide) lent .0 ≡ tallied 2 5
     answered = sym (row-right table 0 (omega arith) table-right .answer)
 
 -- ---- a build

@@ -20,7 +20,7 @@ use Rattle.directory.specs.Has.{has}
 use Rattle.index.specs.Check.{checkOf}
 use Rattle.question.specs.Token.{tokens}
 use Rattle.question.specs.Grammar.{Tree, Rule, fromLeft}
-use Rattle.question.specs.Meaning.{fits}
+use Rattle.question.specs.Meaning.{satisfies}
 use Rattle.question.specs.Reading.{parses, refuses, parsed}
 use Rattle.question.proofs.ParsedLaws.{asked-accepts, accepted-within}
 use Rattle.query.specs.Ask.{satisfying, Answers, Asks}
@@ -32,7 +32,7 @@ use Rattle.slots.specs.Compile.{Compiles}
 use Rattle.query.specs.Drive.{TreeOf, testOf, AskedBy}
 use Rattle.query.specs.Prepared.{Prepared}
 use Rattle.query.proofs.QuestionBound.{question-bound}
-use Rattle.slots.proofs.WholeLaws.{slot-fits, compiled-slots}
+use Rattle.slots.proofs.WholeLaws.{slot-satisfies, compiled-slots}
 
 -- ---- an accepted question made ready
 
@@ -58,7 +58,7 @@ module _ {index s codes codes′ entries entries′ : List ℕ} {r : Compiled} (
       let have = compiled-slots c t k is in
       record {
         reads = asked-tree s (take (r .codes - 0) codes′) t k is compiled-codes;
-        same = λ x. slot-fits (slotHas index entries′) (has index) t x (λ i h. have .1 i h x);
+        same = λ x. slot-satisfies (slotHas index entries′) (has index) t x (λ i h. have .1 i h x);
         bound = rw (have .0) (question-bound index entries′ sound t (have .1));
       }
 
@@ -67,7 +67,7 @@ module _ {index s codes codes′ entries entries′ : List ℕ} {r : Compiled} (
 module _ {codes index entries : List ℕ} {slots n : ℕ} {t : Tree} (prepared : Prepared codes index entries slots t) (limit : n ≡ highest index) where
   prepared-cells : cellsOf (testOf index entries t) n ≡ satisfying index t
   unfolding satisfying
-  prepared-cells = rw limit (cells-same (testOf index entries t) (fits (has index) t) (highest index) (λ x h g. prepared .same x))
+  prepared-cells = rw limit (cells-same (testOf index entries t) (satisfies (has index) t) (highest index) (λ x h g. prepared .same x))
 
   -- a pass over the test's list is one over the answer
   pub prepared-swept : {writing : Bool} {out out′ : List ℕ} {r : Tally} → Sweeps (cellsOf (testOf index entries t) n) writing out out′ r →

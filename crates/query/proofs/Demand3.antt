@@ -34,7 +34,7 @@ use Rattle.index.specs.Check.{checkOf}
 use Rattle.index.proofs.CheckLaws.{good-sound}
 use Rattle.question.specs.Token.{tokens}
 use Rattle.question.specs.Grammar.{Tree, Rule, fromLeft}
-use Rattle.question.specs.Meaning.{fits, Respects}
+use Rattle.question.specs.Meaning.{satisfies, Respects}
 use Rattle.question.specs.Reading.{parses, parsed}
 use Rattle.question.specs.Limits.{tokenWords}
 use Rattle.question.specs.Exchange.{around, Matched, Exchangeable, AcceptedToo}
@@ -74,9 +74,9 @@ module _ (rule : Rule) (index question : List ℕ) (t : Tree) (out out′ : List
       ∙ take-at cells (drop (length cells) out) (2 * tally .intervals) (sym (satisfying-even index t) ∙ ap (λ (w : Tally). 2 * w .intervals) (sym answered-tally))
 
   -- Reference 3.2: of whatever cells name just the records that satisfy the question
-  pub fewest-intervals : (c : List ℕ) → names c 0 ≡ false → ((x : ℕ) → 1 ≤ x → x ≤ highest index → names c x ≡ fits (has index) t x) → tally .intervals ≤ intervals c
+  pub fewest-intervals : (c : List ℕ) → names c 0 ≡ false → ((x : ℕ) → 1 ≤ x → x ≤ highest index → names c x ≡ satisfies (has index) t x) → tally .intervals ≤ intervals c
   unfolding satisfying
-  fewest-intervals c e f = rw answered-tally (fewest-of (fits (has index) t) (highest index) c e f)
+  fewest-intervals c e f = rw answered-tally (fewest-of (satisfies (has index) t) (highest index) c e f)
 
 -- ---- two answered questions
 
@@ -130,7 +130,7 @@ module _ (rule : Rule) (respects : Respects rule) (index before a b behind : Lis
       let too = changed e in
       let one = e .tree in
       let two = too .tree in
-      let same : satisfying index one ≡ satisfying index two = satisfying-same index one two (λ x h g. too .fits-same x) in
+      let same : satisfying index one ≡ satisfying index two = satisfying-same index one two (λ x h g. too .satisfies-same x) in
       let first-says : r ≡ listAnswer (satisfying index one) (length out / 2) = rw (e .sound, e .accepted) at (one-call .answer) in
       let first-leaves : out′ ≡ listCells (satisfying index one) (length out / 2) out = rw (e .sound, e .accepted) at (one-call .cells) in
       let second-says : r′ ≡ listAnswer (satisfying index two) (length other / 2) = rw (e .sound, too .accepted) at (other-call .answer) in
@@ -187,7 +187,7 @@ exchanging-itself rule index before a behind sound t n accepted matched =
       tree-b = by .tree;
       words-b = length (tokenWords (tokens a));
       b-accepted = by .accepted;
-      same = λ u m e x h g. ap (λ (y : Tree). fits (has index) y x) (parsed-once rule a u (by .tree) m (length (tokenWords (tokens a))) e (by .accepted));
+      same = λ u m e x h g. ap (λ (y : Tree). satisfies (has index) y x) (parsed-once rule a u (by .tree) m (length (tokenWords (tokens a))) e (by .accepted));
       within = accepted-within rule (around before a behind) t n accepted;
     }
 

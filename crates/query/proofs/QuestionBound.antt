@@ -11,12 +11,12 @@ use Rattle.index.specs.Format.{highest}
 use Rattle.index.specs.Sound.{Sound}
 use Rattle.directory.specs.Has.{has}
 use Rattle.question.specs.Grammar.{Tree, treeWords}
-use Rattle.question.specs.Meaning.{fits}
-use Rattle.slots.specs.Slots.{slotHas, slotFits}
+use Rattle.question.specs.Meaning.{satisfies}
+use Rattle.slots.specs.Slots.{slotHas, slotSatisfies}
 use Rattle.slots.specs.Bound.{slotsIntervals}
 use Rattle.slots.proofs.SlotLaws.{slots-none}
-use Rattle.slots.proofs.WholeLaws.{slot-fits, TreeSlots}
-use Rattle.slots.proofs.SlotBound.{slot-zero, tests, tests-still, tests-out, tests-together, fits-still}
+use Rattle.slots.proofs.WholeLaws.{slot-satisfies, TreeSlots}
+use Rattle.slots.proofs.SlotBound.{slot-zero, tests, tests-still, tests-out, tests-together, satisfies-still}
 use Rattle.query.specs.Ask.{satisfying}
 
 -- an answer with room for that many intervals needs no counting first
@@ -26,8 +26,8 @@ unfolding satisfying
 question-bound index entries s t f =
     let v = slotHas index entries in
     let n = length (treeWords t) in
-    let e : cellsOf (fits (has index) t) (highest index) ≡ cellsOf (slotFits v t 0) (highest index) =
-    cells-same (fits (has index) t) (slotFits v t 0) (highest index) (λ x h l. sym (slot-fits v (has index) t x (λ i g. f i g x))) in
+    let e : cellsOf (satisfies (has index) t) (highest index) ≡ cellsOf (slotSatisfies v t 0) (highest index) =
+    cells-same (satisfies (has index) t) (slotSatisfies v t 0) (highest index) (λ x h l. sym (slot-satisfies v (has index) t x (λ i g. f i g x))) in
     rw (e, ← tests-together index entries s 0 n)
-    (cells-bound (slotFits v t 0) (tests v 0 n) (highest index) (slots-none v 0 (λ j. slot-zero index entries s j) t 0) (tests-out v 0 n (λ j. slot-zero index entries s j))
-    (λ x h w. fits-still v t 0 x (λ j g l. tests-still v 0 n x j w g l)))
+    (cells-bound (slotSatisfies v t 0) (tests v 0 n) (highest index) (slots-none v 0 (λ j. slot-zero index entries s j) t 0) (tests-out v 0 n (λ j. slot-zero index entries s j))
+    (λ x h w. satisfies-still v t 0 x (λ j g l. tests-still v 0 n x j w g l)))

@@ -12,7 +12,7 @@ use Rattle.index.specs.Format.{highest}
 use Rattle.directory.specs.Has.{has}
 use Rattle.index.specs.Check.{checkOf}
 use Rattle.question.specs.Grammar.{Tree, Rule}
-use Rattle.question.specs.Meaning.{fits}
+use Rattle.question.specs.Meaning.{satisfies}
 use Rattle.question.specs.Reading.{parses, parsed}
 use Rattle.question.specs.Limits.{WithinLimits}
 use Rattle.question.specs.Exchange.{around, Matched}
@@ -32,7 +32,7 @@ pub record Answered (rule : Rule) (index question : List ℕ) (t : Tree) (out ou
 
 -- Reference 11, demand 3: every record satisfies both questions or neither
 abbrev pub SameRecords : List ℕ → Tree → Tree → Type 0
-SameRecords index t u = (x : ℕ) → 1 ≤ x → x ≤ highest index → fits (has index) t x ≡ fits (has index) u x
+SameRecords index t u = (x : ℕ) → 1 ≤ x → x ≤ highest index → satisfies (has index) t x ≡ satisfies (has index) u x
 
 -- ---- the exchange of a part in brackets: Reference 11, demand 3
 

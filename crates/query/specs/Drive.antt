@@ -17,7 +17,7 @@ use Rattle.window.specs.Steps.{Stepped}
 use Rattle.question.specs.Token.{Tok}
 use Rattle.question.specs.Grammar.{Tree, good, fromLeft, question}
 use Rattle.codes.specs.Code.{codesOf, wordCodes}
-use Rattle.slots.specs.Slots.{slotHas, slotFits}
+use Rattle.slots.specs.Slots.{slotHas, slotSatisfies}
 use Rattle.evaluate.specs.declared.look.Look.{Look}
 use Rattle.evaluate.specs.Senses.{Sensed}
 use Rattle.query.specs.declared.drive.At.{At}
@@ -34,7 +34,7 @@ pub record TreeOf (codes : List ℕ) (t : Tree) : Type 0 where
 
 -- which records satisfy it, by what its slots have
 abbrev pub testOf : List ℕ → List ℕ → Tree → ℕ → Bool
-testOf index entries t = slotFits (slotHas index entries) t 0
+testOf index entries t = slotSatisfies (slotHas index entries) t 0
 
 -- P is so of the test of each tree that the codes read as
 abbrev pub OfEach : List ℕ → List ℕ → List ℕ → ((ℕ → Bool) → Type 0) → Type 0

@@ -7,7 +7,7 @@ use Rattle.list.specs.Interval.{intervals}
 use Rattle.list.specs.Answer.{Listing}
 use Rattle.directory.specs.Has.{has}
 use Rattle.question.specs.Grammar.{Tree, fromLeft}
-use Rattle.question.specs.Meaning.{fits}
+use Rattle.question.specs.Meaning.{satisfies}
 use Rattle.question.specs.Reading.{parses, parsed}
 use Rattle.query.specs.Ask.{satisfying}
 use Rattle.slots.specs.Bound.{slotsIntervals}
@@ -23,7 +23,7 @@ pub record IsParsed (question : List ℕ) : Type 0 where
 -- slots together
 pub record Prepared (codes index entries : List ℕ) (slots : ℕ) (t : Tree) : Type 0 where
   pub reads : TreeOf codes t
-  pub same : (x : ℕ) → testOf index entries t x ≡ fits (has index) t x
+  pub same : (x : ℕ) → testOf index entries t x ≡ satisfies (has index) t x
   pub bound : intervals (satisfying index t) ≤ slotsIntervals index entries 0 slots
 
 -- so they are of some question

@@ -8,7 +8,7 @@ use lib.Dec.{ltb, eqb}
 use Rattle.question.specs.declared.token.Op.{Op}
 use Rattle.question.specs.Token.{choose, Tok, wordT, opT, openT, closeT, otherT}
 use Rattle.question.specs.Grammar.{Tree, word, part, Link, link, Rule, Out, good, bad, bind, closed, question, operand, links}
-use Rattle.question.specs.Meaning.{fits, Same, SameLinks, none, more, Respects}
+use Rattle.question.specs.Meaning.{satisfies, Same, SameLinks, none, more, Respects}
 
 -- ---- two readings of tokens that are the same up to a pair of Base
 
@@ -158,7 +158,7 @@ module _ (rule : Rule) (respects : Respects rule) (has : List ℕ → ℕ → Bo
     exchanged : Parts (openT 0 ∷ (q ++ closeT 0 ∷ post)) (openT 0 ∷ (q′ ++ closeT 0 ∷ post))
 
   same-part : (a b : Tree) → Same has a b → Same has (part a) (part b)
-  unfolding fits
+  unfolding satisfies
   same-part a b p x = p x
 
   means-keeps : Keeps rule (Same has) (SameLinks has)

@@ -22,8 +22,8 @@ pub record ReadBy (index entries hints : List ℕ) : Type 0 where
   pub entries-long : length entries ≡ questionWordsMax
   pub hints-long : length hints ≡ 2 * questionWordsMax
 
--- whether record x fits a tree whose first word has slot k, by what each slot has
-unfoldable pub slotFits : (ℕ → ℕ → Bool) → Tree → ℕ → ℕ → Bool
-slotFits v (word w) k x = v k x
-slotFits v (pair o a b) k x = combine o (slotFits v a k x) (slotFits v b (k + length (treeWords a)) x)
-slotFits v (part t) k x = slotFits v t k x
+-- whether record x satisfies a tree whose first word has slot k, by what each slot has
+unfoldable pub slotSatisfies : (ℕ → ℕ → Bool) → Tree → ℕ → ℕ → Bool
+slotSatisfies v (word w) k x = v k x
+slotSatisfies v (pair o a b) k x = combine o (slotSatisfies v a k x) (slotSatisfies v b (k + length (treeWords a)) x)
+slotSatisfies v (part t) k x = slotSatisfies v t k x

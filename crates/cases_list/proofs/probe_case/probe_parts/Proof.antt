@@ -10,5 +10,5 @@ probe-parts-spec =
     tie.close
     (tie.spec
     (λ c. search needs) (λ c. search needs) (λ c κs. search needs)
-    (λ c κs. (sym (c .before .is-kept .ensures) ∙ c .if3 .taken, omega arith, omega arith)) (λ c. search needs) (λ c κs. search needs)
+    (λ c κs. (sym (c .before .is-kept .ensures) ∙ c .if3 .taken, (omega arith, omega arith))) (λ c. search needs) (λ c κs. search needs)
     (λ c κs. search needs) (λ c κs. search needs) (λ c. search needs) (λ c. search needs))

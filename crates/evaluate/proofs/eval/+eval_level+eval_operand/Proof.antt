@@ -10,7 +10,7 @@ use borrow.Rule.Slice.PartMut.{same-len-mid}
 use borrow.Author.Needs.{needs}
 use Rattle.window.specs.Tuning.{windowMost}
 use Rattle.window.specs.Window.{Holds}
-use Rattle.slots.specs.Slots.{slotHas, slotFits}
+use Rattle.slots.specs.Slots.{slotHas, slotSatisfies}
 use Rattle.codes.proofs.ReadsLaws.{Level, level-start, level-step, level-end, operand-none, operand-word, operand-many, operand-deep, operand-part, operand-unclosed}
 use Rattle.evaluate.proofs.EvalLaws.{Here, code-here, operator-here, front-blank, front-back, evaluated-none, holds-word, holds-part, holds-pair}
 use Rattle.codes.specs.Code.{wordCode, openCode, closeCode, opCode, opOf}
@@ -57,7 +57,7 @@ operand-claims t = (code-at.Asked, code-at.Learnt, fill-slot.Asked, fill-slot.Le
 
 abbrev eval-level-Inv-loop : eval-level-lts.InvT-loop
 eval-level-Inv-loop codes i k d index entries base hints₀ ws₀ at₀ slot₀ n hints ws at slot =
-    (i ≤ at) × (at ≤ length codes) × (length hints ≡ 32) × (length ws ≡ length ws₀) × Level codes d k i at slot (λ t. Holds (slotFits (slotHas index entries) t k) base ws)
+    (i ≤ at) × (at ≤ length codes) × (length hints ≡ 32) × (length ws ≡ length ws₀) × Level codes d k i at slot (λ t. Holds (slotSatisfies (slotHas index entries) t k) base ws)
 
 abbrev eval-level-μ-loop : eval-level-lts.MeasureT-loop
 eval-level-μ-loop codes i k d index entries base hints₀ ws₀ at₀ slot₀ n hints ws at slot = length codes - at
