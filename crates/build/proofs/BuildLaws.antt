@@ -23,10 +23,11 @@ use Rattle.index.specs.Check.{checkOf}
 use Rattle.directory.specs.Has.{has}
 use Rattle.index.proofs.SoundLaws.{part-length}
 use Rattle.build.specs.Lent.{lentWords, sumTo, listsFrom}
-use Rattle.build.specs.Layout.{cellsIn}
+use Rattle.layout.specs.Layout.{cellsIn}
 use Rattle.build.specs.Build.{lentOf, sizeAnswer, afterLent, indexFrom, buildOf, Builds}
 use Rattle.build.specs.Passes.{GoodLent}
-use Rattle.build.specs.ReadsBack.{Below, Indexable, recordsFor}
+use Rattle.layout.specs.Layout.{Below}
+use Rattle.build.specs.ReadsBack.{Indexable, recordsFor}
 use Rattle.build.proofs.IndexOfLaws.{built-word-count, built-highest, built-word, built-list, built-sound, built-good, built-below}
 use Rattle.build.proofs.ReadsBackLaws.{built-has, reads-back}
 use Rattle.build.proofs.LentLaws.{lists-at}

@@ -27,7 +27,8 @@ use Rattle.index.proofs.SoundLaws.{words-step, sound-entry, sound-list, singles
 use Rattle.directory.proofs.HasLaws.{has-entry, list-proper, below-down, entry-place, found-place, nowhere-has}
 use Rattle.build.specs.Lent.{lentWords, listsFrom}
 use Rattle.build.specs.Build.{Builds}
-use Rattle.build.specs.ReadsBack.{Below, recordsFor}
+use Rattle.layout.specs.Layout.{Below}
+use Rattle.build.specs.ReadsBack.{recordsFor}
 use Rattle.build.proofs.BuildLaws.{build-sound, build-highest, build-has, build-below}
 use Rattle.build.proofs.EncodingLaws.{one-encoding}
 

@@ -22,10 +22,11 @@ use Rattle.index.specs.Sound.{Sound}
 use Rattle.index.proofs.SoundLaws.{sound-length, sound-edition, sound-word, words-step, sound-trailer, sound-entry, sound-list, sound-ends, wordsEnd-next, listsEnd-next, word-length, singles-length, lower-length, upper-length}
 use Rattle.directory.proofs.HasLaws.{list-proper}
 use Rattle.build.specs.Lent.{lentBefore}
-use Rattle.build.specs.Layout.{cellsBytes, cellSingles, lowersIn, uppersIn, keptBytes, cellsIn, listsBytes, wordsBytes, entryBytes, directoryBytes, trailerBytes, indexOf}
-use Rattle.build.specs.ReadsBack.{Below, Indexable, listed, indexWords, recordsAt, listsIn}
-use Rattle.build.proofs.BytesLaws.{below-take, below-drop, numbers-cells, cell-split}
-use Rattle.build.proofs.KeptBytesLaws.{kept-length, kept-apart}
+use Rattle.layout.specs.Layout.{cellsBytes, cellSingles, lowersIn, uppersIn, keptBytes, cellsIn, listsBytes, wordsBytes, entryBytes, directoryBytes, trailerBytes, indexOf}
+use Rattle.layout.specs.Layout.{Below}
+use Rattle.build.specs.ReadsBack.{Indexable, listed, indexWords, recordsAt, listsIn}
+use Rattle.layout.proofs.BytesLaws.{below-take, below-drop, numbers-cells, cell-split}
+use Rattle.layout.proofs.KeptBytesLaws.{kept-length, kept-apart}
 
 -- ---- an index's words and lists, in order
 

@@ -9,16 +9,17 @@ use Rattle.laws.proofs.Tests.{leb-cases}
 use Rattle.laws.proofs.Lists.{sets-append, sets-front}
 use Rattle.limits.specs.Limits.{recordMax}
 use Rattle.convert.specs.Convert.{intervalsOf}
-use Rattle.build.specs.declared.entry.Spots.{Spots}
+use Rattle.layout.specs.declared.entry.Spots.{Spots}
 use Rattle.build.specs.Lent.{wordsFrom, lentWords, sumTo, listsFrom}
-use Rattle.build.specs.Layout.{keptBytes, listsBytes, wordsBytes, directoryBytes, trailerBytes, indexOf}
-use Rattle.build.specs.Passes.{wordEnd, entered, enteredTo, EnteredWithin, allEntered, AllWithin}
-use Rattle.build.proofs.BytesLaws.{cells-length}
-use Rattle.build.proofs.LayoutLaws.{directoryCells, directory-bytes, directory-length}
+use Rattle.layout.specs.Layout.{keptBytes, listsBytes, wordsBytes, directoryBytes, trailerBytes, indexOf}
+use Rattle.layout.specs.Laid.{entered, enteredTo, EnteredWithin}
+use Rattle.build.specs.Passes.{wordEnd, allEntered, AllWithin}
+use Rattle.layout.proofs.BytesLaws.{cells-length}
+use Rattle.layout.proofs.LayoutLaws.{directoryCells, directory-bytes, directory-length}
 use Rattle.build.proofs.WordsLaws.{next-word, last-word}
 use Rattle.build.proofs.CountLaws.{sum-next, sum-first-none}
 use Rattle.build.proofs.ListsLaws.{lists-next, lists-none}
-use Rattle.build.proofs.WriteLaws.{indexPlan, index-entered}
+use Rattle.layout.proofs.WriteLaws.{indexPlan, index-entered}
 
 -- ---- one word
 

@@ -25,9 +25,9 @@ use Rattle.index.specs.declared.Checked.the-variants.{Good, Refused}
 use Rattle.index.specs.Format.{part}
 use Rattle.index.proofs.CheckLaws.{not-good, cond-good, place-none}
 use Rattle.build.specs.declared.words.Words.the-variants.{Counted, Bad}
-use Rattle.build.specs.declared.entry.Spots.{Spots}
+use Rattle.layout.specs.declared.entry.Spots.{Spots}
 use Rattle.build.specs.Lent.{lentWords, wordTotal, badLent, badCount, badRest, sumTo, listsFrom}
-use Rattle.build.specs.Layout.{cellsBytes, listsBytes, wordsBytes}
+use Rattle.layout.specs.Layout.{cellsBytes, listsBytes, wordsBytes}
 use Rattle.build.specs.Build.{badWords, badCounts, badNumbers, faultThen, lentOf, indexFrom, buildOf, Builds}
 use Rattle.build.specs.Passes.{wordsAnswer, countFault, Fair, Lists, GoodLent, allEntered, AllWithin}
 use Rattle.build.proofs.LentLaws.{LentWord, lent-word, LentCount, lent-count, lent-rest, lists-length, lists-at}

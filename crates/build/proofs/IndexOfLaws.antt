@@ -22,13 +22,14 @@ use Rattle.index.specs.declared.Checked.the-variants.{Good}
 use Rattle.index.specs.Check.{checkOf}
 use Rattle.index.proofs.CheckLaws.{length-good, edition-good, sound-good}
 use Rattle.build.specs.Lent.{lentBefore}
-use Rattle.build.specs.Layout.{cellsBytes, cellSingles, lowersIn, uppersIn, keptBytes, cellsIn, listsBytes, wordsBytes, directoryBytes, trailerBytes, indexOf}
-use Rattle.build.specs.ReadsBack.{Below, Indexable}
-use Rattle.build.proofs.BytesLaws.{cellLimit, below-append, cells-below, cells-length, cells-append, cells-numbers, cellAt-behind, part-between}
-use Rattle.build.proofs.KeptBytesLaws.{kept-length, uppers-length, cells-count, parts-below, walked-cells, cells-kept}
-use Rattle.build.proofs.LayoutLaws.{wordsTo, words-split, words-to-next, words-to-bound, words-to-end, word-below, words-below}
-use Rattle.build.proofs.LayoutLaws.{listsTo, lists-split, lists-to-next, lists-to-bound, lists-to-end, lists-below}
-use Rattle.build.proofs.LayoutLaws.{entryCells, directoryCells, directory-bytes, directory-length, directory-at, directory-below}
+use Rattle.layout.specs.Layout.{cellsBytes, cellSingles, lowersIn, uppersIn, keptBytes, cellsIn, listsBytes, wordsBytes, directoryBytes, trailerBytes, indexOf}
+use Rattle.layout.specs.Layout.{Below}
+use Rattle.build.specs.ReadsBack.{Indexable}
+use Rattle.layout.proofs.BytesLaws.{cellLimit, below-append, cells-below, cells-length, cells-append, cells-numbers, cellAt-behind, part-between}
+use Rattle.layout.proofs.KeptBytesLaws.{kept-length, uppers-length, cells-count, parts-below, walked-cells, cells-kept}
+use Rattle.layout.proofs.LayoutLaws.{wordsTo, words-split, words-to-next, words-to-bound, words-to-end, word-below, words-below}
+use Rattle.layout.proofs.LayoutLaws.{listsTo, lists-split, lists-to-next, lists-to-bound, lists-to-end, lists-below}
+use Rattle.layout.proofs.LayoutLaws.{entryCells, directoryCells, directory-bytes, directory-length, directory-at, directory-below}
 
 pub indexable-ascends : {n : ℕ} {ws xss : List (List ℕ)} → Indexable n ws xss → (i : ℕ) → i < length ws → Ascends n 0 (getD xss i [])
 indexable-ascends {n} {xss = xss} is i h = good-ascends n (getD xss i []) (is .records i h)

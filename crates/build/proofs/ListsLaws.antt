@@ -14,7 +14,7 @@ use Rattle.convert.proofs.NumberLaws.{ascends-good}
 use Rattle.convert.proofs.RunLaws.{runs-cells}
 use Rattle.index.proofs.SoundLaws.{part-length}
 use Rattle.build.specs.Lent.{sumTo, listsFrom}
-use Rattle.build.specs.Layout.{keptBytes, cellsIn, listsBytes, entryBytes, directoryBytes}
+use Rattle.layout.specs.Layout.{keptBytes, cellsIn, listsBytes, entryBytes, directoryBytes}
 use Rattle.build.specs.Passes.{Lists}
 use Rattle.build.proofs.CountLaws.{list-part}
 

@@ -19,7 +19,7 @@ use Rattle.list.proofs.StretchLaws.{cells-names, cells-names-zero, cells-names-
 use Rattle.list.proofs.RecordLaws.{Ascends, among-below, among-above}
 use Rattle.directory.specs.Has.{has}
 use Rattle.directory.proofs.HasLaws.{has-entry, has-nowhere}
-use Rattle.build.specs.Layout.{cellsIn, indexOf}
+use Rattle.layout.specs.Layout.{cellsIn, indexOf}
 use Rattle.build.specs.ReadsBack.{Indexable, recordsFor}
 use Rattle.build.proofs.IndexOfLaws.{indexable-ascends, built-word-count, built-word, built-list, built-sound}
 

@@ -17,9 +17,9 @@ use Rattle.refusal.specs.First.{first}
 use Rattle.refusal.proofs.FirstLaws.{first-is, first-none-is}
 use Rattle.word.specs.Word.{before, isWord}
 use Rattle.build.specs.Lent.{wordsFrom, lentWords, restFrom, restOf, one-if-any, wordTotal, lentBefore, badLent}
-use Rattle.build.specs.Layout.{wordsBytes}
+use Rattle.layout.specs.Layout.{wordsBytes}
 use Rattle.build.specs.Passes.{wordEnd}
-use Rattle.build.proofs.BytesLaws.{Next, next-of}
+use Rattle.layout.proofs.BytesLaws.{Next, next-of}
 use Rattle.build.proofs.LentLaws.{LentWord}
 
 -- ---- one byte on

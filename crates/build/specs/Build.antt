@@ -17,7 +17,7 @@ use Rattle.index.specs.declared.Checked.{Checked}
 use Rattle.index.specs.declared.Checked.the-variants.{Good, Refused}
 use Rattle.index.specs.Check.{badPlace}
 use Rattle.build.specs.Lent.{lentWords, wordTotal, badLent, badCount, badRest, badListed, listsFrom}
-use Rattle.build.specs.Layout.{indexOf}
+use Rattle.layout.specs.Layout.{indexOf}
 
 -- Reference 9.1, row 17: the first bad word
 abbrev pub badWords : List ℕ → Found

@@ -13,12 +13,7 @@ use Rattle.list.specs.Stretches.{recordsOf}
 use Rattle.convert.specs.Convert.{badNumber}
 use Rattle.index.specs.Format.{wordCount, highest, wordOf, listOf}
 use Rattle.build.specs.Lent.{lentBefore}
-use Rattle.build.specs.Layout.{indexOf}
-
--- Reference 4: all numbers are below m; with 256, they are bytes
-abbrev pub Below : ℕ → List ℕ → Type 0
-Below m [] = Unit {0}
-Below m (x ∷ xs) = (x < m) × Below m xs
+use Rattle.layout.specs.Layout.{indexOf}
 
 -- Reference 8.9: N, words and lists that no rule of building refuses, 12 apart
 pub record Indexable (n : ℕ) (ws xss : List (List ℕ)) : Type 0 where

@@ -5,13 +5,13 @@ ghost use lib.ListN.{length};
 ghost use Rattle.limits.specs.Limits.{indexMax, recordMax};
 ghost use Rattle.convert.specs.Front.{inFront};
 ghost use Rattle.build.specs.Lent.{lentWords, listsFrom};
-ghost use Rattle.build.specs.Layout.{listsBytes};
+ghost use Rattle.layout.specs.Layout.{listsBytes};
 ghost use Rattle.build.specs.Build.{indexFrom};
 ghost use Rattle.build.specs.Passes.{GoodLent, Lists, allEntered, AllWithin};
-use crate::cells::put_five;
-use crate::entry::Spots;
-use crate::entry::write_word;
 use crate::words::word_end;
+use layout::cells::put_five;
+use layout::entry::Spots;
+use layout::entry::write_word;
 
 // Writes all words with their lists.
 fn write_words(out: &mut [u8], from: Spots, words: &[u8], counts: &[u32], numbers: &[u32])

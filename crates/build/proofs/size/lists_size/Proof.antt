@@ -9,8 +9,8 @@ use borrow.Author.Needs.{needs}
 use Rattle.limits.specs.Limits.{recordMax}
 use Rattle.convert.specs.Convert.{intervalsOf}
 use Rattle.build.specs.Lent.{sumTo, listsFrom}
-use Rattle.build.specs.Layout.{listsBytes}
-use Rattle.build.proofs.KeptBytesLaws.{kept-length}
+use Rattle.layout.specs.Layout.{listsBytes}
+use Rattle.layout.proofs.KeptBytesLaws.{kept-length}
 use Rattle.build.proofs.CountLaws.{sum-next, sum-first-none}
 use Rattle.build.proofs.ListsLaws.{lists-next, list-good, list-long, list-within, lists-none, lists-bytes-next, lists-bytes-none}
 use Rattle.build.proofs.size.lists_size.Statement.{statement}
