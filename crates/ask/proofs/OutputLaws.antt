@@ -22,23 +22,25 @@ use Rattle.index.proofs.CheckLaws.{good-sound}
 use Rattle.question.specs.Grammar.{fromLeft}
 use Rattle.question.specs.Reading.{Parsed, parses, refuses, parsed}
 use Rattle.query.specs.Ask.{satisfying, askAnswer, askCells}
+use Rattle.parts.proofs.PartLaws.{counts-within}
+use Rattle.lines.specs.Room.{answerCells, lineRoom}
 use Rattle.lines.specs.Line.{shown, lineOf, PutFirst}
 use Rattle.lines.proofs.TextLaws.{line-short}
-use Rattle.ask.specs.Output.{fileCheck, AnswersLine, questionLine}
-use Rattle.ask.proofs.TransferLaws.{within-counts}
+use Rattle.ask.specs.Output.{indexMost, fileCheck, AnswersLine, questionLine}
 
 pub file-sound : (index : List ℕ) → fileCheck index ≡ Good → Sound index
 file-sound index e =
-    by-test (ltb 65536 (length index))
+    by-test (ltb indexMost (length index))
     (λ t. absurd (let r = rw t at e in let z : _≡_ {A = ℕ} 0 1 = cc in omega arith))
     (λ t. good-sound index (rw t at e))
 
 -- the cells that hold the intervals are within the room
-listed-within : (c : List ℕ) (room : ℕ) (t : Bool) → leb (intervals c) room ≡ t → shown (cond t (answer.Listed (tallyOf c)) (answer.Refused (Room (intervals c)))) ≤ 2 * room
+listed-within : (c : List ℕ) (room : ℕ) (t : Bool) → leb (intervals c) room ≡ t →
+    shown (cond t (answer.Listed (tallyOf c)) (answer.Refused (Room (intervals c)))) ≤ 2 * room
 listed-within c room true e = omega (arith, leb-true (intervals c) room e)
 listed-within c room false e = omega arith
 
-pub shown-within : (checked : Checked) (index : List ℕ) (a : Parsed) (room : ℕ) → shown (askAnswer checked index a room) ≤ 2 * room
+shown-within : (checked : Checked) (index : List ℕ) (a : Parsed) (room : ℕ) → shown (askAnswer checked index a room) ≤ 2 * room
 shown-within (Refused r) index a room = omega arith
 shown-within Good index (refuses r) room = omega arith
 shown-within Good index (parses t k) room = listed-within (satisfying index t) room (leb (intervals (satisfying index t)) room) refl
@@ -53,25 +55,24 @@ listed-same number c true out =
 listed-same number c false out = refl
 
 line-same : (number : ℕ) (checked : Checked) (index : List ℕ) (a : Parsed) (room : ℕ) (out : List ℕ) →
-    lineOf number (askAnswer checked index a room) (askCells checked index a room out) ≡ lineOf number (askAnswer checked index a room) (askCells checked index a room [])
+    lineOf number (askAnswer checked index a room) (askCells checked index a room out)
+    ≡ lineOf number (askAnswer checked index a room) (askCells checked index a room [])
 line-same number (Refused r) index a room out = refl
 line-same number Good index (refuses r) room out = refl
 line-same number Good index (parses t k) room out = listed-same number (satisfying index t) (leb (intervals (satisfying index t)) room) out
 
-module _ (index question out out′ : List ℕ) (r : Answer) (p : AnswersLine index question out out′ r) where
+module _ {index question out out′ : List ℕ} {r : Answer} (p : AnswersLine index question out out′ r) where
   pub answer-within : shown r ≤ length out
   answer-within = rw (p .answer) (omega (arith, shown-within (fileCheck index) index (parsed fromLeft question) (length out / 2)))
 
-  pub line-room : (number : ℕ) → length out′ ≤ 16384 → length (lineOf number r out′) ≤ 344169
+  pub line-room : (number : ℕ) → length out′ ≤ answerCells → length (lineOf number r out′) ≤ lineRoom
   line-room number h = line-short number r out′ h
 
-  pub question-line : (number : ℕ) → length out ≡ 16384 → lineOf number r out′ ≡ questionLine index number question
+  pub question-line : (number : ℕ) → length out ≡ answerCells → lineOf number r out′ ≡ questionLine index number question
   question-line number h =
       let room : length out / 2 ≡ 8192 = omega arith in
       rw (p .answer, p .cells, room) (line-same number (fileCheck index) index (parsed fromLeft question) 8192 out)
 
 -- the bytes of a text that was written are bytes of what it was written into
-pub written-counts : (out text out′ : List ℕ) (r : ℕ) → PutFirst out text out′ r → Counts r out′
-written-counts out text out′ r w =
-    let h : r ≤ length out′ = omega (arith, w .size, ap length (w .bytes), length-append text (drop (length text) out)) in
-    within-counts r out′ h
+pub written-counts : {out text out′ : List ℕ} {r : ℕ} → PutFirst out text out′ r → Counts r out′
+written-counts {out} {text} {out′} {r} w = counts-within r out′ (omega (arith, w .size, ap length (w .bytes), length-append text (drop (length text) out)))

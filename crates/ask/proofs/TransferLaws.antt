@@ -1,24 +1,20 @@
 -- Laws of reading: what a read put into a lent tail, said of the whole buffer, and what its answer says.
-use mathlib.Core.Path.{_≡_, refl, sym, ap}
-use Prim.Native.Nat.{ℕ, _+_, _-_, _≤_}
+use mathlib.Core.Path.{_≡_, refl, ap}
+use Prim.Native.Nat.{ℕ, _-_, _≤_}
 use native.Mathlib.Omega.{arith}
 use mathlib.Core.Bool.{true, false}
 use mathlib.Core.List.{List}
 use lib.ListN.{length}
-use lib.Seq.{length-take-le}
 use lib.IntN.{ℤ, pos, negsuc}
 use lib.Signed.{ltZ}
 use borrow.Author.Tests.{ltb-true}
 use borrow.Rule.Slice.PartMut.{putMid, midOf, same-len-mid, mid-len, take-put}
-use Rattle.io.specs.Counts.{Counts, clamped}
-use Rattle.ask.specs.declared.transfer.Reading.{Reading}
-use Rattle.ask.specs.declared.transfer.Reading.the-variants.{Bytes, Failed}
-use Rattle.ask.specs.Transfer.{readCount, readingOf, ReadsOn}
+use Rattle.io.specs.Counts.{clamped}
+use Rattle.ask.specs.declared.transfer.FileRead.{FileRead}
+use Rattle.ask.specs.declared.transfer.FileRead.the-variants.{Bytes, Failed}
+use Rattle.ask.specs.Transfer.{readCount, fileReadOf, ReadsOn}
 
-pub within-counts : (n : ℕ) (bytes : List ℕ) → n ≤ length bytes → Counts n bytes
-within-counts n bytes h = (h, sym (length-take-le n bytes h))
-
-pub tail-read : (done : ℕ) (bytes tail : List ℕ) (r : Reading) →
+pub tail-read : (done : ℕ) (bytes tail : List ℕ) (r : FileRead) →
     done ≤ length bytes →
     length tail ≡ length (midOf done (length bytes - done) bytes) →
     readCount r ≤ length tail →
@@ -29,10 +25,10 @@ tail-read done bytes tail r h same counted =
       within = omega (arith, same, counted, same-len-mid done (length bytes - done) bytes tail same, mid-len done (length bytes) bytes (omega arith));
     }
 
-pub failed-reading : (got : ℤ) (n : ℕ) → ltZ got (pos 0) ≡ true → Failed ≡ readingOf got n
+pub failed-reading : (got : ℤ) (n : ℕ) → ltZ got (pos 0) ≡ true → Failed ≡ fileReadOf got n
 failed-reading (pos k) n h = absurd (omega (arith, ltb-true k 0 h))
 failed-reading (negsuc k) n h = refl
 
-pub counted-reading : (got : ℤ) (n count : ℕ) → ltZ got (pos 0) ≡ false → count ≡ clamped got n → Bytes count ≡ readingOf got n
+pub counted-reading : (got : ℤ) (n count : ℕ) → ltZ got (pos 0) ≡ false → count ≡ clamped got n → Bytes count ≡ fileReadOf got n
 counted-reading (pos k) n count h e = ap Bytes e
 counted-reading (negsuc k) n count h e = absurd (let z : _≡_ {A = ℕ} 0 1 = cc in omega arith)

@@ -15,9 +15,13 @@ use Rattle.question.specs.Reading.{parsed}
 use Rattle.query.specs.Ask.{askAnswer, askCells}
 use Rattle.lines.specs.Line.{lineOf}
 
+-- Reference 10: the most bytes of a file that are taken as an index
+abbrev pub indexMost : ℕ
+indexMost = 65536
+
 -- Reference 10: the check of what was read; of a missing file that is nothing, of one that is too long 65,537 bytes
 abbrev pub fileCheck : List ℕ → Checked
-fileCheck index = cond (ltb 65536 (length index)) (Refused (IndexLength 65537)) (checkOf index)
+fileCheck index = cond (ltb indexMost (length index)) (Refused (IndexLength 65537)) (checkOf index)
 
 -- Reference 10: what a question is answered with, where `room` intervals have room in the cells `out`
 abbrev pub answerTo : List ℕ → List ℕ → ℕ → Answer

@@ -4,6 +4,7 @@ ghost use Prim.Native.Nat.{_≤_};
 ghost use lib.ListN.{length};
 ghost use Rattle.io.specs.Counts.{Counts};
 ghost use Rattle.lines.specs.Line.{PutFirst};
+ghost use Rattle.lines.specs.Room.{answerCells, lineRoom};
 ghost use Rattle.ask.specs.Output.{fileCheck, AnswersLine, questionLine};
 use index::Checked;
 use index::check::check_index;
@@ -46,9 +47,11 @@ pub fn write_answer(
     cells: &mut [u32],
     out: &mut [u8],
 ) -> usize
-    requires { ⌜ (checked ≡ fileCheck (now index)) × (length (now cells) ≡ 16384) × (344169 ≤ length (now out)) ⌝ }
-    ensures { λ r. ⌜ PutFirst (now (out .entry)) (questionLine (now (index .entry)) number (now (question .entry))) (now (out .exit)) r ⌝ }
-    ensures { λ r. ⌜ Counts r (now (out .exit)) ⌝ }
+    requires checks { ⌜ checked ≡ fileCheck (now index) ⌝ }
+    requires lends { ⌜ length (now cells) ≡ answerCells ⌝ }
+    requires room { ⌜ lineRoom ≤ length (now out) ⌝ }
+    ensures puts { λ r. ⌜ PutFirst (now (out .entry)) (questionLine (now (index .entry)) number (now (question .entry))) (now (out .exit)) r ⌝ }
+    ensures counts { λ r. ⌜ Counts r (now (out .exit)) ⌝ }
 {
     let answer = answer_line(index, checked, question, cells);
     write_line(number, answer, cells, out)

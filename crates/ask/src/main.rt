@@ -2,22 +2,27 @@
 mod answer;
 mod transfer;
 
+use answer::INDEX_MOST;
 use answer::check_file;
 use answer::write_answer;
 use index::Checked;
 use libc::STDIN_FILENO;
 use libc::STDOUT_FILENO;
+use lines::line::ANSWER_CELLS;
 use lines::line::LINE_ROOM;
+use lines::split::INPUT_MOST;
 use lines::split::answered_end;
 use lines::split::is_past;
-use lines::split::line_end;
-use transfer::Reading;
+use parts::part_end;
+use transfer::FileRead;
 use transfer::read_file;
 use transfer::write_whole;
 ghost use mathlib.Core.Path.{_≡_};
 ghost use Prim.Native.Nat.{_≤_};
 ghost use lib.ListN.{length};
 ghost use Rattle.io.specs.Counts.{Counts};
+ghost use Rattle.lines.specs.Lines.{inputMost};
+ghost use Rattle.lines.specs.Room.{answerCells, lineRoom};
 ghost use Rattle.ask.specs.Output.{fileCheck};
 
 // Reads the file from its start, and answers how many bytes there are; one that is missing or cannot be read has none.
@@ -31,8 +36,8 @@ fn read_index(bytes: &mut [u8]) -> usize
     let reading = read_file(fd, bytes);
     libc::close(fd);
     match reading {
-        Reading::Bytes(count) => count,
-        Reading::Failed => 0,
+        FileRead::Bytes(count) => count,
+        FileRead::Failed => 0,
     }
 }
 
@@ -44,12 +49,15 @@ fn answer_lines(
     cells: &mut [u32],
     out: &mut [u8],
 ) -> bool
-    requires { ⌜ (checked ≡ fileCheck (now index)) × (length (now input) ≤ 65536) × (length (now cells) ≡ 16384) × (344169 ≤ length (now out)) ⌝ }
+    requires checks { ⌜ checked ≡ fileCheck (now index) ⌝ }
+    requires few { ⌜ length (now input) ≤ inputMost ⌝ }
+    requires lends { ⌜ length (now cells) ≡ answerCells ⌝ }
+    requires room { ⌜ lineRoom ≤ length (now out) ⌝ }
 {
     let mut number: usize = 1;
     let mut from = 0;
     while from < input.len() {
-        let end = line_end(input, from);
+        let end = part_end(input, from, b'\n');
         let size = write_answer(index, checked, &input[from..end], number, cells, out);
         if write_whole(STDOUT_FILENO, &out[..size]) < size {
             return false;
@@ -61,15 +69,15 @@ fn answer_lines(
 }
 
 // The cells that are lent for each answer.
-fn answer_cells() -> [u32; 16_384]
-    ensures { λ r. ⌜ 16384 ≡ length r ⌝ }
+fn answer_cells() -> [u32; ANSWER_CELLS]
+    ensures { λ r. ⌜ answerCells ≡ length r ⌝ }
 {
-    [0; 16_384]
+    [0; ANSWER_CELLS]
 }
 
 // Room for every line of as many cells.
 fn line_bytes() -> [u8; LINE_ROOM]
-    ensures { λ r. ⌜ 344169 ≡ length r ⌝ }
+    ensures { λ r. ⌜ lineRoom ≡ length r ⌝ }
 {
     [0; LINE_ROOM]
 }
@@ -91,12 +99,12 @@ fn answer_input(index: &[u8], input: &[u8]) -> bool {
 
 // One byte more than is taken of each shows that there is more.
 fn main() {
-    let mut index = [0u8; 65_537];
+    let mut index = [0u8; INDEX_MOST + 1];
     let index_size = read_index(&mut index);
-    let mut input = [0u8; 65_537];
+    let mut input = [0u8; INPUT_MOST + 1];
     match read_file(STDIN_FILENO, &mut input) {
-        Reading::Failed => os::fail(b"ask: cannot read the questions"),
-        Reading::Bytes(size) => {
+        FileRead::Failed => os::fail(b"ask: cannot read the questions"),
+        FileRead::Bytes(size) => {
             if !answer_input(&index[..index_size], &input[..size]) {
                 os::fail(b"ask: cannot write the answers");
             }

@@ -6,13 +6,13 @@ ghost use lib.ListN.{length};
 ghost use lib.IntN.{pos};
 ghost use lib.Signed.{ltZ};
 ghost use Rattle.io.specs.Counts.{Counts};
-ghost use Rattle.ask.specs.Transfer.{readCount, readingOf, ReadsOn};
+ghost use Rattle.ask.specs.Transfer.{readCount, fileReadOf, ReadsOn};
 
 // How often in a row a call may be interrupted before it counts as failed: every loop has to end.
 const PATIENCE: usize = 1_000_000;
 
 // What was read of a file: so many bytes before its end or the buffer's, or that a read failed.
-pub enum Reading {
+pub enum FileRead {
     Bytes(usize),
     Failed,
 }
@@ -55,33 +55,34 @@ pub fn write_whole(fd: i32, bytes: &[u8]) -> usize
 }
 
 // What a read into these bytes said by its answer.
-fn reading_of(got: isize, bytes: &[u8]) -> Reading
-    ensures { λ r. ⌜ (r ≡ readingOf got (length (now (bytes .entry)))) × Counts (readCount r) (now (bytes .entry)) ⌝ }
+fn file_read_of(got: isize, bytes: &[u8]) -> FileRead
+    ensures reads { λ r. ⌜ r ≡ fileReadOf got (length (now (bytes .entry))) ⌝ }
+    ensures counts { λ r. ⌜ Counts (readCount r) (now (bytes .entry)) ⌝ }
 {
     if got < 0 {
-        Reading::Failed
+        FileRead::Failed
     } else {
-        Reading::Bytes(io::count(got, bytes))
+        FileRead::Bytes(io::count(got, bytes))
     }
 }
 
 // One read; at the file's end it reads 0 bytes.
-fn read_some(fd: i32, bytes: &mut [u8]) -> Reading
+fn read_some(fd: i32, bytes: &mut [u8]) -> FileRead
     ensures { λ r. ⌜ Counts (readCount r) (now (bytes .exit)) ⌝ }
 {
     let mut tries = PATIENCE;
     while tries > 0 {
         let got = libc::read(fd, bytes);
         if !is_interrupted(got) {
-            return reading_of(got, bytes);
+            return file_read_of(got, bytes);
         }
         tries -= 1;
     }
-    Reading::Failed
+    FileRead::Failed
 }
 
 // One read behind the bytes that were read before, which stay.
-fn read_on(fd: i32, bytes: &mut [u8], done: usize) -> Reading
+fn read_on(fd: i32, bytes: &mut [u8], done: usize) -> FileRead
     requires { ⌜ done ≤ length (now bytes) ⌝ }
     ensures { λ r. ⌜ ReadsOn done (now (bytes .entry)) (now (bytes .exit)) r ⌝ }
 {
@@ -89,20 +90,20 @@ fn read_on(fd: i32, bytes: &mut [u8], done: usize) -> Reading
 }
 
 // Reads until the file ends or the buffer is full.
-pub fn read_file(fd: i32, bytes: &mut [u8]) -> Reading
+pub fn read_file(fd: i32, bytes: &mut [u8]) -> FileRead
     ensures { λ r. ⌜ Counts (readCount r) (now (bytes .exit)) ⌝ }
 {
     let mut done = 0;
     while done < bytes.len() {
         match read_on(fd, bytes, done) {
-            Reading::Failed => return Reading::Failed,
-            Reading::Bytes(more) => {
+            FileRead::Failed => return FileRead::Failed,
+            FileRead::Bytes(more) => {
                 if more == 0 {
-                    return Reading::Bytes(done);
+                    return FileRead::Bytes(done);
                 }
                 done += more;
             }
         }
     }
-    Reading::Bytes(done)
+    FileRead::Bytes(done)
 }

@@ -1,5 +1,5 @@
 -- One count, and the list of one count: when each is bad, as the passes over counts and numbers find it.
-use mathlib.Core.Path.{_≡_, refl, ap, _∙_}
+use mathlib.Core.Path.{_≡_, refl, sym, ap, _∙_}
 use Prim.Native.Nat.{ℕ, zero, suc, _+_, _-_, _≤_, _<_}
 use native.Mathlib.Omega.{arith}
 use native.Mathlib.Numerals.{add-one}
@@ -100,6 +100,14 @@ module _ (n : ℕ) (counts numbers : List ℕ) (i : ℕ) (h : i < length counts)
   listed-alone k g =
       rw (listed-before k g, getD-take (getD counts i 0) (drop begin numbers) k 0 g, getD-drop begin numbers k 0)
 
+  -- none of the list is bad where none of all is
+  pub list-none : begin + getD counts i 0 ≤ length numbers → first (badListed n counts (length counts) numbers) (length numbers) ≡ Nowhere →
+      first (badNumber n xs) (length xs) ≡ Nowhere
+  list-none r e =
+      let l = part-length begin (getD counts i 0) numbers r in
+      first-none-is (badNumber n xs) (length xs)
+      (λ k g. sym (listed-alone k (omega arith)) ∙ first-none (badListed n counts (length counts) numbers) (length numbers) e (begin + k) (omega arith))
+
 -- ---- the pass over the lists
 
 -- the list of count i, by where it begins and ends
@@ -107,14 +115,14 @@ pub list-part : (counts numbers : List ℕ) (i start end : ℕ) → start ≡ su
     take (end - start) (drop start numbers) ≡ part (sumTo counts i) (getD counts i 0) numbers
 list-part counts numbers i start end s e = let f : end - start ≡ getD counts i 0 = omega arith in rw (f, s)
 
+pub fair-count : {counts : List ℕ} {total : ℕ} → Fair counts total → (i : ℕ) → i < length counts → LentCount counts total i
+fair-count {counts} {total} is i h = lent-count counts total i (first-none (badCount counts total) (length counts) (is .each) i h)
+
 module _ (n : ℕ) (counts numbers : List ℕ) (is : Fair counts (length numbers)) where
   abbrev bad : ℕ → Bool
   bad = badListed n counts (length counts) numbers
 
-  pub fair-count : (i : ℕ) → i < length counts → LentCount counts (length numbers) i
-  fair-count i h = lent-count counts (length numbers) i (first-none (badCount counts (length numbers)) (length counts) (is .each) i h)
-
-  module _ (i start end : ℕ) (h : i < length counts) (s : start ≡ sumTo counts i) (e : end ≡ start + getD counts i 0) where
+  module _ (i : ℕ) {start end : ℕ} (h : i < length counts) (s : start ≡ sumTo counts i) (e : end ≡ start + getD counts i 0) where
     abbrev list : List ℕ
     list = take (end - start) (drop start numbers)
 
@@ -122,7 +130,7 @@ module _ (n : ℕ) (counts numbers : List ℕ) (is : Fair counts (length numbers
     list-is = list-part counts numbers i start end s e
 
     list-length : length list ≡ getD counts i 0
-    list-length = ap length list-is ∙ part-length (sumTo counts i) (getD counts i 0) numbers (fair-count i h .room)
+    list-length = ap length list-is ∙ part-length (sumTo counts i) (getD counts i 0) numbers (fair-count is i h .room)
 
     at-place : (j : ℕ) → start ≤ j → j < end → bad j ≡ badNumber n list (j - start)
     at-place j l g =
@@ -132,7 +140,7 @@ module _ (n : ℕ) (counts numbers : List ℕ) (is : Fair counts (length numbers
     pub list-hit : (k : ℕ) → first (badNumber n list) (length list) ≡ At k → ((j : ℕ) → j < start → bad j ≡ false) → first bad (length numbers) ≡ At (start + k)
     list-hit k f g =
         let w = first-at (badNumber n list) k (length list) f in
-        let c = fair-count i h in
+        let c = fair-count is i h in
         let d : start + k - start ≡ k = omega arith in
         first-is bad (start + k) (length numbers)
         (

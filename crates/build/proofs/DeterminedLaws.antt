@@ -27,7 +27,8 @@ use Rattle.index.proofs.SoundLaws.{words-step, sound-entry, sound-list, singles
 use Rattle.directory.proofs.HasLaws.{has-entry, list-proper, below-down, entry-place, found-place, nowhere-has}
 use Rattle.build.specs.Lent.{lentWords, listsFrom}
 use Rattle.build.specs.Build.{Builds}
-use Rattle.build.specs.ReadsBack.{Below, recordsFor}
+use Rattle.layout.specs.Layout.{Below}
+use Rattle.build.specs.ReadsBack.{recordsFor}
 use Rattle.build.proofs.BuildLaws.{build-sound, build-highest, build-has, build-below}
 use Rattle.build.proofs.EncodingLaws.{one-encoding}
 
@@ -121,6 +122,4 @@ pub build-again : (index : List ℕ) → Sound index → Below 256 index → (wo
     Builds (highest index) words counts numbers out out′ (Wrote size) →
     ((w : List ℕ) (x : ℕ) → among (recordsFor (lentWords words) (listsFrom counts numbers) w) x ≡ has index w x) → take size out′ ≡ index
 build-again index s b words counts numbers out out′ size done f =
-    let n = highest index in
-    has-determines (take size out′) index (build-sound n words counts numbers out out′ size done) s (build-below n words counts numbers out out′ size done) b
-    (build-highest n words counts numbers out out′ size done) (λ w x. build-has n words counts numbers out out′ size done w x ∙ f w x)
+    has-determines (take size out′) index (build-sound done) s (build-below done) b (build-highest done) (λ w x. build-has done w x ∙ f w x)

@@ -22,10 +22,11 @@ use Rattle.index.specs.Sound.{Sound}
 use Rattle.index.proofs.SoundLaws.{sound-length, sound-edition, sound-word, words-step, sound-trailer, sound-entry, sound-list, sound-ends, wordsEnd-next, listsEnd-next, word-length, singles-length, lower-length, upper-length}
 use Rattle.directory.proofs.HasLaws.{list-proper}
 use Rattle.build.specs.Lent.{lentBefore}
-use Rattle.build.specs.Layout.{cellBytes, cellsBytes, cellSingles, lowersIn, uppersIn, keptBytes, cellsIn, listsBytes, wordsBytes, entryBytes, directoryBytes, trailerBytes, indexOf}
-use Rattle.build.specs.ReadsBack.{Below, Indexable, listed, indexWords, recordsAt, listsIn}
-use Rattle.build.proofs.BytesLaws.{below-take, below-drop, numbers-cells, cell-split}
-use Rattle.build.proofs.KeptBytesLaws.{kept-length, kept-apart}
+use Rattle.layout.specs.Layout.{cellsBytes, cellSingles, lowersIn, uppersIn, keptBytes, cellsIn, listsBytes, wordsBytes, entryBytes, directoryBytes, trailerBytes, indexOf}
+use Rattle.layout.specs.Layout.{Below}
+use Rattle.build.specs.ReadsBack.{Indexable, listed, indexWords, recordsAt, listsIn}
+use Rattle.layout.proofs.BytesLaws.{below-take, below-drop, numbers-cells, cell-split}
+use Rattle.layout.proofs.KeptBytesLaws.{kept-length, kept-apart}
 
 -- ---- an index's words and lists, in order
 
@@ -69,24 +70,27 @@ three-parts x a b c bytes =
     regroup : (p q r t : List ℕ) → p ++ (q ++ (r ++ t)) ≡ (p ++ q ++ r) ++ t
     regroup p q r t = simp append-assoc
 
-five-cells : (bytes : List ℕ) (at : ℕ) → Below 256 bytes → at + 20 ≤ length bytes →
+cells-split : (bytes : List ℕ) (at : ℕ) → Below 256 bytes → at + 20 ≤ length bytes →
     drop at bytes
     ≡ cellsBytes (cellAt bytes at ∷ cellAt bytes (at + 4) ∷ cellAt bytes (at + 8) ∷ cellAt bytes (at + 12) ∷ cellAt bytes (at + 16) ∷ [])
     ++ drop (at + 20) bytes
 unfolding cellsBytes
-five-cells bytes at b h =
+cells-split bytes at b h =
     let p : at + 4 + 4 ≡ at + 8 = omega arith in
     let q : at + 8 + 4 ≡ at + 12 = omega arith in
     let r : at + 12 + 4 ≡ at + 16 = omega arith in
     let s : at + 16 + 4 ≡ at + 20 = omega arith in
-    let e₀ = cell-split bytes at b (omega arith) in
-    let e₁ : drop (at + 4) bytes ≡ cellBytes (cellAt bytes (at + 4)) ++ drop (at + 8) bytes = cell-split bytes (at + 4) b (omega arith) ∙ ap (λ (k : ℕ). cellBytes (cellAt bytes (at + 4)) ++ drop k bytes) p in
-    let e₂ : drop (at + 8) bytes ≡ cellBytes (cellAt bytes (at + 8)) ++ drop (at + 12) bytes = cell-split bytes (at + 8) b (omega arith) ∙ ap (λ (k : ℕ). cellBytes (cellAt bytes (at + 8)) ++ drop k bytes) q in
-    let e₃ : drop (at + 12) bytes ≡ cellBytes (cellAt bytes (at + 12)) ++ drop (at + 16) bytes = cell-split bytes (at + 12) b (omega arith) ∙ ap (λ (k : ℕ). cellBytes (cellAt bytes (at + 12)) ++ drop k bytes) r in
-    let e₄ : drop (at + 16) bytes ≡ cellBytes (cellAt bytes (at + 16)) ++ drop (at + 20) bytes = cell-split bytes (at + 16) b (omega arith) ∙ ap (λ (k : ℕ). cellBytes (cellAt bytes (at + 16)) ++ drop k bytes) s in
-    e₀
-    ∙ ap (λ (t : List ℕ). cellBytes (cellAt bytes at) ++ t)
-    (e₁ ∙ ap (λ (t : List ℕ). cellBytes (cellAt bytes (at + 4)) ++ t) (e₂ ∙ ap (λ (t : List ℕ). cellBytes (cellAt bytes (at + 8)) ++ t) (e₃ ∙ ap (λ (t : List ℕ). cellBytes (cellAt bytes (at + 12)) ++ t) e₄)))
+    rw (
+      cell-split bytes at b (omega arith),
+      cell-split bytes (at + 4) b (omega arith),
+      p,
+      cell-split bytes (at + 8) b (omega arith),
+      q,
+      cell-split bytes (at + 12) b (omega arith),
+      r,
+      cell-split bytes (at + 16) b (omega arith),
+      s,
+    )
 
 -- ---- a sound index, region by region
 
@@ -105,11 +109,9 @@ module _ (index : List ℕ) (s : Sound index) (b : Below 256 index) where
   unfolding listOf
   apart i h = kept-apart N (numbersIn (singlesOf index i)) (numbersIn (lowerOf index i)) (numbersIn (upperOf index i)) (sound-list index s i h)
 
-  part-below : (start size : ℕ) → Below 256 (part start size index)
-  part-below start size = below-take 256 size (drop start index) (below-drop 256 start index b)
-
-  region-bytes : (r : List ℕ) (k : ℕ) → Below 256 r → length r ≡ 4 * k → cellsBytes (numbersIn r) ≡ r
-  region-bytes r k a e = numbers-cells r a (omega arith)
+  region-bytes : (start k : ℕ) → length (part start (4 * k) index) ≡ 4 * k → cellsBytes (numbersIn (part start (4 * k) index)) ≡ part start (4 * k) index
+  region-bytes start k e =
+      numbers-cells (part start (4 * k) index) (below-take 256 (4 * k) (drop start index) (below-drop 256 start index b)) (omega arith)
 
   region-count : (r : List ℕ) (k : ℕ) → length r ≡ 4 * k → length (numbersIn r) ≡ k
   region-count r k e = omega (arith, numbersIn-length r)
@@ -124,26 +126,17 @@ module _ (index : List ℕ) (s : Sound index) (b : Below 256 index) where
   unfolding listLength
   kept-size i h = kept-length (listOf index i) ∙ omega (arith, single-count i h, pair-count i h)
 
-  singles-bytes : (i : ℕ) → i < wordCount index → cellsBytes (cellSingles (listOf index i)) ≡ singlesOf index i
-  unfolding singlesOf
-  singles-bytes i h =
-      ap cellsBytes (apart i h .0) ∙ region-bytes (singlesOf index i) (singleCount index i) (part-below (listStart index i) (4 * singleCount index i)) (singles-length index s i h)
-
-  lowers-bytes : (i : ℕ) → i < wordCount index → cellsBytes (lowersIn (listOf index i)) ≡ lowerOf index i
-  unfolding lowerOf
-  lowers-bytes i h =
-      ap cellsBytes (apart i h .1)
-      ∙ region-bytes (lowerOf index i) (pairCount index i) (part-below (listStart index i + 4 * singleCount index i) (4 * pairCount index i)) (lower-length index s i h)
-
-  uppers-bytes : (i : ℕ) → i < wordCount index → cellsBytes (uppersIn (listOf index i)) ≡ upperOf index i
-  unfolding upperOf
-  uppers-bytes i h =
-      ap cellsBytes (apart i h .2)
-      ∙ region-bytes (upperOf index i) (pairCount index i) (part-below (listStart index i + 4 * singleCount index i + 4 * pairCount index i) (4 * pairCount index i)) (upper-length index s i h)
-
   kept-bytes : (i : ℕ) → i < wordCount index → keptBytes (listOf index i) ≡ singlesOf index i ++ lowerOf index i ++ upperOf index i
-  unfolding keptBytes
-  kept-bytes i h = rw (singles-bytes i h, lowers-bytes i h, uppers-bytes i h)
+  unfolding keptBytes singlesOf lowerOf upperOf
+  kept-bytes i h =
+      let a = apart i h in
+      let l = listStart index i in
+      let m = singleCount index i in
+      let k = pairCount index i in
+      let p = ap cellsBytes (a .0) ∙ region-bytes l m (singles-length index s i h) in
+      let q = ap cellsBytes (a .1) ∙ region-bytes (l + 4 * m) k (lower-length index s i h) in
+      let r = ap cellsBytes (a .2) ∙ region-bytes (l + 4 * m + 4 * k) k (upper-length index s i h) in
+      rw (p, q, r)
 
   -- the list of entry i, and what stands behind it
   list-step : (i : ℕ) → i < wordCount index → drop (listsEnd index i) index ≡ keptBytes (cellsIn N (recordsAt index i)) ++ drop (listsEnd index (i + 1)) index
@@ -190,7 +183,7 @@ module _ (index : List ℕ) (s : Sound index) (b : Below 256 index) where
   entry-step i h =
       let e = sound-entry index s i h in
       rw (list-cells i h, single-count i h, pair-count i h, word-length index s i h, ← e .word-start, ← e .list-start, entry-next i)
-      (five-cells index (entryPlace index i) b (omega (arith, e .entry-within)))
+      (cells-split index (entryPlace index i) b (omega (arith, e .entry-within)))
 
   words-next : (i : ℕ) → i < wordCount index → wordsEnd index (i + 1) ≡ wordsEnd index i + length (wordOf index i)
   words-next i h = wordsEnd-next index i ∙ ap (λ (k : ℕ). wordsEnd index i + k) (sym (word-length index s i h))
@@ -233,7 +226,7 @@ module _ (index : List ℕ) (s : Sound index) (b : Below 256 index) where
       let f = cellAt index in
       rw (p₀, p₁, p₂, p₃)
       (
-      five-cells index at b (omega arith)
+      cells-split index at b (omega arith)
       ∙ rw (drop-of-length-le index {i = at + 20} (omega arith), append-nil (cellsBytes (f at ∷ f (at + 4) ∷ f (at + 8) ∷ f (at + 12) ∷ f (at + 16) ∷ [])))
       (ap (λ (k : ℕ). cellsBytes (f at ∷ f (at + 4) ∷ f (at + 8) ∷ f (at + 12) ∷ k ∷ [])) q)
       )

@@ -4,60 +4,45 @@ use Prim.Native.Nat.{ℕ, _+_, _-_, _*_, _≤_, _<_}
 use native.Mathlib.Omega.{arith}
 use mathlib.Core.List.{List, [], _∷_, _++_}
 use lib.ListN.{length, getD, take, drop, length-append}
-use lib.Seq.{sets, length-sets}
+use lib.Seq.{sets}
 use Rattle.laws.proofs.Tests.{leb-cases}
 use Rattle.laws.proofs.Lists.{sets-append, sets-front}
-use Rattle.list.specs.Interval.{top}
+use Rattle.limits.specs.Limits.{recordMax}
 use Rattle.convert.specs.Convert.{intervalsOf}
-use Rattle.build.specs.declared.entry.Spots.{Spots}
+use Rattle.layout.specs.declared.entry.Spots.{Spots}
 use Rattle.build.specs.Lent.{wordsFrom, lentWords, sumTo, listsFrom}
-use Rattle.build.specs.Layout.{keptBytes, listsBytes, wordsBytes, entryBytes, directoryBytes, trailerBytes, indexOf}
-use Rattle.build.specs.Passes.{wordEnd, entered, enteredTo, EnteredWithin, allEntered, AllWithin}
-use Rattle.build.proofs.BytesLaws.{cells-length}
-use Rattle.build.proofs.LayoutLaws.{directoryCells, directory-bytes, directory-length}
+use Rattle.layout.specs.Layout.{keptBytes, listsBytes, wordsBytes, directoryBytes, trailerBytes, indexOf}
+use Rattle.layout.specs.Laid.{entered, enteredTo, EnteredWithin}
+use Rattle.build.specs.Passes.{wordEnd, allEntered, AllWithin}
+use Rattle.layout.proofs.BytesLaws.{cells-length}
+use Rattle.layout.proofs.LayoutLaws.{directoryCells, directory-bytes, directory-length}
 use Rattle.build.proofs.WordsLaws.{next-word, last-word}
 use Rattle.build.proofs.CountLaws.{sum-next, sum-first-none}
 use Rattle.build.proofs.ListsLaws.{lists-next, lists-none}
-use Rattle.build.proofs.WriteLaws.{indexPlan, index-entered}
+use Rattle.layout.proofs.WriteLaws.{indexPlan, index-entered}
 
 -- ---- one word
 
-module _ (at : Spots) (w : List ℕ) (ws : List (List ℕ)) (xs : List ℕ) (xss : List (List ℕ)) (room : ℕ) (is : AllWithin at (w ∷ ws) (xs ∷ xss) room) where
+module _ {at : Spots} {w : List ℕ} {ws : List (List ℕ)} {xs : List ℕ} {xss : List (List ℕ)} {room : ℕ} (is : AllWithin at (w ∷ ws) (xs ∷ xss) room) where
   abbrev c : List ℕ
   c = intervalsOf xs
 
   entered-within : EnteredWithin at w c room
   unfolding listsBytes wordsBytes
   entered-within =
-      let l = length-append (keptBytes c) (listsBytes top xss) in
+      let l = length-append (keptBytes c) (listsBytes recordMax xss) in
       let b = length-append w (wordsBytes ws) in
-      record {
-        list = omega (arith, is .lists);
-        bytes = omega (arith, is .words);
-        entry = omega (arith, is .entries);
-        small = omega (arith, is .small);
-      }
+      record { list = omega arith; bytes = omega arith; entry = omega arith; small = omega arith }
 
   within-on : AllWithin (enteredTo at w c) ws xss room
   unfolding listsBytes wordsBytes
   within-on =
-      let l = length-append (keptBytes c) (listsBytes top xss) in
+      let l = length-append (keptBytes c) (listsBytes recordMax xss) in
       let b = length-append w (wordsBytes ws) in
-      record {
-        lists = omega (arith, is .lists);
-        words = omega (arith, is .words);
-        entries = omega (arith, is .entries);
-        small = omega (arith, is .small);
-        as-many = omega (arith, is .as-many);
-      }
+      record { lists = omega arith; words = omega arith; entries = omega arith; small = omega arith; as-many = omega arith }
 
   entered-on : (out : List ℕ) → allEntered out at (w ∷ ws) (xs ∷ xss) ≡ allEntered (entered out at w c) (enteredTo at w c) ws xss
-  entered-on out = index-entered top out at w ws xs xss (is .lists) (is .words)
-
-pub entered-length : (out : List ℕ) (at : Spots) (w c : List ℕ) → length (entered out at w c) ≡ length out
-entered-length out at w c =
-    let o = sets out (at .list) (keptBytes c) in
-    length-sets (sets o (at .word) w) (at .entry) (entryBytes (at .word) w (at .list) c) ∙ length-sets o (at .word) w ∙ length-sets out (at .list) (keptBytes c)
+  entered-on out = index-entered recordMax out at w ws xs xss (is .lists) (is .words)
 
 -- ---- the pass
 
@@ -69,13 +54,13 @@ pub record Entering (words counts numbers : List ℕ) (room : ℕ) (at : Spots) 
   pub left : i + length (wordsFrom [] (drop start words)) ≡ length counts
   pub within : AllWithin at (wordsFrom [] (drop start words)) (listsFrom (drop i counts) (drop first numbers)) room
 
-pub enter-start : (words counts numbers : List ℕ) (room : ℕ) (at : Spots) → length (lentWords words) ≡ length counts →
+pub enter-start : {words counts numbers : List ℕ} {room : ℕ} {at : Spots} → length (lentWords words) ≡ length counts →
     AllWithin at (lentWords words) (listsFrom counts numbers) room → Entering words counts numbers room at 0 0 0
 unfolding lentWords
-enter-start words counts numbers room at e w =
+enter-start {counts = counts} e w =
     record { word = omega arith; count = omega arith; number = sum-first-none counts; left = omega arith; within = w }
 
-module _ (words counts numbers : List ℕ) (room : ℕ) (at : Spots) (start first i : ℕ) (is : Entering words counts numbers room at start first i) where
+module _ {words counts numbers : List ℕ} {room : ℕ} {at : Spots} {start first i : ℕ} (is : Entering words counts numbers room at start first i) where
   -- what is to be written from here on
   abbrev pub leftFrom : List ℕ → List ℕ
   leftFrom out = allEntered out at (wordsFrom [] (drop start words)) (listsFrom (drop i counts) (drop first numbers))
@@ -88,12 +73,12 @@ module _ (words counts numbers : List ℕ) (room : ℕ) (at : Spots) (start firs
       nothing [] e = refl
       nothing (w ∷ ws) e = absurd (omega arith)
 
-  module _ (end last : ℕ) (e : end ≡ start + wordEnd (drop start words)) (g : end ≤ length words) (l : last ≡ first + getD counts i 0) (h : i < length counts) where
+  module _ {end last : ℕ} (e : end ≡ start + wordEnd (drop start words)) (g : end ≤ length words) (l : last ≡ first + getD counts i 0) (h : i < length counts) where
     -- the word is ended, since a word is left
     pub word-ended : end < length words
     word-ended =
         leb-cases (length words) end
-        (λ p. let n = last-word words start end e (is .word) (omega arith) .0 in absurd (omega (arith, ap (λ (ws : List (List ℕ)). length ws) n, is .left)))
+        (λ p. let n = last-word words e (is .word) (omega arith) .0 in absurd (omega (arith, ap (λ (ws : List (List ℕ)). length ws) n, is .left)))
         (λ p. p)
 
     abbrev word : List ℕ
@@ -109,16 +94,16 @@ module _ (words counts numbers : List ℕ) (room : ℕ) (at : Spots) (start firs
     xss = listsFrom (drop (i + 1) counts) (drop last numbers)
 
     word-is : wordsFrom [] (drop start words) ≡ word ∷ ws
-    word-is = next-word words start end e (is .word) word-ended
+    word-is = next-word words e (is .word) word-ended .0
 
     list-is : listsFrom (drop i counts) (drop first numbers) ≡ list ∷ xss
-    list-is = lists-next counts numbers i first last h (is .number) l
+    list-is = lists-next counts numbers i first h l
 
     here : AllWithin at (word ∷ ws) (list ∷ xss) room
     here = rw (word-is, list-is) at (is .within)
 
     pub enter-within : EnteredWithin at word (intervalsOf list) room
-    enter-within = entered-within at word ws list xss room here
+    enter-within = entered-within here
 
     pub enter-on : Entering words counts numbers room (enteredTo at word (intervalsOf list)) (end + 1) last (i + 1)
     enter-on =
@@ -127,11 +112,11 @@ module _ (words counts numbers : List ℕ) (room : ℕ) (at : Spots) (start firs
           count = omega arith;
           number = l ∙ rw (is .number) (sym (sum-next counts i));
           left = omega (arith, is .left, ap (λ (ws : List (List ℕ)). length ws) word-is);
-          within = within-on at word ws list xss room here;
+          within = within-on here;
         }
 
     pub enter-left : (out : List ℕ) → leftFrom out ≡ allEntered (entered out at word (intervalsOf list)) (enteredTo at word (intervalsOf list)) ws xss
-    enter-left out = rw (word-is, list-is) (entered-on at word ws list xss room here out)
+    enter-left out = rw (word-is, list-is) (entered-on here out)
 
 -- ---- all of it
 

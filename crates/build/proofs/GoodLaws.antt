@@ -1,36 +1,37 @@
 -- What is lent to a build and is good: what the check's answer is, and what it says of the words, counts and numbers.
-use mathlib.Core.Path.{_≡_, refl, ap, _∙_}
+use mathlib.Core.Path.{_≡_, refl, sym, ap, _∙_}
 use Prim.Native.Nat.{ℕ, _+_, _-_, _*_, _≤_, _<_}
 use native.Mathlib.Omega.{arith}
-use mathlib.Core.Bool.{Bool, true, false, cond}
-use mathlib.Core.List.{List, [], _∷_, _++_}
+use mathlib.Core.Bool.{false}
+use mathlib.Core.List.{List, [], _∷_}
 use lib.Dec.{ltb}
-use lib.ListN.{length, getD, drop}
+use lib.ListN.{length, getD}
 use lib.Seq.{sets}
-use borrow.Author.Tests.{lt-ltb, le-ltb, ltb-false}
+use borrow.Author.Tests.{lt-ltb, le-ltb, ltb-false, le-leb, lt-leb}
 use Rattle.laws.proofs.Tests.{leb-cases}
+use Rattle.limits.specs.Limits.{indexMax, recordMax, wordsMax}
 use Rattle.refusal.specs.declared.Found.{Found}
 use Rattle.refusal.specs.declared.Found.the-variants.{At, Nowhere}
 use Rattle.refusal.specs.declared.Refusal.{Refusal}
-use Rattle.refusal.specs.declared.Refusal.the-variants.{BuildWord, BuildCount, BuildLimit, Number}
+use Rattle.refusal.specs.declared.Refusal.the-variants.{BuildWord, BuildCount, BuildSize, Number, Room}
 use Rattle.refusal.specs.First.{first}
 use Rattle.refusal.proofs.FirstLaws.{first-none}
 use Rattle.list.specs.declared.Written.the-variants as written
-use Rattle.list.specs.Interval.{top}
 use Rattle.list.proofs.RecordLaws.{Ascends}
-use Rattle.convert.proofs.NumberLaws.{ascends-good}
+use Rattle.convert.specs.Front.{inFront}
+use Rattle.convert.proofs.NumberLaws.{good-ascends, ascends-good}
 use Rattle.index.specs.declared.Checked.{Checked}
 use Rattle.index.specs.declared.Checked.the-variants.{Good, Refused}
-use Rattle.index.specs.Check.{badPlace}
 use Rattle.index.specs.Format.{part}
 use Rattle.index.proofs.CheckLaws.{not-good, cond-good, place-none}
 use Rattle.build.specs.declared.words.Words.the-variants.{Counted, Bad}
-use Rattle.build.specs.declared.entry.Spots.{Spots}
-use Rattle.build.specs.Lent.{lentWords, wordTotal, badLent, badCount, badRest, badListed, sumTo, listsFrom}
-use Rattle.build.specs.Layout.{cellsBytes, listsBytes, wordsBytes}
-use Rattle.build.specs.Build.{badWords, badCounts, badNumbers, faultThen, lentOf, sizeAnswer, indexFrom, buildOf}
-use Rattle.build.specs.Passes.{wordsAnswer, Fair, Lists, allEntered, AllWithin}
-use Rattle.build.proofs.LentLaws.{LentWord, lent-word, LentCount, lent-count, lent-rest, lists-length, lists-at, lent-number, list-ascends}
+use Rattle.layout.specs.declared.entry.Spots.{Spots}
+use Rattle.build.specs.Lent.{lentWords, wordTotal, badLent, badCount, badRest, sumTo, listsFrom}
+use Rattle.layout.specs.Layout.{cellsBytes, listsBytes, wordsBytes}
+use Rattle.build.specs.Build.{badWords, badCounts, badNumbers, faultThen, lentOf, indexFrom, buildOf, Builds}
+use Rattle.build.specs.Passes.{wordsAnswer, countFault, Fair, Lists, GoodLent, allEntered, AllWithin}
+use Rattle.build.proofs.LentLaws.{LentWord, lent-word, LentCount, lent-count, lent-rest, lists-length, lists-at}
+use Rattle.build.proofs.CountLaws.{list-none, fair-count}
 use Rattle.build.proofs.WordsLaws.{words-bytes-length}
 use Rattle.build.proofs.IndexOfLaws.{index-length}
 use Rattle.build.proofs.ListsLaws.{ascends-more, lists-limit, directory-limit}
@@ -46,47 +47,43 @@ pub words-counted : (f : Found) (n k : ℕ) → wordsAnswer f n ≡ Counted k �
 words-counted (At j) n k e = absurd (let z : _≡_ {A = ℕ} 0 1 = cc in omega arith)
 words-counted Nowhere n k e = (refl, cc)
 
--- there are as many counts as words
-pub counts-many : (counts : List ℕ) (total words : ℕ) → first (badCount counts total) words ≡ Nowhere → badRest counts total words ≡ false → length counts ≡ words
-counts-many counts total words e f =
-    leb-cases words (length counts) (λ h. omega (arith, lent-rest counts total words f .0))
-    (λ h. absurd (omega (arith, lent-count counts total (length counts) (first-none (badCount counts total) words e (length counts) h) .within)))
-
-pub fair-counts : (counts : List ℕ) (total words : ℕ) → first (badCount counts total) words ≡ Nowhere → badRest counts total words ≡ false → Fair counts total
-fair-counts counts total words e f = let q = counts-many counts total words e f in record { each = rw q e; all = rw q f }
+-- where no count is bad there are as many as words, and they take all numbers
+pub fair-counts : (counts : List ℕ) (total words : ℕ) → countFault counts total words ≡ Nowhere → (length counts ≡ words) × Fair counts total
+fair-counts counts total words e =
+    let p = place-none (first (badCount counts total) words) (badRest counts total words) words e in
+    let q : length counts ≡ words = leb-cases words (length counts) (λ h. omega (arith, lent-rest counts total words (p .1) .0))
+    (λ h. absurd (omega (arith, lent-count counts total (length counts) (first-none (badCount counts total) words (p .0) (length counts) h) .within))) in
+    (q, record { each = rw q (p .0); all = rw q (p .1) })
 
 -- ---- the check's answer
 
 module _ (n : ℕ) (words counts numbers : List ℕ) where
-  pub refused-limit : top < n → lentOf n words counts numbers ≡ Refused (BuildLimit 0)
+  pub refused-limit : recordMax < n → lentOf n words counts numbers ≡ Refused (BuildSize 0)
   unfolding lentOf
-  refused-limit h = rw (lt-ltb top n h)
+  refused-limit h = rw (lt-ltb recordMax n h)
 
-  pub refused-word : (i : ℕ) → n ≤ top → badWords words ≡ At i → lentOf n words counts numbers ≡ Refused (BuildWord i)
-  unfolding lentOf
-  refused-word i h e = rw (le-ltb top n h, e)
+  module _ (h : n ≤ recordMax) where
+    pub refused-word : (i : ℕ) → badWords words ≡ At i → lentOf n words counts numbers ≡ Refused (BuildWord i)
+    unfolding lentOf
+    refused-word i e = rw (le-ltb recordMax n h, e)
 
-  pub refused-count : (i : ℕ) → n ≤ top → badWords words ≡ Nowhere → badCounts words counts numbers ≡ At i → lentOf n words counts numbers ≡ Refused (BuildCount i)
-  unfolding lentOf
-  refused-count i h e f = rw (le-ltb top n h, e, f)
+    module _ (e : badWords words ≡ Nowhere) where
+      pub refused-count : (i : ℕ) → badCounts words counts numbers ≡ At i → lentOf n words counts numbers ≡ Refused (BuildCount i)
+      unfolding lentOf
+      refused-count i f = rw (le-ltb recordMax n h, e, f)
 
-  pub refused-number : (i : ℕ) → n ≤ top → badWords words ≡ Nowhere → badCounts words counts numbers ≡ Nowhere → badNumbers n words counts numbers ≡ At i → lentOf n words counts numbers ≡ Refused (Number i)
-  unfolding lentOf
-  refused-number i h e f g = rw (le-ltb top n h, e, f, g)
+      pub refused-number : badCounts words counts numbers ≡ Nowhere → (i : ℕ) → badNumbers n words counts numbers ≡ At i → lentOf n words counts numbers ≡ Refused (Number i)
+      unfolding lentOf
+      refused-number f i g = rw (le-ltb recordMax n h, e, f, g)
 
-  pub none-refused : n ≤ top → badWords words ≡ Nowhere → badCounts words counts numbers ≡ Nowhere → badNumbers n words counts numbers ≡ Nowhere → lentOf n words counts numbers ≡ Good
-  unfolding lentOf
-  none-refused h e f g = rw (le-ltb top n h, e, f, g)
+      pub none-refused : badCounts words counts numbers ≡ Nowhere → badNumbers n words counts numbers ≡ Nowhere → lentOf n words counts numbers ≡ Good
+      unfolding lentOf
+      none-refused f g = rw (le-ltb recordMax n h, e, f, g)
 
   -- and the build's answer by it
   pub refused-lent : (r : Refusal) (room : ℕ) → lentOf n words counts numbers ≡ Refused r → buildOf n words counts numbers room ≡ written.Refused r
   unfolding buildOf
   refused-lent r room e = rw e
-
-  pub sized-lent : (room : ℕ) → lentOf n words counts numbers ≡ Good →
-      buildOf n words counts numbers room ≡ sizeAnswer (length (indexFrom n words counts numbers)) room
-  unfolding buildOf
-  sized-lent room e = rw e
 
 -- ---- what is good
 
@@ -94,96 +91,122 @@ then-good : (refusal : ℕ → Refusal) (f : Found) (c : Checked) → faultThen 
 then-good refusal (At i) c e = not-good (refusal i) e
 then-good refusal Nowhere c e = (refl, e)
 
-pub record LentGood (n : ℕ) (words counts numbers : List ℕ) : Type 0 where
-  pub limit : n ≤ top
+pub record EachGood (n : ℕ) (words counts numbers : List ℕ) : Type 0 where
+  pub limit : n ≤ recordMax
   pub word : (i : ℕ) → i < wordTotal words → LentWord (lentWords words) i
   pub count : (i : ℕ) → i < length counts → LentCount counts (length numbers) i
   pub as-many : length counts ≡ length (lentWords words)
   pub ascends : (i : ℕ) → i < length counts → Ascends n 0 (getD (listsFrom counts numbers) i [])
   pub lists : Lists counts numbers
 
-pub lent-good : (n : ℕ) (words counts numbers : List ℕ) → lentOf n words counts numbers ≡ Good → LentGood n words counts numbers
+pub each-good : {n : ℕ} {words counts numbers : List ℕ} → lentOf n words counts numbers ≡ Good → EachGood n words counts numbers
 unfolding lentOf
-lent-good n words counts numbers e =
+each-good {n} {words} {counts} {numbers} e =
     let k = length (lentWords words) in
     let total = length numbers in
-    let a = cond-good (ltb top n) (BuildLimit 0) _ e in
+    let a = cond-good (ltb recordMax n) (BuildSize 0) _ e in
     let b = then-good BuildWord (badWords words) _ (a .1) in
     let c = then-good BuildCount (badCounts words counts numbers) _ (b .1) in
     let d = then-good Number (badNumbers n words counts numbers) _ (c .1) in
-    let p = place-none (first (badCount counts total) k) (badRest counts total k) k (c .0) in
-    let q = counts-many counts total k (p .0) (p .1) in
-    let limit = ltb-false top n (a .0) in
-    let count : (i : ℕ) → i < length counts → LentCount counts total i = λ i h. lent-count counts total i (first-none (badCount counts total) k (p .0) i (omega arith)) in
+    let f = fair-counts counts total k (c .0) in
+    let limit = ltb-false recordMax n (a .0) in
     let list : ℕ → List ℕ = λ i. part (sumTo counts i) (getD counts i 0) numbers in
-    let rises : (i : ℕ) → i < length counts → Ascends n 0 (list i) = λ i h. list-ascends n counts k numbers i (count i h .room) (λ j g. lent-number n counts k numbers j (first-none (badListed n counts k numbers) total (d .0) j g)) in
+    let none = rw (← f .0) at (d .0) in
+    let rises : (i : ℕ) → i < length counts → Ascends n 0 (list i) = λ i h.
+    good-ascends n (list i) (list-none n counts numbers i h (fair-count (f .1) i h .room) none) in
     record {
       limit = limit;
       word = λ i h. lent-word (lentWords words) i (first-none (badLent (lentWords words)) (wordTotal words) (b .0) i h);
-      count = count;
-      as-many = q;
+      count = fair-count (f .1);
+      as-many = f .0;
       ascends = λ i h. rw (lists-at counts numbers i h) (rises i h);
-      lists = record { room = λ i h. count i h .room; good = λ i h. ascends-good top (list i) (ascends-more n top 0 (list i) limit (rises i h)) };
+      lists = record {
+        room = λ i h. fair-count (f .1) i h .room;
+        good = λ i h. ascends-good recordMax (list i) (ascends-more n recordMax 0 (list i) limit (rises i h));
+      };
     }
 
-module _ (n : ℕ) (words counts numbers : List ℕ) (is : LentGood n words counts numbers) where
+module _ {n : ℕ} {words counts numbers : List ℕ} (is : EachGood n words counts numbers) where
   abbrev xss : List (List ℕ)
   xss = listsFrom counts numbers
 
-  pub good-ascends : (i : ℕ) → i < length xss → Ascends n 0 (getD xss i [])
-  good-ascends i h = is .ascends i (omega (arith, lists-length counts numbers))
+  lists-ascend : (i : ℕ) → i < length xss → Ascends n 0 (getD xss i [])
+  lists-ascend i h = is .ascends i (omega (arith, lists-length counts numbers))
 
   pub good-many : length xss ≡ length (lentWords words)
   good-many = lists-length counts numbers ∙ is .as-many
-
-  -- the words' bytes, without the byte 10 of each
-  pub good-bytes : length (wordsBytes (lentWords words)) + length counts ≡ length words
-  good-bytes = omega (arith, words-bytes-length words (is .word), is .as-many)
 
   pub good-word : (i : ℕ) → i < length (lentWords words) → LentWord (lentWords words) i
   unfolding wordTotal
   good-word i h = is .word i (omega arith)
 
-  pub good-few : length counts ≤ 65535
-  good-few =
-      leb-cases (length counts) 65535 (λ h. h)
-      (λ h. absurd (let w = good-word 65535 (omega (arith, is .as-many)) .few in omega arith))
+  good-lists : listsBytes n xss ≡ listsBytes recordMax xss
+  good-lists = lists-limit n (is .limit) xss lists-ascend
 
-  pub good-size : length (indexFrom n words counts numbers) ≡ length (listsBytes n xss) + (length words - length counts) + 20 * length counts + 20
-  good-size = omega (arith, index-length n (lentWords words) xss good-many, good-bytes, is .as-many)
+pub lent-good : {n : ℕ} {words counts numbers : List ℕ} → lentOf n words counts numbers ≡ Good → GoodLent n words counts numbers
+lent-good {n} {words} {counts} {numbers} e =
+    let is : EachGood n words counts numbers = each-good e in
+    let m = is .as-many in
+    -- the words' bytes, without the byte 10 of each
+    let bytes : length (wordsBytes (lentWords words)) + length counts ≡ length words = omega (arith, words-bytes-length words (is .word)) in
+    record {
+      good = e;
+      few = leb-cases (length counts) wordsMax (λ h. h) (λ h. absurd (let w = good-word is wordsMax (omega arith) .few in omega arith));
+      as-many = sym m;
+      lists = is .lists;
+      bytes = bytes;
+      size = omega (arith, index-length n (lentWords words) (listsFrom counts numbers) (good-many is), ap length (good-lists is));
+    }
 
-  pub good-lists : listsBytes n xss ≡ listsBytes top xss
-  good-lists = lists-limit n (is .limit) xss good-ascends
+-- ---- a build of what is good: the three outcomes, by the size of the index
 
-  -- its size, as the lists are counted
-  pub good-counted : length (indexFrom n words counts numbers) ≡ length (listsBytes top xss) + (length words - length counts) + 20 * length counts + 20
-  good-counted = omega (arith, good-size, ap length good-lists)
+module _ {n : ℕ} {words counts numbers : List ℕ} (is : GoodLent n words counts numbers) where
+  abbrev index : List ℕ
+  index = indexFrom n words counts numbers
+
+  pub build-large : {out : List ℕ} → indexMax < length index → Builds n words counts numbers out out (written.Refused (BuildSize 1))
+  unfolding buildOf
+  build-large h = let large = lt-ltb indexMax (length index) h in record { answer = rw (is .good, large); bytes = rw (is .good, large) }
+
+  module _ {size : ℕ} (e : length index ≡ size) (h : size ≤ indexMax) where
+    abbrev small : ltb indexMax size ≡ false
+    small = le-ltb indexMax size h
+
+    pub build-cramped : {out : List ℕ} → length out < size → Builds n words counts numbers out out (written.Refused (Room size))
+    unfolding buildOf
+    build-cramped {out} g =
+        let cramped = lt-leb size (length out) g in
+        record { answer = rw (is .good, e, small, cramped); bytes = rw (is .good, e, small, cramped) }
+
+    pub build-wrote : {out out′ : List ℕ} → size ≤ length out → out′ ≡ inFront index out → Builds n words counts numbers out out′ (written.Wrote size)
+    unfolding buildOf
+    build-wrote {out} g w =
+        let fits = le-leb size (length out) g in
+        record { answer = rw (is .good, e, small, fits); bytes = rw (is .good, e, small, fits) (rw e at w) }
 
   -- ---- where its parts belong, and that they make the index
 
-  module _ (lists : ℕ) (l : lists ≡ length (listsBytes n xss)) where
+  module _ {lists : ℕ} (l : lists ≡ length (listsBytes recordMax (listsFrom counts numbers))) where
     abbrev pub firstSpots : Spots
     firstSpots = record { list = 0; word = lists; entry = lists + (length words - length counts) }
 
-    pub good-within : (room : ℕ) → length (indexFrom n words counts numbers) ≤ 16777216 → length (indexFrom n words counts numbers) ≤ room →
-        AllWithin firstSpots (lentWords words) xss room
-    good-within room h g =
-        let s = good-size in
-        let b = good-bytes in
+    pub good-within : {room : ℕ} → length index ≤ indexMax → length index ≤ room → AllWithin firstSpots (lentWords words) (listsFrom counts numbers) room
+    good-within h g =
+        let s = is .size in
+        let b = is .bytes in
         let m = is .as-many in
-        record {
-          lists = omega (arith, ap length good-lists);
-          words = omega arith;
-          entries = omega arith;
-          small = omega arith;
-          as-many = good-many;
-        }
+        record { lists = omega arith; words = omega arith; entries = omega arith; small = omega arith; as-many = good-many (each-good (is .good)) }
 
-    pub good-written : (out o p : List ℕ) → length (indexFrom n words counts numbers) ≤ length out → o ≡ allEntered out firstSpots (lentWords words) xss →
+    pub good-written : (out : List ℕ) {o p : List ℕ} → length index ≤ length out → o ≡ allEntered out firstSpots (lentWords words) (listsFrom counts numbers) →
         p ≡ sets o (lists + (length words - length counts) + 20 * length counts) (cellsBytes (lists ∷ (lists + (length words - length counts)) ∷ length counts ∷ n ∷ 1 ∷ [])) →
-        p ≡ indexFrom n words counts numbers ++ drop (length (indexFrom n words counts numbers)) out
-    good-written out o p h eo ep =
-        let d : lists + (length words - length counts) ≡ length (listsBytes n xss) + length (wordsBytes (lentWords words)) = omega (arith, good-bytes) in
+        p ≡ inFront index out
+    good-written out h eo ep =
+        let each : EachGood n words counts numbers = each-good (is .good) in
+        let ws = lentWords words in
+        let xss = listsFrom counts numbers in
+        let same = good-lists each in
+        let w : lists ≡ length (listsBytes n xss) = l ∙ sym (ap length same) in
+        let d : lists + (length words - length counts) ≡ length (listsBytes n xss) + length (wordsBytes ws) = omega (arith, is .bytes) in
         ep
-        ∙ rw (eo, d, is .as-many, l, ← good-lists, ← directory-limit n (is .limit) (length (listsBytes n xss)) 0 (lentWords words) xss good-ascends)
-        (index-written n (lentWords words) xss good-many out h)
+        ∙ rw (eo, d, each .as-many, w, ← same, ← directory-limit n (each .limit) (length (listsBytes n xss)) 0 ws xss (lists-ascend each))
+        (index-written n ws xss (good-many each) out h)

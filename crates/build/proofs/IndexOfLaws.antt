@@ -3,72 +3,36 @@ use mathlib.Core.Path.{_≡_, refl, sym, ap, _∙_}
 use Prim.Native.Nat.{ℕ, zero, suc, _+_, _-_, _*_, _≤_, _<_}
 use native.Mathlib.Omega.{arith}
 use mathlib.Core.Bool.{true, false}
-use mathlib.Core.List.{List, [], _∷_, _++_, append-assoc}
+use mathlib.Core.List.{List, [], _∷_, _++_, append-nil, append-assoc}
 use lib.ListN.{length, getD, take, drop, length-append, List·getD-append}
 use lib.Seq.{getD-append-add}
 use borrow.Author.Tests.{eq-eqb, ne-eqb, le-ltb}
 use Rattle.laws.proofs.Tests.{true-false}
-use Rattle.list.specs.Interval.{top, isProper, names}
+use Rattle.limits.specs.Limits.{recordMax, wordsMax}
+use Rattle.list.specs.Interval.{isProper, names}
 use Rattle.list.specs.Cell.{cellAt, numbersIn}
 use Rattle.list.specs.Among.{among}
 use Rattle.list.proofs.StretchLaws.{cells-proper, cells-proper-from, cells-names}
 use Rattle.list.proofs.RecordLaws.{Ascends}
 use Rattle.convert.proofs.NumberLaws.{good-ascends}
-use Rattle.index.specs.Format.{
-  wordsStart,
-  directoryStart,
-  wordCount,
-  highest,
-  edition,
-  entryPlace,
-  wordStart,
-  wordLength,
-  listStart,
-  singleCount,
-  pairCount,
-  listLength,
-  wordsEnd,
-  listsEnd,
-  part,
-  wordOf,
-  singlesOf,
-  lowerOf,
-  upperOf,
-  listOf,
-}
+use Rattle.index.specs.Format.{wordsStart, directoryStart, wordCount, highest, edition, entryPlace, wordStart, wordLength, listStart, singleCount, pairCount}
+use Rattle.index.specs.Format.{listLength, wordsEnd, listsEnd, part, wordOf, singlesOf, lowerOf, upperOf, listOf}
 use Rattle.index.specs.Sound.{badTrailer, badDirectory, badWord, badEntry, badEnd, badList, wordBefore, Sound}
 use Rattle.index.specs.declared.Checked.the-variants.{Good}
 use Rattle.index.specs.Check.{checkOf}
 use Rattle.index.proofs.CheckLaws.{length-good, edition-good, sound-good}
 use Rattle.build.specs.Lent.{lentBefore}
-use Rattle.build.specs.Layout.{cellsBytes, cellSingles, lowersIn, uppersIn, keptBytes, cellsIn, listsBytes, wordsBytes, directoryBytes, trailerBytes, indexOf}
-use Rattle.build.specs.ReadsBack.{Below, Indexable}
-use Rattle.build.proofs.BytesLaws.{cellLimit, below-append, cells-below, cells-length, cells-append, cells-numbers, cellAt-behind, part-between}
-use Rattle.build.proofs.KeptBytesLaws.{kept-length, uppers-length, cells-count, singles-below, lowers-below, uppers-below, walked-cells, cells-kept}
-use Rattle.build.proofs.LayoutLaws.{
-  wordsTo,
-  words-split,
-  words-to-next,
-  words-to-bound,
-  words-to-end,
-  listsTo,
-  lists-split,
-  lists-to-next,
-  lists-to-bound,
-  lists-to-end,
-  entryCells,
-  directoryCells,
-  directory-bytes,
-  directory-length,
-  directory-at,
-  directory-below,
-  word-below,
-  words-below,
-  lists-below,
-}
+use Rattle.layout.specs.Layout.{cellsBytes, cellSingles, lowersIn, uppersIn, keptBytes, cellsIn, listsBytes, wordsBytes, directoryBytes, trailerBytes, indexOf}
+use Rattle.layout.specs.Layout.{Below}
+use Rattle.build.specs.ReadsBack.{Indexable}
+use Rattle.layout.proofs.BytesLaws.{cellLimit, below-append, cells-below, cells-length, cells-append, cells-numbers, cellAt-behind, part-between}
+use Rattle.layout.proofs.KeptBytesLaws.{kept-length, uppers-length, cells-count, parts-below, walked-cells, cells-kept}
+use Rattle.layout.proofs.LayoutLaws.{wordsTo, words-split, words-to-next, words-to-bound, words-to-end, word-below, words-below}
+use Rattle.layout.proofs.LayoutLaws.{listsTo, lists-split, lists-to-next, lists-to-bound, lists-to-end, lists-below}
+use Rattle.layout.proofs.LayoutLaws.{entryCells, directoryCells, directory-bytes, directory-length, directory-at, directory-below}
 
-pub indexable-ascends : (n : ℕ) (ws xss : List (List ℕ)) → Indexable n ws xss → (i : ℕ) → i < length ws → Ascends n 0 (getD xss i [])
-indexable-ascends n ws xss is i h = good-ascends n (getD xss i []) (is .records i h)
+pub indexable-ascends : {n : ℕ} {ws xss : List (List ℕ)} → Indexable n ws xss → (i : ℕ) → i < length ws → Ascends n 0 (getD xss i [])
+indexable-ascends {n} {xss = xss} is i h = good-ascends n (getD xss i []) (is .records i h)
 
 -- ---- records that are some have a list that is not empty
 
@@ -119,7 +83,7 @@ module _ (n : ℕ) (ws xss : List (List ℕ)) where
   index-length e =
       rw index-cells (omega (arith, length-append (listsBytes n xss ++ wordsBytes ws) (cellsBytes endCells), front-length, cells-length endCells, end-length e))
 
-module _ (n : ℕ) (ws xss : List (List ℕ)) (is : Indexable n ws xss) where
+module _ {n : ℕ} {ws xss : List (List ℕ)} (is : Indexable n ws xss) where
   abbrev index : List ℕ
   index = indexOf n ws xss
 
@@ -247,63 +211,67 @@ module _ (n : ℕ) (ws xss : List (List ℕ)) (is : Indexable n ws xss) where
   abbrev behind : List ℕ
   behind = wordsBytes ws ++ (directoryBytes n W 0 ws xss ++ trailerBytes W D (length ws) n)
 
-  pub built-singles : (i : ℕ) → i < length ws → singlesOf index i ≡ cellsBytes (cellSingles (listAt i))
-  unfolding singlesOf indexOf keptBytes
-  built-singles i h =
-      let c = listAt i in
-      rw (built-list-start i h, built-single-count i h, ← cells-length (cellSingles c))
-      (first-region (listsBytes n xss) (listsBytes n (take i xss)) (cellsBytes (cellSingles c)) (cellsBytes (lowersIn c)) (cellsBytes (uppersIn c)) (listsBytes n (drop (suc i) xss)) behind
-      (lists-split n xss i (omega (arith, is .as-many))))
+  -- a part of the list of entry i
+  region : (i : ℕ) → i < length ws → (start size : ℕ) (f s t : List ℕ) → keptBytes (listAt i) ≡ f ++ (s ++ t) →
+      start ≡ listStart index i + length f → size ≡ length s → part start size index ≡ s
+  unfolding indexOf
+  region i h start size f s t e p q =
+      within (listsBytes n (take i xss)) f s t (listsBytes n (drop (suc i) xss)) behind start size (lists-split n xss i (omega (arith, is .as-many))) e
+      (omega (arith, built-list-start i h)) q
     where
-      first-region : (a f s l u t r : List ℕ) → a ≡ f ++ ((s ++ l ++ u) ++ t) → part (length f) (length s) (a ++ r) ≡ s
-      first-region a f s l u t r e =
-          let g : a ++ r ≡ f ++ (s ++ (l ++ u ++ t ++ r)) = rw e (simp append-assoc) in
-          rw g (part-between f s (l ++ u ++ t ++ r) (length f) (length s) refl refl)
+      within : (p f s t r b : List ℕ) (start size : ℕ) {l a : List ℕ} → l ≡ p ++ (a ++ r) → a ≡ f ++ (s ++ t) →
+          start ≡ length p + length f → size ≡ length s → part start size (l ++ b) ≡ s
+      within p f s t r b start size {l} {a} e g x y =
+          let w : l ++ b ≡ (p ++ f) ++ (s ++ (t ++ (r ++ b))) = rw (e, g) (simp append-assoc) in
+          rw w (part-between (p ++ f) s (t ++ (r ++ b)) start size (length-append p f ∙ sym x) (sym y))
+
+  -- the bytes of its singles, lower and upper bounds
+  abbrev bytesS : ℕ → List ℕ
+  bytesS i = cellsBytes (cellSingles (listAt i))
+
+  abbrev bytesL : ℕ → List ℕ
+  bytesL i = cellsBytes (lowersIn (listAt i))
+
+  abbrev bytesU : ℕ → List ℕ
+  bytesU i = cellsBytes (uppersIn (listAt i))
+
+  long-singles : (i : ℕ) → i < length ws → 4 * singleCount index i ≡ length (bytesS i)
+  long-singles i h = omega (arith, cells-length (cellSingles (listAt i)), built-single-count i h)
+
+  long-lowers : (i : ℕ) → i < length ws → 4 * pairCount index i ≡ length (bytesL i)
+  long-lowers i h = omega (arith, cells-length (lowersIn (listAt i)), built-pair-count i h)
+
+  pub built-singles : (i : ℕ) → i < length ws → singlesOf index i ≡ cellsBytes (cellSingles (listAt i))
+  unfolding singlesOf keptBytes
+  built-singles i h =
+      region i h (listStart index i) (4 * singleCount index i) [] (bytesS i) (bytesL i ++ bytesU i) (append-assoc (bytesS i) (bytesL i) (bytesU i))
+      (omega arith) (long-singles i h)
 
   pub built-lowers : (i : ℕ) → i < length ws → lowerOf index i ≡ cellsBytes (lowersIn (listAt i))
-  unfolding lowerOf indexOf keptBytes
+  unfolding lowerOf keptBytes
   built-lowers i h =
-      let c = listAt i in
-      rw (built-list-start i h, built-single-count i h, built-pair-count i h, ← cells-length (cellSingles c), ← cells-length (lowersIn c))
-      (second-region (listsBytes n xss) (listsBytes n (take i xss)) (cellsBytes (cellSingles c)) (cellsBytes (lowersIn c)) (cellsBytes (uppersIn c)) (listsBytes n (drop (suc i) xss)) behind
-      (lists-split n xss i (omega (arith, is .as-many))))
-    where
-      second-region : (a f s l u t r : List ℕ) → a ≡ f ++ ((s ++ l ++ u) ++ t) → part (length f + length s) (length l) (a ++ r) ≡ l
-      second-region a f s l u t r e =
-          let g : a ++ r ≡ (f ++ s) ++ (l ++ (u ++ t ++ r)) = rw e (simp append-assoc) in
-          rw g (part-between (f ++ s) l (u ++ t ++ r) (length f + length s) (length l) (length-append f s) refl)
+      region i h (listStart index i + 4 * singleCount index i) (4 * pairCount index i) (bytesS i) (bytesL i) (bytesU i)
+      (append-assoc (bytesS i) (bytesL i) (bytesU i)) (omega (arith, long-singles i h)) (long-lowers i h)
 
   pub built-uppers : (i : ℕ) → i < length ws → upperOf index i ≡ cellsBytes (uppersIn (listAt i))
-  unfolding upperOf indexOf keptBytes
+  unfolding upperOf keptBytes
   built-uppers i h =
-      let c = listAt i in
-      let e : length (cellsBytes (lowersIn c)) ≡ length (cellsBytes (uppersIn c)) = omega (arith, cells-length (lowersIn c), cells-length (uppersIn c), uppers-length c) in
-      rw (built-list-start i h, built-single-count i h, built-pair-count i h, ← cells-length (cellSingles c), ← cells-length (lowersIn c))
-      (third-region (listsBytes n xss) (listsBytes n (take i xss)) (cellsBytes (cellSingles c)) (cellsBytes (lowersIn c)) (cellsBytes (uppersIn c)) (listsBytes n (drop (suc i) xss)) behind
-      (lists-split n xss i (omega (arith, is .as-many))) (sym e))
-    where
-      third-region : (a f s l u t r : List ℕ) → a ≡ f ++ ((s ++ l ++ u) ++ t) → length u ≡ length l → part (length f + length s + length l) (length l) (a ++ r) ≡ u
-      third-region a f s l u t r e m =
-          let g : a ++ r ≡ (f ++ s ++ l) ++ (u ++ (t ++ r)) = rw e (simp append-assoc) in
-          rw g (part-between (f ++ s ++ l) u (t ++ r) (length f + length s + length l) (length l) (simp length-append) m)
+      region i h (listStart index i + 4 * singleCount index i + 4 * pairCount index i) (4 * pairCount index i) (bytesS i ++ bytesL i) (bytesU i) []
+      (ap (λ (r : List ℕ). bytesS i ++ bytesL i ++ r) (sym (append-nil (bytesU i))))
+      (omega (arith, length-append (bytesS i) (bytesL i), long-singles i h, long-lowers i h))
+      (omega (arith, built-pair-count i h, uppers-length (listAt i), cells-length (uppersIn (listAt i))))
 
-  numbers-of : (xs : List ℕ) → Below cellLimit xs → (bs : List ℕ) → bs ≡ cellsBytes xs → numbersIn bs ≡ xs
-  numbers-of xs b bs e = ap numbersIn e ∙ cells-numbers xs b
+  below : (i : ℕ) → Below cellLimit (cellSingles (listAt i)) × Below cellLimit (lowersIn (listAt i)) × Below cellLimit (uppersIn (listAt i))
+  below i = parts-below n cellLimit (omega (arith, is .limit)) 1 (listAt i) (cells-proper-from (among (getD xss i [])) n n (omega arith))
 
-  small : n < cellLimit
-  small = omega (arith, is .limit)
+  built-single-numbers : (i : ℕ) → i < length ws → numbersIn (singlesOf index i) ≡ cellSingles (listAt i)
+  built-single-numbers i h = ap numbersIn (built-singles i h) ∙ cells-numbers (cellSingles (listAt i)) (below i .0)
 
-  pub built-single-numbers : (i : ℕ) → i < length ws → numbersIn (singlesOf index i) ≡ cellSingles (listAt i)
-  built-single-numbers i h =
-      numbers-of (cellSingles (listAt i)) (singles-below n cellLimit small 1 (listAt i) (cells-proper-from (among (getD xss i [])) n n (omega arith))) (singlesOf index i) (built-singles i h)
+  built-lower-numbers : (i : ℕ) → i < length ws → numbersIn (lowerOf index i) ≡ lowersIn (listAt i)
+  built-lower-numbers i h = ap numbersIn (built-lowers i h) ∙ cells-numbers (lowersIn (listAt i)) (below i .1)
 
-  pub built-lower-numbers : (i : ℕ) → i < length ws → numbersIn (lowerOf index i) ≡ lowersIn (listAt i)
-  built-lower-numbers i h =
-      numbers-of (lowersIn (listAt i)) (lowers-below n cellLimit small 1 (listAt i) (cells-proper-from (among (getD xss i [])) n n (omega arith))) (lowerOf index i) (built-lowers i h)
-
-  pub built-upper-numbers : (i : ℕ) → i < length ws → numbersIn (upperOf index i) ≡ uppersIn (listAt i)
-  built-upper-numbers i h =
-      numbers-of (uppersIn (listAt i)) (uppers-below n cellLimit small 1 (listAt i) (cells-proper-from (among (getD xss i [])) n n (omega arith))) (upperOf index i) (built-uppers i h)
+  built-upper-numbers : (i : ℕ) → i < length ws → numbersIn (upperOf index i) ≡ uppersIn (listAt i)
+  built-upper-numbers i h = ap numbersIn (built-uppers i h) ∙ cells-numbers (uppersIn (listAt i)) (below i .2)
 
   pub built-list : (i : ℕ) → i < length ws → listOf index i ≡ cellsIn n (getD xss i [])
   unfolding listOf
@@ -313,7 +281,7 @@ module _ (n : ℕ) (ws xss : List (List ℕ)) (is : Indexable n ws xss) where
 
   list-some : (i : ℕ) → i < length ws → 1 ≤ length (cellSingles (listAt i)) + length (lowersIn (listAt i))
   list-some i h =
-      omega (arith, cells-count n 1 (listAt i) (cells-proper-from (among (getD xss i [])) n n (omega arith)), cells-some n (getD xss i []) (indexable-ascends n ws xss is i h) (is .some i h))
+      omega (arith, cells-count n 1 (listAt i) (cells-proper-from (among (getD xss i [])) n n (omega arith)), cells-some n (getD xss i []) (indexable-ascends is i h) (is .some i h))
 
   good-trailer : badTrailer index ≡ false
   unfolding badTrailer
@@ -323,7 +291,7 @@ module _ (n : ℕ) (ws xss : List (List ℕ)) (is : Indexable n ws xss) where
       let w = built-words-start in
       rw (built-highest, e, d, w)
       (
-      rw (le-ltb top n (is .limit), le-ltb 65535 (length ws) (is .few), le-ltb D W (omega arith), eq-eqb (D + 20 * length ws + 20) (length index) (sym long))
+      rw (le-ltb recordMax n (is .limit), le-ltb wordsMax (length ws) (is .few), le-ltb D W (omega arith), eq-eqb (D + 20 * length ws + 20) (length index) (sym long))
       )
 
   good-directory : (i : ℕ) → i < length ws → badDirectory index i ≡ false
@@ -379,7 +347,7 @@ module _ (n : ℕ) (ws xss : List (List ℕ)) (is : Indexable n ws xss) where
   built-sound =
       record {
         size = length-good index (omega (arith, long)) (is .size);
-        issue = edition-good index built-edition;
+        edition-one = edition-good index built-edition;
         trailer = good-trailer;
         entries = λ i h. good-entry i (omega (arith, built-word-count));
         ends = good-end;

@@ -10,16 +10,15 @@ use lib.ListN.{length, getD, take, drop}
 use lib.Seq.{drop-drop}
 use borrow.Author.Tests.{leb-false, ltb-false, eqb-false, ne-eqb, not-false}
 use Rattle.laws.proofs.Tests.{or-neither, leb-cases}
-use Rattle.laws.proofs.Lists.{drop-next}
+use Rattle.limits.specs.Limits.{wordsMax}
 use Rattle.word.specs.Word.{before, isWord}
-use Rattle.list.proofs.RecordLaws.{Ascends}
 use Rattle.index.specs.Format.{part}
-use Rattle.build.specs.Lent.{lentBefore, badLent, sumTo, badCount, badRest, beginsList, listedBefore, badListed, listsFrom}
+use Rattle.build.specs.Lent.{lentBefore, badLent, sumTo, badCount, badRest, beginsList, listsFrom}
 
 -- ---- words
 
 pub record LentWord (ws : List (List ℕ)) (i : ℕ) : Type 0 where
-  pub few : i < 65535
+  pub few : i < wordsMax
   pub within : i < length ws
   pub word : isWord (getD ws i []) ≡ true
   pub order : before (lentBefore ws i) (getD ws i []) ≡ true
@@ -27,14 +26,14 @@ pub record LentWord (ws : List (List ℕ)) (i : ℕ) : Type 0 where
 pub lent-word : (ws : List (List ℕ)) (i : ℕ) → badLent ws i ≡ false → LentWord ws i
 unfolding badLent
 lent-word ws i e =
-    let a = leb 65535 i in
+    let a = leb wordsMax i in
     let b = leb (length ws) i in
     let c = isWord (getD ws i []) in
     let d = before (lentBefore ws i) (getD ws i []) in
     let p = or-neither (a || b || not c) (not d) e in
     let q = or-neither (a || b) (not c) (p .0) in
     let r = or-neither a b (q .0) in
-    record { few = leb-false 65535 i (r .0); within = leb-false (length ws) i (r .1); word = not-false c (q .1); order = not-false d (p .1) }
+    record { few = leb-false wordsMax i (r .0); within = leb-false (length ws) i (r .1); word = not-false c (q .1); order = not-false d (p .1) }
 
 -- ---- counts
 
@@ -102,38 +101,3 @@ pub begins-not : (counts : List ℕ) (words i k : ℕ) → sumTo counts i < k �
 begins-not counts words i k h g =
     begins-none counts words k
     (λ j l e. leb-cases j i (λ d. omega (arith, sum-rises counts j i d)) (λ d. omega (arith, sum-rises counts (suc i) j (omega arith))))
-
-pub record LentNumber (n : ℕ) (counts : List ℕ) (words : ℕ) (numbers : List ℕ) (k : ℕ) : Type 0 where
-  pub above : listedBefore counts words numbers k < getD numbers k 0
-  pub limit : getD numbers k 0 ≤ n
-
-pub lent-number : (n : ℕ) (counts : List ℕ) (words : ℕ) (numbers : List ℕ) (k : ℕ) → badListed n counts words numbers k ≡ false → LentNumber n counts words numbers k
-unfolding badListed
-lent-number n counts words numbers k e =
-    let p = or-neither (leb (getD numbers k 0) (listedBefore counts words numbers k)) (ltb n (getD numbers k 0)) e in
-    record { above = leb-false (getD numbers k 0) (listedBefore counts words numbers k) (p .0); limit = ltb-false n (getD numbers k 0) (p .1) }
-
-part-ascends : (numbers : List ℕ) (n c s p : ℕ) → s + c ≤ length numbers → ((k : ℕ) → s ≤ k → k < s + c → getD numbers k 0 ≤ n) →
-    (1 ≤ c → p < getD numbers s 0) → ((k : ℕ) → s ≤ k → k + 1 < s + c → getD numbers k 0 < getD numbers (k + 1) 0) → Ascends n p (part s c numbers)
-part-ascends numbers n zero s p h f g r = tt
-part-ascends numbers n (suc c) s p h f g r =
-    rw (drop-next numbers s (omega arith)) (
-      g (omega arith),
-      f s (omega arith) (omega arith),
-      part-ascends numbers n c (s + 1) (getD numbers s 0) (omega arith) (λ k i j. f k (omega arith) (omega arith)) (λ i. r s (omega arith) (omega arith))
-          (λ k i j. r k (omega arith) (omega arith)),
-    )
-
--- the records of word i ascend, within 1 to n
-pub list-ascends : (n : ℕ) (counts : List ℕ) (words : ℕ) (numbers : List ℕ) (i : ℕ) → sumTo counts i + getD counts i 0 ≤ length numbers →
-    ((k : ℕ) → k < length numbers → LentNumber n counts words numbers k) → Ascends n 0 (part (sumTo counts i) (getD counts i 0) numbers)
-unfolding sumTo
-list-ascends n counts words numbers i h f =
-    part-ascends numbers n (getD counts i 0) (sumTo counts i) 0 h
-    (λ k l u. f k (omega arith) .limit)
-    (λ l. let a = f (sumTo counts i) (omega arith) .above in omega arith)
-    (λ k l u. next k l u (f (suc k) (omega arith) .above))
-  where
-    next : (k : ℕ) → sumTo counts i ≤ k → k + 1 < sumTo counts i + getD counts i 0 → listedBefore counts words numbers (suc k) < getD numbers (suc k) 0 →
-        getD numbers k 0 < getD numbers (k + 1) 0
-    next k l u a = rw (add-one k) (rw (begins-not counts words i (suc k) (omega arith) (omega arith)) at a)

@@ -1,13 +1,9 @@
-pub mod BytesLaws
-pub mod KeptBytesLaws
-pub mod LayoutLaws
 pub mod IndexOfLaws
 pub mod ReadsBackLaws
 pub mod LentLaws
 pub mod WordsLaws
 pub mod CountLaws
 pub mod ListsLaws
-pub mod WriteLaws
 pub mod EnterLaws
 pub mod GoodLaws
 pub mod BuildLaws

@@ -6,38 +6,36 @@ use mathlib.Core.List.{List, [], _∷_, _++_}
 use lib.ListN.{length, getD, take, drop, length-append}
 use lib.Seq.{drop-drop}
 use Rattle.laws.proofs.Lists.{drop-next, drop-none}
+use Rattle.limits.specs.Limits.{recordMax}
 use Rattle.refusal.specs.declared.Found.the-variants.{Nowhere}
-use Rattle.list.specs.Interval.{top}
 use Rattle.convert.specs.Convert.{badNumberOf}
 use Rattle.list.proofs.RecordLaws.{Ascends}
 use Rattle.convert.proofs.NumberLaws.{ascends-good}
 use Rattle.convert.proofs.RunLaws.{runs-cells}
 use Rattle.index.proofs.SoundLaws.{part-length}
 use Rattle.build.specs.Lent.{sumTo, listsFrom}
-use Rattle.build.specs.Layout.{keptBytes, cellsIn, listsBytes, entryBytes, directoryBytes}
+use Rattle.layout.specs.Layout.{keptBytes, cellsIn, listsBytes, entryBytes, directoryBytes}
 use Rattle.build.specs.Passes.{Lists}
 use Rattle.build.proofs.CountLaws.{list-part}
 
 -- ---- the next list
 
-module _ (counts numbers : List ℕ) (i start end : ℕ) (h : i < length counts) (s : start ≡ sumTo counts i) (e : end ≡ start + getD counts i 0) where
-  abbrev list : List ℕ
-  list = take (end - start) (drop start numbers)
+pub lists-next : (counts numbers : List ℕ) (i start : ℕ) {end : ℕ} → i < length counts → end ≡ start + getD counts i 0 →
+    listsFrom (drop i counts) (drop start numbers) ≡ take (end - start) (drop start numbers) ∷ listsFrom (drop (i + 1) counts) (drop end numbers)
+unfolding listsFrom
+lists-next counts numbers i start {end} h e =
+    let f : end - start ≡ getD counts i 0 = omega arith in
+    rw (drop-next counts i h, f, drop-drop (getD counts i 0) start numbers, ← e)
 
-  pub lists-next : listsFrom (drop i counts) (drop start numbers) ≡ list ∷ listsFrom (drop (i + 1) counts) (drop end numbers)
-  unfolding listsFrom
-  lists-next =
-      let f : end - start ≡ getD counts i 0 = omega arith in
-      rw (drop-next counts i h, f, drop-drop (getD counts i 0) start numbers, ← e)
+module _ {counts numbers : List ℕ} (is : Lists counts numbers) (i : ℕ) {start end : ℕ} (h : i < length counts) (s : start ≡ sumTo counts i) (e : end ≡ start + getD counts i 0) where
+  pub list-good : badNumberOf (take (end - start) (drop start numbers)) ≡ Nowhere
+  list-good = rw (list-part counts numbers i start end s e) (is .good i h)
 
-  pub list-good : Lists counts numbers → badNumberOf list ≡ Nowhere
-  list-good is = rw (list-part counts numbers i start end s e) (is .good i h)
+  pub list-long : length (take (end - start) (drop start numbers)) ≡ getD counts i 0
+  list-long = ap length (list-part counts numbers i start end s e) ∙ part-length (sumTo counts i) (getD counts i 0) numbers (is .room i h)
 
-  pub list-long : Lists counts numbers → length list ≡ getD counts i 0
-  list-long is = ap length (list-part counts numbers i start end s e) ∙ part-length (sumTo counts i) (getD counts i 0) numbers (is .room i h)
-
-  pub list-within : Lists counts numbers → end ≤ length numbers
-  list-within is = omega (arith, is .room i h)
+  pub list-within : end ≤ length numbers
+  list-within = omega (arith, is .room i h)
 
 pub lists-none : (counts numbers : List ℕ) (i : ℕ) → length counts ≤ i → listsFrom (drop i counts) numbers ≡ []
 unfolding listsFrom
@@ -57,20 +55,20 @@ pub ascends-more : (n m p : ℕ) (xs : List ℕ) → n ≤ m → Ascends n p xs 
 ascends-more n m p [] h a = tt
 ascends-more n m p (x ∷ xs) h a = (a .0, omega (arith, a .1), ascends-more n m x xs h (a .2))
 
-module _ (n : ℕ) (h : n ≤ top) where
-  cells-limit : (xs : List ℕ) → Ascends n 0 xs → cellsIn n xs ≡ cellsIn top xs
-  cells-limit xs a = sym (runs-cells n xs (ascends-good n xs a)) ∙ runs-cells top xs (ascends-good top xs (ascends-more n top 0 xs h a))
+module _ (n : ℕ) (h : n ≤ recordMax) where
+  cells-limit : (xs : List ℕ) → Ascends n 0 xs → cellsIn n xs ≡ cellsIn recordMax xs
+  cells-limit xs a = sym (runs-cells n xs (ascends-good n xs a)) ∙ runs-cells recordMax xs (ascends-good recordMax xs (ascends-more n recordMax 0 xs h a))
 
-  pub lists-limit : (xss : List (List ℕ)) → ((i : ℕ) → i < length xss → Ascends n 0 (getD xss i [])) → listsBytes n xss ≡ listsBytes top xss
+  pub lists-limit : (xss : List (List ℕ)) → ((i : ℕ) → i < length xss → Ascends n 0 (getD xss i [])) → listsBytes n xss ≡ listsBytes recordMax xss
   unfolding listsBytes
   lists-limit [] f = refl
   lists-limit (xs ∷ xss) f = rw (cells-limit xs (f 0 (omega arith)), lists-limit xss (λ i g. f (suc i) (omega arith)))
 
-  pub directory-limit : (a b : ℕ) (ws xss : List (List ℕ)) → ((i : ℕ) → i < length xss → Ascends n 0 (getD xss i [])) → directoryBytes n a b ws xss ≡ directoryBytes top a b ws xss
+  pub directory-limit : (a b : ℕ) (ws xss : List (List ℕ)) → ((i : ℕ) → i < length xss → Ascends n 0 (getD xss i [])) → directoryBytes n a b ws xss ≡ directoryBytes recordMax a b ws xss
   unfolding directoryBytes
   directory-limit a b [] xss f = refl
   directory-limit a b (w ∷ ws) [] f = refl
   directory-limit a b (w ∷ ws) (xs ∷ xss) f =
-      let c = cellsIn top xs in
+      let c = cellsIn recordMax xs in
       rw (cells-limit xs (f 0 (omega arith)))
       (ap (λ (r : List ℕ). entryBytes a w b c ++ r) (directory-limit (a + length w) (b + length (keptBytes c)) ws xss (λ i g. f (suc i) (omega arith))))

@@ -19,7 +19,7 @@ use Rattle.list.proofs.StretchLaws.{cells-names, cells-names-zero, cells-names-
 use Rattle.list.proofs.RecordLaws.{Ascends, among-below, among-above}
 use Rattle.directory.specs.Has.{has}
 use Rattle.directory.proofs.HasLaws.{has-entry, has-nowhere}
-use Rattle.build.specs.Layout.{cellsIn, indexOf}
+use Rattle.layout.specs.Layout.{cellsIn, indexOf}
 use Rattle.build.specs.ReadsBack.{Indexable, recordsFor}
 use Rattle.build.proofs.IndexOfLaws.{indexable-ascends, built-word-count, built-word, built-list, built-sound}
 
@@ -50,17 +50,17 @@ cells-among n xs x a = go (decLe 1 x) (decLe x n)
         let z : x ≡ 0 = omega arith in
         rw z (cells-names-zero (among xs) n ∙ sym (among-below n 0 0 xs a (omega arith)))
 
-module _ (n : ℕ) (ws xss : List (List ℕ)) (is : Indexable n ws xss) where
+module _ {n : ℕ} {ws xss : List (List ℕ)} (is : Indexable n ws xss) where
   pub built-has : (i x : ℕ) → i < length ws → has (indexOf n ws xss) (getD ws i []) x ≡ among (getD xss i []) x
   built-has i x h =
-      has-entry (indexOf n ws xss) (built-sound n ws xss is) (getD ws i []) i x (omega (arith, built-word-count n ws xss is)) (built-word n ws xss is i h)
-      ∙ ap (λ (c : List ℕ). names c x) (built-list n ws xss is i h)
-      ∙ cells-among n (getD xss i []) x (indexable-ascends n ws xss is i h)
+      has-entry (indexOf n ws xss) (built-sound is) (getD ws i []) i x (omega (arith, built-word-count is)) (built-word is i h)
+      ∙ ap (λ (c : List ℕ). names c x) (built-list is i h)
+      ∙ cells-among n (getD xss i []) x (indexable-ascends is i h)
 
   pub built-lacks : (w : List ℕ) (x : ℕ) → ((i : ℕ) → i < length ws → same (getD ws i []) w ≡ false) → has (indexOf n ws xss) w x ≡ false
   built-lacks w x f =
       has-nowhere (indexOf n ws xss) w x
-      (λ j h. let g : j < length ws = omega (arith, built-word-count n ws xss is) in rw (built-word n ws xss is j g) (f j g))
+      (λ j h. let g : j < length ws = omega (arith, built-word-count is) in rw (built-word is j g) (f j g))
 
   -- Reference 8.9: of a word the index has just the records that were given for it
   pub reads-back : (w : List ℕ) (x : ℕ) → has (indexOf n ws xss) w x ≡ among (recordsFor ws xss w) x

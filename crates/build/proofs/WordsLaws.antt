@@ -6,18 +6,20 @@ use native.Mathlib.Numerals.{add-one}
 use mathlib.Core.Bool.{Bool, true, false, cond, not, _&&_, _||_}
 use mathlib.Core.List.{List, [], _∷_, _++_, append-nil, append-assoc}
 use lib.Dec.{eqb, leb}
-use lib.ListN.{length, getD, take, drop, length-append, length-drop, drop-of-length-le}
+use lib.ListN.{length, getD, take, drop, length-append, length-drop}
 use lib.Seq.{drop-cons, drop-drop}
 use borrow.Author.Tests.{eq-eqb, ne-eqb, le-leb, lt-leb}
 use Rattle.laws.proofs.Tests.{and-both, leb-cases, true-false}
 use Rattle.laws.proofs.Lists.{drop-next, drop-none}
+use Rattle.limits.specs.Limits.{wordsMax}
 use Rattle.refusal.specs.declared.Found.the-variants.{At, Nowhere}
 use Rattle.refusal.specs.First.{first}
 use Rattle.refusal.proofs.FirstLaws.{first-is, first-none-is}
 use Rattle.word.specs.Word.{before, isWord}
 use Rattle.build.specs.Lent.{wordsFrom, lentWords, restFrom, restOf, one-if-any, wordTotal, lentBefore, badLent}
-use Rattle.build.specs.Layout.{wordsBytes}
+use Rattle.layout.specs.Layout.{wordsBytes}
 use Rattle.build.specs.Passes.{wordEnd}
+use Rattle.layout.proofs.BytesLaws.{Next, next-of}
 use Rattle.build.proofs.LentLaws.{LentWord}
 
 -- ---- one byte on
@@ -36,32 +38,23 @@ word-end-none bytes i h = rw (drop-none bytes i h)
 
 -- ---- one word on
 
+-- the first word ends at k, and behind it stand the other words and the rest
+abbrev Ended : List ℕ → List (List ℕ) → List ℕ → List ℕ → ℕ → Type 0
+Ended acc ws rest bs k = (ws ≡ (acc ++ take k bs) ∷ wordsFrom [] (drop (k + 1) bs)) × (rest ≡ restFrom [] (drop (k + 1) bs))
+
 ended-step : (acc : List ℕ) (b : ℕ) (bs : List ℕ) (t : Bool) → cond t 0 (suc (wordEnd bs)) < suc (length bs) →
-    ((acc : List ℕ) → wordEnd bs < length bs → wordsFrom acc bs ≡ (acc ++ take (wordEnd bs) bs) ∷ wordsFrom [] (drop (wordEnd bs + 1) bs)) →
-    cond t (acc ∷ wordsFrom [] bs) (wordsFrom (acc ++ b ∷ []) bs)
-    ≡ (acc ++ take (cond t 0 (suc (wordEnd bs))) (b ∷ bs)) ∷ wordsFrom [] (drop (cond t 0 (suc (wordEnd bs)) + 1) (b ∷ bs))
-ended-step acc b bs true h ih = rw (append-nil acc)
+    ((acc : List ℕ) → wordEnd bs < length bs → Ended acc (wordsFrom acc bs) (restFrom acc bs) bs (wordEnd bs)) →
+    Ended acc (cond t (acc ∷ wordsFrom [] bs) (wordsFrom (acc ++ b ∷ []) bs)) (cond t (restFrom [] bs) (restFrom (acc ++ b ∷ []) bs)) (b ∷ bs) (cond t 0 (suc (wordEnd bs)))
+ended-step acc b bs true h ih = (rw (append-nil acc), refl)
 ended-step acc b bs false h ih =
     let e : suc (wordEnd bs) + 1 ≡ suc (wordEnd bs + 1) = omega arith in
-    ih (acc ++ b ∷ []) (omega arith) ∙ rw (e, append-assoc acc (b ∷ []) (take (wordEnd bs) bs))
+    let w = ih (acc ++ b ∷ []) (omega arith) in
+    (w .0 ∙ rw (e, append-assoc acc (b ∷ []) (take (wordEnd bs) bs)), w .1 ∙ rw e)
 
-words-ended : (acc bs : List ℕ) → wordEnd bs < length bs → wordsFrom acc bs ≡ (acc ++ take (wordEnd bs) bs) ∷ wordsFrom [] (drop (wordEnd bs + 1) bs)
-unfolding wordsFrom wordEnd
+words-ended : (acc bs : List ℕ) → wordEnd bs < length bs → Ended acc (wordsFrom acc bs) (restFrom acc bs) bs (wordEnd bs)
+unfolding wordsFrom restFrom wordEnd
 words-ended acc [] h = absurd (omega arith)
 words-ended acc (b ∷ bs) h = ended-step acc b bs (eqb b 10) h (λ acc g. words-ended acc bs g)
-
-rest-ended-step : (acc : List ℕ) (b : ℕ) (bs : List ℕ) (t : Bool) → cond t 0 (suc (wordEnd bs)) < suc (length bs) →
-    ((acc : List ℕ) → wordEnd bs < length bs → restFrom acc bs ≡ restFrom [] (drop (wordEnd bs + 1) bs)) →
-    cond t (restFrom [] bs) (restFrom (acc ++ b ∷ []) bs) ≡ restFrom [] (drop (cond t 0 (suc (wordEnd bs)) + 1) (b ∷ bs))
-rest-ended-step acc b bs true h ih = refl
-rest-ended-step acc b bs false h ih =
-    let e : suc (wordEnd bs) + 1 ≡ suc (wordEnd bs + 1) = omega arith in
-    ih (acc ++ b ∷ []) (omega arith) ∙ rw e
-
-rest-ended : (acc bs : List ℕ) → wordEnd bs < length bs → restFrom acc bs ≡ restFrom [] (drop (wordEnd bs + 1) bs)
-unfolding restFrom wordEnd
-rest-ended acc [] h = absurd (omega arith)
-rest-ended acc (b ∷ bs) h = rest-ended-step acc b bs (eqb b 10) h (λ acc g. rest-ended acc bs g)
 
 open-step : (acc : List ℕ) (b : ℕ) (bs : List ℕ) (t : Bool) → suc (length bs) ≤ cond t 0 (suc (wordEnd bs)) →
     ((acc : List ℕ) → length bs ≤ wordEnd bs → (wordsFrom acc bs ≡ []) × (restFrom acc bs ≡ acc ++ bs)) →
@@ -74,21 +67,17 @@ unfolding wordsFrom restFrom wordEnd
 words-open acc [] h = (refl, sym (append-nil acc))
 words-open acc (b ∷ bs) h = open-step acc b bs (eqb b 10) h (λ acc g. words-open acc bs g)
 
-module _ (bytes : List ℕ) (start end : ℕ) (is : end ≡ start + wordEnd (drop start bytes)) where
+module _ (bytes : List ℕ) {start end : ℕ} (is : end ≡ start + wordEnd (drop start bytes)) where
   -- the word that starts at start, and those behind it
-  pub next-word : start ≤ length bytes → end < length bytes → wordsFrom [] (drop start bytes) ≡ take (end - start) (drop start bytes) ∷ wordsFrom [] (drop (end + 1) bytes)
+  pub next-word : start ≤ length bytes → end < length bytes →
+      (wordsFrom [] (drop start bytes) ≡ take (end - start) (drop start bytes) ∷ wordsFrom [] (drop (end + 1) bytes))
+      × (restFrom [] (drop start bytes) ≡ restFrom [] (drop (end + 1) bytes))
   next-word g h =
       let bs = drop start bytes in
       let e : wordEnd bs ≡ end - start = omega arith in
       let f : start + (end - start + 1) ≡ end + 1 = omega arith in
-      words-ended [] bs (omega (arith, length-drop start bytes)) ∙ rw (e, drop-drop (end - start + 1) start bytes, f)
-
-  pub next-rest : start ≤ length bytes → end < length bytes → restFrom [] (drop start bytes) ≡ restFrom [] (drop (end + 1) bytes)
-  next-rest g h =
-      let bs = drop start bytes in
-      let e : wordEnd bs ≡ end - start = omega arith in
-      let f : start + (end - start + 1) ≡ end + 1 = omega arith in
-      rest-ended [] bs (omega (arith, length-drop start bytes)) ∙ rw (e, drop-drop (end - start + 1) start bytes, f)
+      let w = words-ended [] bs (omega (arith, length-drop start bytes)) in
+      (w .0 ∙ rw (e, drop-drop (end - start + 1) start bytes, f), w .1 ∙ rw (e, drop-drop (end - start + 1) start bytes, f))
 
   -- nothing ends it
   pub last-word : start ≤ length bytes → end ≡ length bytes → (wordsFrom [] (drop start bytes) ≡ []) × (restFrom [] (drop start bytes) ≡ drop start bytes)
@@ -134,7 +123,7 @@ pub record Passing (bytes : List ℕ) (prior priorEnd start count : ℕ) : Type 
   pub ordered : prior ≤ priorEnd
   pub behind : priorEnd ≤ start
   pub few : count ≤ start
-  pub limit : count ≤ 65535
+  pub limit : count ≤ wordsMax
   pub seen : count ≤ length (lentWords bytes)
   pub words : wordsFrom [] (drop start bytes) ≡ drop count (lentWords bytes)
   pub rest : restFrom [] (drop start bytes) ≡ restOf bytes
@@ -157,24 +146,12 @@ pass-start bytes =
       good = λ j h. absurd (omega arith);
     }
 
--- what stands next where something is left
-record Next (ws : List (List ℕ)) (i : ℕ) (w : List ℕ) (r : List (List ℕ)) : Type 0 where
-  below : i < length ws
-  is : getD ws i [] ≡ w
-  rest : r ≡ drop (i + 1) ws
-
-next-of : (ws : List (List ℕ)) (i : ℕ) (w : List ℕ) (r : List (List ℕ)) → w ∷ r ≡ drop i ws → Next ws i w r
-next-of ws i w r e =
-    leb-cases (length ws) i
-    (λ h. absurd (let f = e ∙ drop-of-length-le ws h in let z : _≡_ {A = ℕ} 0 1 = cc in omega arith))
-    (λ h. let f = e ∙ drop-cons ws i [] h in record { below = h; is = cc; rest = rw (add-one i) (cc) })
-
 none-left : (ws : List (List ℕ)) (i : ℕ) → [] ≡ drop i ws → length ws ≤ i
 none-left ws i e =
     leb-cases (length ws) i (λ h. h)
     (λ h. absurd (let f = e ∙ drop-cons ws i [] h in let z : _≡_ {A = ℕ} 0 1 = cc in omega arith))
 
-module _ (bytes : List ℕ) (prior priorEnd start count : ℕ) (at : Passing bytes prior priorEnd start count) where
+module _ {bytes : List ℕ} {prior priorEnd start count : ℕ} (at : Passing bytes prior priorEnd start count) where
   abbrev ws : List (List ℕ)
   ws = lentWords bytes
 
@@ -191,7 +168,7 @@ module _ (bytes : List ℕ) (prior priorEnd start count : ℕ) (at : Passing byt
       let o : one-if-any (restOf bytes) ≡ 0 = rw (← r) in
       (first-none-is (badLent ws) (wordTotal bytes) (λ j k. at .good j (omega arith)), omega (arith, at .seen))
 
-  module _ (end : ℕ) (is : end ≡ start + wordEnd (drop start bytes)) where
+  module _ {end : ℕ} (is : end ≡ start + wordEnd (drop start bytes)) where
     abbrev word : List ℕ
     word = take (end - start) (drop start bytes)
 
@@ -199,30 +176,30 @@ module _ (bytes : List ℕ) (prior priorEnd start count : ℕ) (at : Passing byt
     pub pass-open : start < length bytes → end ≡ length bytes → first (badLent ws) (wordTotal bytes) ≡ At count
     unfolding wordTotal badLent
     pass-open h g =
-        let w = last-word bytes start end is (at .within) g in
+        let w = last-word bytes is (at .within) g in
         let n = none-left ws count (sym (w .0) ∙ at .words) in
         let o = any-one (restOf bytes) (rw (← (sym (w .1) ∙ at .rest)) (omega (arith, length-drop start bytes))) in
-        first-is (badLent ws) count (wordTotal bytes) (record { below = omega arith; holds = bad (leb 65535 count) n; before = at .good })
+        first-is (badLent ws) count (wordTotal bytes) (record { below = omega arith; holds = bad (leb wordsMax count) n; before = at .good })
       where
         bad : (t : Bool) → length ws ≤ count → t || leb (length ws) count || not (isWord (getD ws count [])) || not (before (lentBefore ws count) (getD ws count [])) ≡ true
         bad true n = refl
         bad false n = rw (le-leb (length ws) count n)
 
     module _ (h : end < length bytes) where
-      here : Next ws count word (wordsFrom [] (drop (end + 1) bytes))
-      here = next-of ws count word (wordsFrom [] (drop (end + 1) bytes)) (sym (next-word bytes start end is (at .within) h) ∙ at .words)
+      here : Next [] ws count word (wordsFrom [] (drop (end + 1) bytes))
+      here = next-of [] (sym (at .words) ∙ next-word bytes is (at .within) h .0)
 
       at-bad : badLent ws count ≡ true → first (badLent ws) (wordTotal bytes) ≡ At count
       at-bad e = first-is (badLent ws) count (wordTotal bytes) (record { below = words-within count (here .below); holds = e; before = at .good })
 
       -- the 65,536th
-      pub pass-full : count ≡ 65535 → first (badLent ws) (wordTotal bytes) ≡ At count
+      pub pass-full : count ≡ wordsMax → first (badLent ws) (wordTotal bytes) ≡ At count
       unfolding badLent
-      pass-full e = at-bad (rw (le-leb 65535 count (omega arith)))
+      pass-full e = at-bad (rw (le-leb wordsMax count (omega arith)))
 
       pub pass-bad : (isWord word && before (take (priorEnd - prior) (drop prior bytes)) word) ≡ false → first (badLent ws) (wordTotal bytes) ≡ At count
       unfolding badLent
-      pass-bad e = at-bad (rw (here .is, ← at .last) (bad (leb 65535 count) (leb (length ws) count) (isWord word) (before (take (priorEnd - prior) (drop prior bytes)) word) e))
+      pass-bad e = at-bad (rw (here .is, ← at .last) (bad (leb wordsMax count) (leb (length ws) count) (isWord word) (before (take (priorEnd - prior) (drop prior bytes)) word) e))
         where
           bad : (a b c d : Bool) → c && d ≡ false → a || b || not c || not d ≡ true
           bad true b c d e = refl
@@ -231,11 +208,11 @@ module _ (bytes : List ℕ) (prior priorEnd start count : ℕ) (at : Passing byt
           bad false false true false e = refl
           bad false false false d e = refl
 
-      pub pass-next : (count ≡ 65535 → ⊥) → (isWord word && before (take (priorEnd - prior) (drop prior bytes)) word) ≡ true → Passing bytes start end (end + 1) (count + 1)
+      pub pass-next : (count ≡ wordsMax → ⊥) → (isWord word && before (take (priorEnd - prior) (drop prior bytes)) word) ≡ true → Passing bytes start end (end + 1) (count + 1)
       unfolding badLent
       pass-next f e =
           let b = and-both (isWord word) (before (take (priorEnd - prior) (drop prior bytes)) word) e in
-          let l : count < 65535 = leb-cases 65535 count (λ g. absurd (f (omega (arith, at .limit)))) (λ g. g) in
+          let l : count < wordsMax = leb-cases wordsMax count (λ g. absurd (f (omega (arith, at .limit)))) (λ g. g) in
           let n = here in
           record {
             within = omega arith;
@@ -244,10 +221,10 @@ module _ (bytes : List ℕ) (prior priorEnd start count : ℕ) (at : Passing byt
             few = omega (arith, at .few);
             limit = omega arith;
             seen = omega (arith, n .below);
-            words = n .rest;
-            rest = sym (next-rest bytes start end is (at .within) h) ∙ at .rest;
+            words = sym (n .rest);
+            rest = sym (next-word bytes is (at .within) h .1) ∙ at .rest;
             last = rw (add-one count) (sym (n .is));
             good = λ j k. leb-cases count j
-                (λ g. let q : j ≡ count = omega arith in rw (q, lt-leb 65535 count l, lt-leb (length ws) count (n .below), n .is, b .0, ← at .last, b .1))
+                (λ g. let q : j ≡ count = omega arith in rw (q, lt-leb wordsMax count l, lt-leb (length ws) count (n .below), n .is, b .0, ← at .last, b .1))
                 (λ g. at .good j g);
           }

@@ -5,19 +5,19 @@ use mathlib.Core.Bool.{cond}
 use mathlib.Core.List.{List, _++_}
 use lib.Dec.{leb, ltb}
 use lib.ListN.{length, drop}
+use Rattle.limits.specs.Limits.{indexMax, recordMax}
 use Rattle.refusal.specs.declared.Found.{Found}
 use Rattle.refusal.specs.declared.Found.the-variants.{At, Nowhere}
 use Rattle.refusal.specs.declared.Refusal.{Refusal}
-use Rattle.refusal.specs.declared.Refusal.the-variants.{BuildWord, BuildCount, BuildLimit, Number, Room}
+use Rattle.refusal.specs.declared.Refusal.the-variants.{BuildWord, BuildCount, BuildSize, Number, Room}
 use Rattle.refusal.specs.First.{first}
 use Rattle.list.specs.declared.Written.{Written}
 use Rattle.list.specs.declared.Written.the-variants as written
-use Rattle.list.specs.Interval.{top}
 use Rattle.index.specs.declared.Checked.{Checked}
 use Rattle.index.specs.declared.Checked.the-variants.{Good, Refused}
 use Rattle.index.specs.Check.{badPlace}
 use Rattle.build.specs.Lent.{lentWords, wordTotal, badLent, badCount, badRest, badListed, listsFrom}
-use Rattle.build.specs.Layout.{indexOf}
+use Rattle.layout.specs.Layout.{indexOf}
 
 -- Reference 9.1, row 17: the first bad word
 abbrev pub badWords : List ℕ → Found
@@ -40,7 +40,7 @@ faultThen refusal Nowhere next = next
 -- Reference 9.2: 19 with 0, 17, 18, 15, before the size is asked for
 unfoldable pub lentOf : ℕ → List ℕ → List ℕ → List ℕ → Checked
 lentOf n words counts numbers =
-    cond (ltb top n) (Refused (BuildLimit 0))
+    cond (ltb recordMax n) (Refused (BuildSize 0))
     (faultThen BuildWord (badWords words)
     (faultThen BuildCount (badCounts words counts numbers)
     (faultThen Number (badNumbers n words counts numbers) Good)))
@@ -48,7 +48,7 @@ lentOf n words counts numbers =
 -- Reference 9.2: 19 with 1, then 12, by the size of the index
 abbrev pub sizeAnswer : ℕ → ℕ → Written
 sizeAnswer size room =
-    cond (ltb 16777216 size) (written.Refused (BuildLimit 1)) (cond (leb size room) (written.Wrote size) (written.Refused (Room size)))
+    cond (ltb indexMax size) (written.Refused (BuildSize 1)) (cond (leb size room) (written.Wrote size) (written.Refused (Room size)))
 
 -- Reference 9.2: what is lent is refused, or its size answers
 abbrev pub afterLent : Checked → Written → Written

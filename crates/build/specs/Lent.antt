@@ -4,6 +4,7 @@ use mathlib.Core.Bool.{Bool, false, cond, not, _||_}
 use mathlib.Core.List.{List, [], _∷_, _++_}
 use lib.Dec.{eqb, leb, ltb}
 use lib.ListN.{length, getD, take, drop}
+use Rattle.limits.specs.Limits.{wordsMax}
 use Rattle.word.specs.Word.{before, isWord}
 
 -- Reference 8.9: the words that have their byte 10; acc is what stands since the last one
@@ -37,7 +38,7 @@ lentBefore ws (suc i) = getD ws i []
 
 -- Reference 9.1, row 17: whether word i is bad; a word that has no byte 10 is not among ws
 unfoldable pub badLent : List (List ℕ) → ℕ → Bool
-badLent ws i = leb 65535 i || leb (length ws) i || not (isWord (getD ws i [])) || not (before (lentBefore ws i) (getD ws i []))
+badLent ws i = leb wordsMax i || leb (length ws) i || not (isWord (getD ws i [])) || not (before (lentBefore ws i) (getD ws i []))
 
 -- Reference 9.1, row 18: what the first i counts add up to
 unfoldable pub sumTo : List ℕ → ℕ → ℕ

@@ -4,6 +4,7 @@ use mathlib.Core.Path.{_≡_}
 use mathlib.Core.Bool.{true, cond}
 use mathlib.Core.List.{List, [], _∷_}
 use lib.ListN.{length, getD}
+use Rattle.limits.specs.Limits.{indexMax, recordMax, wordsMax}
 use Rattle.refusal.specs.declared.Found.the-variants.{Nowhere}
 use Rattle.refusal.specs.First.{first}
 use Rattle.word.specs.Word.{same, before, isWord}
@@ -12,23 +13,18 @@ use Rattle.list.specs.Stretches.{recordsOf}
 use Rattle.convert.specs.Convert.{badNumber}
 use Rattle.index.specs.Format.{wordCount, highest, wordOf, listOf}
 use Rattle.build.specs.Lent.{lentBefore}
-use Rattle.build.specs.Layout.{indexOf}
-
--- Reference 4: all numbers are below m; with 256, they are bytes
-abbrev pub Below : ℕ → List ℕ → Type 0
-Below m [] = Unit {0}
-Below m (x ∷ xs) = (x < m) × Below m xs
+use Rattle.layout.specs.Layout.{indexOf}
 
 -- Reference 8.9: N, words and lists that no rule of building refuses, 12 apart
 pub record Indexable (n : ℕ) (ws xss : List (List ℕ)) : Type 0 where
-  pub limit : n ≤ 16777215
-  pub few : length ws ≤ 65535
+  pub limit : n ≤ recordMax
+  pub few : length ws ≤ wordsMax
   pub as-many : length xss ≡ length ws
   pub word : (i : ℕ) → i < length ws → isWord (getD ws i []) ≡ true
   pub order : (i : ℕ) → i < length ws → before (lentBefore ws i) (getD ws i []) ≡ true
   pub some : (i : ℕ) → i < length ws → 1 ≤ length (getD xss i [])
   pub records : (i : ℕ) → i < length ws → first (badNumber n (getD xss i [])) (length (getD xss i [])) ≡ Nowhere
-  pub size : length (indexOf n ws xss) ≤ 16777216
+  pub size : length (indexOf n ws xss) ≤ indexMax
 
 -- Reference 8.9: the records of word w, of words and their lists: none where it is not among the words
 unfoldable pub recordsFor : List (List ℕ) → List (List ℕ) → List ℕ → List ℕ

@@ -1,7 +1,7 @@
 // The build: all that is lent is checked, then the index is written.
 ghost use mathlib.Core.Path.{_≡_};
-ghost use lib.ListN.{length};
-ghost use Rattle.build.specs.Build.{lentOf, indexFrom, sizeAnswer, bytesAfter, Builds};
+ghost use Rattle.build.specs.Build.{lentOf, Builds};
+ghost use Rattle.build.specs.Passes.{GoodLent};
 use crate::counts::check_counts;
 use crate::numbers::check_numbers;
 use crate::size::lists_size;
@@ -9,20 +9,18 @@ use crate::words::Words;
 use crate::words::check_words;
 use crate::write::write_index;
 use index::Checked;
-use list::TOP;
+use limits::INDEX_MAX;
+use limits::RECORD_MAX;
 use list::Written;
 use refusal::Found;
 use refusal::Refusal;
-
-// The most bytes that an index has.
-const LARGEST: usize = 16_777_216;
 
 // Reference 9.2: refusals 19 with 0, 17, 18 and 15.
 fn check_lent(n: u32, words: &[u8], counts: &[u32], numbers: &[u32]) -> Checked
     ensures { λ r. ⌜ r ≡ lentOf n (now (words .entry)) (now (counts .entry)) (now (numbers .entry)) ⌝ }
 {
-    if n > TOP {
-        return Checked::Refused(Refusal::BuildLimit(0));
+    if n > RECORD_MAX {
+        return Checked::Refused(Refusal::BuildSize(0));
     }
     match check_words(words) {
         Words::Bad(i) => Checked::Refused(Refusal::BuildWord(i)),
@@ -38,16 +36,16 @@ fn check_lent(n: u32, words: &[u8], counts: &[u32], numbers: &[u32]) -> Checked
 
 // Reference 9.2: refusals 19 with 1 and 12, or the index written.
 fn build_checked(n: u32, words: &[u8], counts: &[u32], numbers: &[u32], out: &mut [u8]) -> Written
-    requires { ⌜ lentOf n (now words) (now counts) (now numbers) ≡ Checked.Good ⌝ }
-    ensures { λ r. ⌜ (r ≡ sizeAnswer (length (indexFrom n (now (words .entry)) (now (counts .entry)) (now (numbers .entry)))) (length (now (out .entry)))) × (now (out .exit) ≡ bytesAfter (sizeAnswer (length (indexFrom n (now (words .entry)) (now (counts .entry)) (now (numbers .entry)))) (length (now (out .entry)))) (indexFrom n (now (words .entry)) (now (counts .entry)) (now (numbers .entry))) (now (out .entry))) ⌝ }
+    requires { ⌜ GoodLent n (now words) (now counts) (now numbers) ⌝ }
+    ensures { λ r. ⌜ Builds n (now (words .entry)) (now (counts .entry)) (now (numbers .entry)) (now (out .entry)) (now (out .exit)) r ⌝ }
 {
     let lists = lists_size(counts, numbers);
-    if lists > LARGEST {
-        return Written::Refused(Refusal::BuildLimit(1));
+    if lists > INDEX_MAX {
+        return Written::Refused(Refusal::BuildSize(1));
     }
     let size = lists + (words.len() - counts.len()) + 20 * counts.len() + 20;
-    if size > LARGEST {
-        return Written::Refused(Refusal::BuildLimit(1));
+    if size > INDEX_MAX {
+        return Written::Refused(Refusal::BuildSize(1));
     }
     if out.len() < size {
         return Written::Refused(Refusal::Room(size));

@@ -1,13 +1,11 @@
 // The counts of records, one for each word.
 ghost use mathlib.Core.Path.{_≡_};
-ghost use Rattle.refusal.specs.First.{first};
-ghost use Rattle.index.specs.Check.{badPlace};
-ghost use Rattle.build.specs.Lent.{badCount, badRest};
+ghost use Rattle.build.specs.Passes.{countFault};
 use refusal::Found;
 
 // Reference 9.1, row 18: the first bad count, or the word count.
 pub fn check_counts(counts: &[u32], total: usize, words: usize) -> Found
-    ensures { λ r. ⌜ r ≡ badPlace (first (badCount (now (counts .entry)) total) words) (badRest (now (counts .entry)) total words) words ⌝ }
+    ensures { λ r. ⌜ r ≡ countFault (now (counts .entry)) total words ⌝ }
 {
     let mut left = total;
     let mut i = 0;

@@ -1,16 +1,14 @@
 // The record numbers of all words.
 ghost use mathlib.Core.Path.{_≡_};
 ghost use lib.ListN.{length};
-ghost use Rattle.refusal.specs.First.{first};
-ghost use Rattle.build.specs.Lent.{badListed};
-ghost use Rattle.build.specs.Passes.{Fair};
+ghost use Rattle.build.specs.Passes.{Fair, numberFault};
 use convert::numbers::first_bad_number;
 use refusal::Found;
 
 // Reference 9.1, row 15: the first bad number, with the limit n.
 pub fn check_numbers(n: u32, counts: &[u32], numbers: &[u32]) -> Found
     requires { ⌜ Fair (now counts) (length (now numbers)) ⌝ }
-    ensures { λ r. ⌜ r ≡ first (badListed n (now (counts .entry)) (length (now (counts .entry))) (now (numbers .entry))) (length (now (numbers .entry))) ⌝ }
+    ensures { λ r. ⌜ r ≡ numberFault n (now (counts .entry)) (now (numbers .entry)) ⌝ }
 {
     let mut start = 0;
     let mut i = 0;

@@ -2,9 +2,10 @@
 ghost use mathlib.Core.Path.{_≡_};
 ghost use Prim.Native.Nat.{_+_, _≤_};
 ghost use lib.ListN.{length, drop};
-ghost use Rattle.refusal.specs.First.{first};
-ghost use Rattle.build.specs.Lent.{lentWords, wordTotal, badLent};
+ghost use Rattle.build.specs.Lent.{lentWords};
+ghost use Rattle.build.specs.Build.{badWords};
 ghost use Rattle.build.specs.Passes.{wordEnd, wordsAnswer};
+use limits::WORDS_MAX;
 
 // How many words there are, or the first bad one.
 pub enum Words {
@@ -15,7 +16,9 @@ pub enum Words {
 // Where the word that starts at `start` ends: at the next byte 10, or behind all bytes.
 pub fn word_end(words: &[u8], start: usize) -> usize
     requires { ⌜ start ≤ length (now words) ⌝ }
-    ensures { λ r. ⌜ (r ≡ start + wordEnd (drop start (now (words .entry)))) × (start ≤ r) × (r ≤ length (now (words .entry))) ⌝ }
+    ensures is { λ r. ⌜ r ≡ start + wordEnd (drop start (now (words .entry))) ⌝ }
+    ensures forward { λ r. ⌜ start ≤ r ⌝ }
+    ensures within { λ r. ⌜ r ≤ length (now (words .entry)) ⌝ }
 {
     let mut end = start;
     while end < words.len() {
@@ -29,7 +32,7 @@ pub fn word_end(words: &[u8], start: usize) -> usize
 
 // One pass over the words, with where the one before stands.
 pub fn check_words(words: &[u8]) -> Words
-    ensures { λ r. ⌜ r ≡ wordsAnswer (first (badLent (lentWords (now (words .entry)))) (wordTotal (now (words .entry)))) (length (lentWords (now (words .entry)))) ⌝ }
+    ensures { λ r. ⌜ r ≡ wordsAnswer (badWords (now (words .entry))) (length (lentWords (now (words .entry)))) ⌝ }
 {
     let mut prior = 0;
     let mut prior_end = 0;
@@ -40,7 +43,7 @@ pub fn check_words(words: &[u8]) -> Words
         if end == words.len() {
             return Words::Bad(count);
         }
-        if count == 65535 {
+        if count == WORDS_MAX {
             return Words::Bad(count);
         }
         if !index::check::word_good(&words[prior..prior_end], &words[start..end]) {

@@ -1,21 +1,23 @@
 // Writing an index: all words with their lists, and the trailer.
 ghost use mathlib.Core.Path.{_≡_};
-ghost use mathlib.Core.List.{_++_};
 ghost use Prim.Native.Nat.{_≤_};
-ghost use lib.ListN.{length, drop};
+ghost use lib.ListN.{length};
+ghost use Rattle.limits.specs.Limits.{indexMax, recordMax};
+ghost use Rattle.convert.specs.Front.{inFront};
 ghost use Rattle.build.specs.Lent.{lentWords, listsFrom};
-ghost use Rattle.build.specs.Layout.{listsBytes};
-ghost use Rattle.build.specs.Build.{lentOf, indexFrom};
-ghost use Rattle.build.specs.Passes.{Lists, allEntered, AllWithin};
-use crate::cells::put_five;
-use crate::entry::Spots;
-use crate::entry::write_word;
+ghost use Rattle.layout.specs.Layout.{listsBytes};
+ghost use Rattle.build.specs.Build.{indexFrom};
+ghost use Rattle.build.specs.Passes.{GoodLent, Lists, allEntered, AllWithin};
 use crate::words::word_end;
-use index::Checked;
+use layout::cells::put_five;
+use layout::entry::Spots;
+use layout::entry::write_word;
 
 // Writes all words with their lists.
 fn write_words(out: &mut [u8], from: Spots, words: &[u8], counts: &[u32], numbers: &[u32])
-    requires { ⌜ Lists (now counts) (now numbers) × (length (lentWords (now words)) ≡ length (now counts)) × AllWithin from (lentWords (now words)) (listsFrom (now counts) (now numbers)) (length (now out)) ⌝ }
+    requires lists { ⌜ Lists (now counts) (now numbers) ⌝ }
+    requires as_many { ⌜ length (lentWords (now words)) ≡ length (now counts) ⌝ }
+    requires within { ⌜ AllWithin from (lentWords (now words)) (listsFrom (now counts) (now numbers)) (length (now out)) ⌝ }
     ensures { λ _. ⌜ now (out .exit) ≡ allEntered (now (out .entry)) from (lentWords (now (words .entry))) (listsFrom (now (counts .entry)) (now (numbers .entry))) ⌝ }
 {
     let mut at = from;
@@ -41,8 +43,11 @@ pub fn write_index(
     lists: usize,
     out: &mut [u8],
 )
-    requires { ⌜ (lentOf n (now words) (now counts) (now numbers) ≡ Checked.Good) × (length (indexFrom n (now words) (now counts) (now numbers)) ≤ 16777216) × (length (indexFrom n (now words) (now counts) (now numbers)) ≤ length (now out)) × (lists ≡ length (listsBytes n (listsFrom (now counts) (now numbers)))) ⌝ }
-    ensures { λ _. ⌜ now (out .exit) ≡ indexFrom n (now (words .entry)) (now (counts .entry)) (now (numbers .entry)) ++ drop (length (indexFrom n (now (words .entry)) (now (counts .entry)) (now (numbers .entry)))) (now (out .entry)) ⌝ }
+    requires good { ⌜ GoodLent n (now words) (now counts) (now numbers) ⌝ }
+    requires counted { ⌜ lists ≡ length (listsBytes recordMax (listsFrom (now counts) (now numbers))) ⌝ }
+    requires small { ⌜ length (indexFrom n (now words) (now counts) (now numbers)) ≤ indexMax ⌝ }
+    requires room { ⌜ length (indexFrom n (now words) (now counts) (now numbers)) ≤ length (now out) ⌝ }
+    ensures { λ _. ⌜ now (out .exit) ≡ inFront (indexFrom n (now (words .entry)) (now (counts .entry)) (now (numbers .entry))) (now (out .entry)) ⌝ }
 {
     let directory = lists + (words.len() - counts.len());
     let from = Spots {

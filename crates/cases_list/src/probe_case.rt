@@ -2,7 +2,7 @@
 ghost use mathlib.Core.Path.{_≡_};
 ghost use lib.ListN.{length};
 use crate::print::print_number;
-use list::TOP;
+use limits::RECORD_MAX;
 use script::number::number32;
 use script::number::within;
 use script::part::field;
@@ -11,13 +11,13 @@ use script::part::field;
 fn probe_parts(singles: &[u8], lower: &[u8], upper: &[u8], a: u32, b: u32)
     requires { ⌜ length (now lower) ≡ length (now upper) ⌝ }
 {
-    if TOP < b {
+    if RECORD_MAX < b {
         return;
     }
     if b < a {
         return;
     }
-    if list::kept::is_kept(singles, lower, upper, TOP) {
+    if list::kept::is_kept(singles, lower, upper, RECORD_MAX) {
         let found = list::probe::probe_list(singles, lower, upper, a, b);
         io::write_all(1, b" ->");
         print_number(found.below as u64);

@@ -7,7 +7,7 @@
 use check::same;
 use script::lay::change;
 use script::part::field;
-use script::part::part_end;
+use script::run::begin;
 
 mod ask_case;
 mod read_case;
@@ -30,34 +30,23 @@ fn call(line: &[u8], base: &[u8], size: usize, work: &mut [u8]) {
     }
 }
 
-fn is_heading(line: &[u8]) -> bool {
-    if line.len() == 0 {
-        true
-    } else {
-        line[0] == b'#'
-    }
-}
-
-// Runs a line, if it is no heading: how many bytes the index has from then on.
-fn run_line(line: &[u8], base: &mut [u8], size: usize, work: &mut [u8]) -> usize {
-    if is_heading(line) {
-        return size;
-    }
-    if same(field(line, 0), b"lay") {
-        return change(field(line, 1), &io::large_buffer(), 0, base);
+// Runs a line that is begun, if it is a call.
+fn run_line(calls: bool, line: &[u8], base: &[u8], size: usize, work: &mut [u8]) {
+    if !calls {
+        return;
     }
     io::write_all(1, b" -> ");
     call(line, base, size, work);
-    size
 }
 
 fn run(script: &[u8], base: &mut [u8], work: &mut [u8]) {
     let mut size = 0;
     let mut at = 0;
     while at < script.len() {
-        let end = part_end(script, at, b'\n');
-        io::write_all(1, &script[at..end]);
-        size = run_line(&script[at..end], base, size, work);
+        let begun = begin(script, at, base, size);
+        let end = begun.end;
+        size = begun.size;
+        run_line(begun.calls, &script[at..end], base, size, work);
         io::write_all(1, b"\n");
         at = end + 1;
     }

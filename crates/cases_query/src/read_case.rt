@@ -1,5 +1,8 @@
 // Reading a question.
-use question::Reading;
+use question::Verdict;
+use question::token::Token;
+use question::token::next_token;
+use question::token::token_end;
 use script::part::field;
 use script::text::read_text;
 
@@ -9,26 +12,39 @@ fn print_two(a: u64, between: &[u8], b: u64) {
     io::print_decimal(1, b);
 }
 
+fn print_place(token: Token) {
+    match token {
+        Token::Word(start, end) => {
+            io::write_all(1, b" ");
+            print_two(start as u64, b"-", end as u64);
+        }
+        _ => {}
+    }
+}
+
 fn print_places(question: &[u8]) {
-    let places = question::word_places(question);
-    let starts = places.starts;
-    let ends = places.ends;
-    let count = places.count;
-    let mut k = 0;
-    while k < count {
-        io::write_all(1, b" ");
-        print_two(starts[k] as u64, b"-", ends[k] as u64);
-        k += 1;
+    let mut at = 0;
+    loop {
+        let token = next_token(question, at);
+        match token {
+            Token::End(_) => {
+                return;
+            }
+            _ => {
+                print_place(token);
+                at = token_end(token);
+            }
+        }
     }
 }
 
 fn read_question(question: &[u8]) {
     match question::read_question(question) {
-        Reading::Accepted(words) => {
+        Verdict::Accepted(words) => {
             print_two(0, b" ", words as u64);
             print_places(question);
         }
-        Reading::Refused(refusal) => {
+        Verdict::Refused(refusal) => {
             print_two(
                 refusal::number_of(refusal),
                 b" ",

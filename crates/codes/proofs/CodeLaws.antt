@@ -7,12 +7,12 @@ use mathlib.Core.List.{List, [], _∷_}
 use lib.Dec.{leb}
 use lib.ListN.{length, getD}
 use borrow.Author.Tests.{leb-true, le-leb}
-use Rattle.laws.proofs.Tests.{true-false, and-both, both-and, leb-cases}
+use Rattle.laws.proofs.Tests.{true-false, and-both, both-and}
 use Rattle.question.specs.declared.token.Op.{Op}
 use Rattle.question.specs.declared.token.Op.the-variants.{And, Or, Not}
 use Rattle.question.specs.Token.{Tok, wordT, opT, openT, closeT, otherT}
 use Rattle.question.specs.Limits.{tokenWords}
-use Rattle.codes.specs.Code.{opCode, opOf, codesOf, wordCodes}
+use Rattle.codes.specs.Code.{andCode, notCode, opCode, opOf, codesOf, wordCodes}
 
 -- within a list it does not matter what would be read behind it
 pub getD-within : (xs : List ℕ) (i d e : ℕ) → i < length xs → getD xs i d ≡ getD xs i e
@@ -36,13 +36,6 @@ op-not (suc zero) h = absurd (omega arith)
 op-not (suc (suc zero)) h = absurd (omega arith)
 op-not (suc (suc (suc c))) h = refl
 
-pub positive : (d : ℕ) → (d ≡ 0 → ⊥) → 1 ≤ d
-positive zero n = absurd (n refl)
-positive (suc d) n = omega arith
-
-pub above-two : (c : ℕ) → 1 < c → (c ≡ 2 → ⊥) → 2 < c
-above-two c h n = leb-cases c 2 (λ g. absurd (n (omega arith))) (λ g. g)
-
 pub op-back : (o : Op) → opOf (opCode o) ≡ o
 op-back And = refl
 op-back Or = refl
@@ -54,7 +47,7 @@ op-range Or = (omega arith, omega arith)
 op-range Not = (omega arith, omega arith)
 
 -- what is_operator tells of a code
-pub operator-code : (c : ℕ) → leb 1 c && leb c 3 ≡ true → c ≡ opCode (opOf c)
+pub operator-code : (c : ℕ) → leb andCode c && leb c notCode ≡ true → c ≡ opCode (opOf c)
 operator-code c e = go c (leb-true 1 c (and-both (leb 1 c) (leb c 3) e .0)) (leb-true c 3 (and-both (leb 1 c) (leb c 3) e .1))
   where
     go : (c : ℕ) → 1 ≤ c → c ≤ 3 → c ≡ opCode (opOf c)
@@ -64,7 +57,7 @@ operator-code c e = go c (leb-true 1 c (and-both (leb 1 c) (leb c 3) e .0)) (leb
     go (suc (suc (suc zero))) h g = refl
     go (suc (suc (suc (suc c)))) h g = absurd (omega arith)
 
-pub operator-none : (c : ℕ) → leb 1 c && leb c 3 ≡ false → (o : Op) → c ≡ opCode o → ⊥
+pub operator-none : (c : ℕ) → leb andCode c && leb c notCode ≡ false → (o : Op) → c ≡ opCode o → ⊥
 operator-none c e o h =
     let r = op-range o in
     true-false (sym (both-and (leb 1 c) (leb c 3) (le-leb 1 c (omega arith)) (le-leb c 3 (omega arith))) ∙ e)

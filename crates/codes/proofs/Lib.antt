@@ -1,3 +1,2 @@
 pub mod CodeLaws
 pub mod ReadsLaws
-pub mod CodedLaws

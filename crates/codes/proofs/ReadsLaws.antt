@@ -9,13 +9,12 @@ use lib.ListN.{length, getD, drop, drop-of-length-le, length-append, List·getD-
 use borrow.Author.Tests.{lt-ltb, le-ltb, eqb-false}
 use Rattle.laws.proofs.Tests.{by-test, leb-cases}
 use Rattle.question.specs.declared.token.Op.{Op}
-use Rattle.question.specs.declared.token.Op.the-variants.{And, Or, Not}
 use Rattle.question.specs.Token.{Tok, wordT, opT, openT, closeT, otherT}
 use Rattle.question.specs.Grammar.{Tree, word, pair, part, Link, link, good, bind, closed, fromLeft, question, operand, links, treeWords}
 use Rattle.question.proofs.LevelLaws.{bad-good, bind-first, question-level}
 use Rattle.question.proofs.TreeWords.{Words, operand-words}
 use Rattle.question.proofs.RuleLaws.{from-left-keeps, from-left-link, from-left-none}
-use Rattle.codes.specs.Code.{opCode, opOf, codeOf, codesOf}
+use Rattle.codes.specs.Code.{wordCode, openCode, closeCode, noCode, opCode, opOf, codeOf, codesOf}
 use Rattle.codes.specs.Reads.{Reads}
 use Rattle.codes.proofs.CodeLaws.{op-back, op-range}
 
@@ -29,10 +28,10 @@ codes-length (t ∷ ts) = ap suc (codes-length ts)
 pub record Stands (toks : List Tok) (codes : List ℕ) (i : ℕ) : Type 0 where
   pub tok : Tok
   pub here : drop i toks ≡ tok ∷ drop (i + 1) toks
-  pub code : codeOf tok ≡ getD codes i 6
+  pub code : codeOf tok ≡ getD codes i noCode
 
 stands-go : (toks : List Tok) (i : ℕ) → i < length (codesOf toks) →
-    (t : Tok) × (drop i toks ≡ t ∷ drop (suc i) toks) × (codeOf t ≡ getD (codesOf toks) i 6)
+    (t : Tok) × (drop i toks ≡ t ∷ drop (suc i) toks) × (codeOf t ≡ getD (codesOf toks) i noCode)
 unfolding codesOf
 stands-go [] i h = absurd (omega arith)
 stands-go (t ∷ ts) zero h = (t, refl, refl)
@@ -50,27 +49,23 @@ stands-end toks codes i e h =
     let g : length toks ≤ i = omega arith in
     drop-of-length-le toks g
 
--- behind the last code 6 is read, which is no token's of a question: a code below 6 stands there
-pub code-within : (codes : List ℕ) (i : ℕ) → getD codes i 6 < 6 → i < length codes
-code-within codes i h = leb-cases (length codes) i (λ g. absurd (let e = List·getD-eq-default codes 6 g in omega arith)) (λ g. g)
+-- a code below the one that is read behind the last stands there
+pub code-within : (codes : List ℕ) (i : ℕ) → getD codes i noCode < noCode → i < length codes
+code-within codes i h = leb-cases (length codes) i (λ g. absurd (let e = List·getD-eq-default codes noCode g in omega arith)) (λ g. g)
 
 -- ---- the token of a code
 
-pub code-word : (t : Tok) → codeOf t ≡ 0 → (w : List ℕ) × (p : ℕ) × (t ≡ wordT w p)
+pub code-word : (t : Tok) → codeOf t ≡ wordCode → (w : List ℕ) × (p : ℕ) × (t ≡ wordT w p)
 code-word (wordT w p) e = (w, p, refl)
-code-word (opT And p) e = absurd (omega arith)
-code-word (opT Or p) e = absurd (omega arith)
-code-word (opT Not p) e = absurd (omega arith)
+code-word (opT o p) e = absurd (let r = op-range o in omega arith)
 code-word (openT p) e = absurd (omega arith)
 code-word (closeT p) e = absurd (omega arith)
 code-word (otherT p) e = absurd (omega arith)
 
-pub code-open : (t : Tok) → codeOf t ≡ 4 → (p : ℕ) × (t ≡ openT p)
+pub code-open : (t : Tok) → codeOf t ≡ openCode → (p : ℕ) × (t ≡ openT p)
 code-open (openT p) e = (p, refl)
 code-open (wordT w p) e = absurd (omega arith)
-code-open (opT And p) e = absurd (omega arith)
-code-open (opT Or p) e = absurd (omega arith)
-code-open (opT Not p) e = absurd (omega arith)
+code-open (opT o p) e = absurd (let r = op-range o in omega arith)
 code-open (closeT p) e = absurd (omega arith)
 code-open (otherT p) e = absurd (omega arith)
 
@@ -83,7 +78,7 @@ code-operator o (otherT p) e = absurd (let r = op-range o in omega arith)
 
 -- ---- what is no operand, no link, no closing bracket
 
-none-operand : (f d k : ℕ) (t : Tok) (r : List Tok) (x : Tree) (z : List Tok) (j : ℕ) → (codeOf t ≡ 0 → ⊥) → (codeOf t ≡ 4 → ⊥) →
+none-operand : (f d k : ℕ) (t : Tok) (r : List Tok) (x : Tree) (z : List Tok) (j : ℕ) → (codeOf t ≡ wordCode → ⊥) → (codeOf t ≡ openCode → ⊥) →
     operand fromLeft f d k (t ∷ r) ≡ good x z j → ⊥
 unfolding operand
 none-operand zero d k t r x z j a b e = bad-good 0 (t ∷ r) x z j e
@@ -110,25 +105,23 @@ nil-links : (f d k : ℕ) → links fromLeft (suc f) d k [] ≡ good [] [] k
 unfolding links
 nil-links f d k = refl
 
-none-closed : (t : Tok) (y : Tree) (r : List Tok) (k : ℕ) (x : Tree) (z : List Tok) (j : ℕ) → (codeOf t ≡ 5 → ⊥) → closed y (t ∷ r) k ≡ good x z j → ⊥
+none-closed : (t : Tok) (y : Tree) (r : List Tok) (k : ℕ) (x : Tree) (z : List Tok) (j : ℕ) → (codeOf t ≡ closeCode → ⊥) → closed y (t ∷ r) k ≡ good x z j → ⊥
 none-closed (wordT w p) y r k x z j a e = bad-good 9 (wordT w p ∷ r) x z j e
 none-closed (opT o p) y r k x z j a e = bad-good 9 (opT o p ∷ r) x z j e
 none-closed (openT p) y r k x z j a e = bad-good 9 (openT p ∷ r) x z j e
 none-closed (closeT p) y r k x z j a e = a refl
 none-closed (otherT p) y r k x z j a e = bad-good 9 (otherT p ∷ r) x z j e
 
-some-closed : (t : Tok) (y : Tree) (r : List Tok) (k : ℕ) → codeOf t ≡ 5 → closed y (t ∷ r) k ≡ good (part y) r k
+some-closed : (t : Tok) (y : Tree) (r : List Tok) (k : ℕ) → codeOf t ≡ closeCode → closed y (t ∷ r) k ≡ good (part y) r k
 some-closed (closeT p) y r k e = refl
 some-closed (wordT w p) y r k e = absurd (omega arith)
-some-closed (opT And p) y r k e = absurd (omega arith)
-some-closed (opT Or p) y r k e = absurd (omega arith)
-some-closed (opT Not p) y r k e = absurd (omega arith)
+some-closed (opT o p) y r k e = absurd (let r = op-range o in omega arith)
 some-closed (openT p) y r k e = absurd (omega arith)
 some-closed (otherT p) y r k e = absurd (omega arith)
 
 -- ---- operands
 
-pub operand-none : (codes : List ℕ) (f d k i i′ k′ : ℕ) (Q : Tree → Type 0) → (getD codes i 6 ≡ 0 → ⊥) → (getD codes i 6 ≡ 4 → ⊥) →
+pub operand-none : (codes : List ℕ) (f d k i i′ k′ : ℕ) (Q : Tree → Type 0) → (getD codes i noCode ≡ wordCode → ⊥) → (getD codes i noCode ≡ openCode → ⊥) →
     Reads (operand fromLeft f d k) codes i i′ k′ Q
 operand-none codes f d k i i′ k′ Q a b toks t rest j e r =
     leb-cases (length codes) i
@@ -146,7 +139,7 @@ word-read (suc f) d k w p r x z j e =
     (λ h. bad-good 10 (wordT w p ∷ r) x z j (rw (le-ltb k 16 h) at e))
     (λ h. let g : good (word w) r (k + 1) ≡ good x z j = rw (lt-ltb k 16 h) at e in (h, (cc), (cc), (cc)))
 
-module _ (codes : List ℕ) (f d k i : ℕ) (c : getD codes i 6 ≡ 0) where
+module _ (codes : List ℕ) (f d k i : ℕ) (c : getD codes i noCode ≡ wordCode) where
   word-within : i < length codes
   word-within = code-within codes i (omega arith)
 
@@ -177,7 +170,7 @@ part-read (suc f) d k p r x z j e =
     (λ t. bad-good 11 (openT p ∷ r) x z j (rw t at e))
     (λ t. (eqb-false d 0 t, (f, rw t at e)))
 
-module _ (codes : List ℕ) (f d k i : ℕ) (c : getD codes i 6 ≡ 4) where
+module _ (codes : List ℕ) (f d k i : ℕ) (c : getD codes i noCode ≡ openCode) where
   open-within : i < length codes
   open-within = code-within codes i (omega arith)
 
@@ -192,7 +185,7 @@ module _ (codes : List ℕ) (f d k i : ℕ) (c : getD codes i 6 ≡ 4) where
   operand-deep i′ k′ Q z toks x y j e r = absurd (is-part toks x y j e r .0 z)
 
   module _ (i′ k′ : ℕ) (P : Tree → Type 0) (inner : (g : ℕ) → Reads (question fromLeft g (d - 1) k) codes (i + 1) i′ k′ P) where
-    pub operand-part : (Q : Tree → Type 0) → getD codes i′ 6 ≡ 5 → ((t : Tree) → P t → Q (part t)) →
+    pub operand-part : (Q : Tree → Type 0) → getD codes i′ noCode ≡ closeCode → ((t : Tree) → P t → Q (part t)) →
         Reads (operand fromLeft f d k) codes i (i′ + 1) k′ Q
     operand-part Q a q toks x z j e r =
         let l = code-within codes i′ (omega arith) in
@@ -205,7 +198,7 @@ module _ (codes : List ℕ) (f d k i : ℕ) (c : getD codes i 6 ≡ 4) where
         let y : part (b .got) ≡ x = cc in
         ((cc), v .1 ∙ (cc), omega (arith, v .2), omega arith, rw y at (q (b .got) (v .4)))
 
-    pub operand-unclosed : (i″ k″ : ℕ) (Q : Tree → Type 0) → (getD codes i′ 6 ≡ 5 → ⊥) → Reads (operand fromLeft f d k) codes i i″ k″ Q
+    pub operand-unclosed : (i″ k″ : ℕ) (Q : Tree → Type 0) → (getD codes i′ noCode ≡ closeCode → ⊥) → Reads (operand fromLeft f d k) codes i i″ k″ Q
     operand-unclosed i″ k″ Q a toks x z j e r =
         let w = is-part toks x z j e r .1 in
         let b = bind-first (question fromLeft (w .0) (d - 1) k (drop (i + 1) toks)) closed x z j (w .1) in
@@ -290,7 +283,7 @@ unfolding treeWords
 pair-count k₀ k k′ o a b x y = omega (arith, length-append (treeWords a) (treeWords b))
 
 -- the operator o stands at i, and its operand reads up to i′
-pub level-step : (codes : List ℕ) (d k₀ i₀ i k i′ k′ : ℕ) (Q R S : Tree → Type 0) (o : Op) → getD codes i 6 ≡ opCode o →
+pub level-step : (codes : List ℕ) (d k₀ i₀ i k i′ k′ : ℕ) (Q R S : Tree → Type 0) (o : Op) → getD codes i noCode ≡ opCode o →
     Level codes d k₀ i₀ i k Q → ((f : ℕ) → Reads (operand fromLeft f d k) codes (i + 1) i′ k′ R) →
     ((a b : Tree) → k ≡ k₀ + length (treeWords a) → Q a → R b → S (pair o a b)) → Level codes d k₀ i₀ i′ k′ S
 level-step codes d k₀ i₀ i k i′ k′ Q R S o c l g q f toks t rest j e r =
@@ -328,7 +321,7 @@ level-ends toks d k₀ i k Q t rest j h y = go (y .fuel) (y .left) (y .reads-lef
         let s : t ≡ y .sofar = g ∙ ap (fromLeft (y .sofar)) n ∙ from-left-none (y .sofar) in
         ((cc), (cc), rw s (y .holds))
 
-pub level-end : (codes : List ℕ) (d k₀ i₀ i k : ℕ) (Q : Tree → Type 0) → Level codes d k₀ i₀ i k Q → ((o : Op) → getD codes i 6 ≡ opCode o → ⊥) →
+pub level-end : (codes : List ℕ) (d k₀ i₀ i k : ℕ) (Q : Tree → Type 0) → Level codes d k₀ i₀ i k Q → ((o : Op) → getD codes i noCode ≡ opCode o → ⊥) →
     (f : ℕ) → Reads (question fromLeft f d k₀) codes i₀ i k Q
 level-end codes d k₀ i₀ i k Q l a f toks t rest j e r =
     let w = l f toks t rest j e r in

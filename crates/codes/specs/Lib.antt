@@ -1,3 +1,2 @@
 pub mod Code
-pub mod Coded
 pub mod Reads

@@ -1,4 +1,4 @@
 // A question's tokens as codes, one byte a token: its evaluation needs no word's bytes, only which word it is.
 
+pub mod code;
 pub mod read;
-pub mod write;

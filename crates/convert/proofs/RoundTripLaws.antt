@@ -8,13 +8,14 @@ use lib.Dec.{leb}
 use lib.ListN.{length, take, drop}
 use lib.Seq.{take-append-seam}
 use borrow.Author.Tests.{le-leb}
+use Rattle.limits.specs.Limits.{recordMax}
 use Rattle.refusal.specs.declared.Found.{Found}
 use Rattle.refusal.specs.declared.Found.the-variants.{At, Nowhere}
 use Rattle.refusal.specs.declared.Refusal.{Refusal}
 use Rattle.refusal.specs.declared.Refusal.the-variants.{Number, Interval, Room}
 use Rattle.list.specs.declared.Written.{Written}
 use Rattle.list.specs.declared.Written.the-variants.{Wrote, Refused}
-use Rattle.list.specs.Interval.{top, names, intervals, records}
+use Rattle.list.specs.Interval.{names, intervals, records}
 use Rattle.list.specs.Among.{among}
 use Rattle.convert.specs.Convert.{badNumberOf, badIntervalOf, intervalsOf, numbersOf, answerOf, ToIntervals, ToNumbers}
 use Rattle.list.proofs.StretchLaws.{cells-proper, cells-names, cells-even, is-cells}
@@ -26,16 +27,16 @@ use Rattle.convert.proofs.IntervalLaws.{good-proper, proper-good}
 
 -- the intervals of any numbers are a proper list, and the numbers of any cells ascend
 pub intervals-good : (xs : List ℕ) → badIntervalOf (intervalsOf xs) ≡ Nowhere
-intervals-good xs = proper-good (intervalsOf xs) (cells-proper (among xs) top top (omega arith))
+intervals-good xs = proper-good (intervalsOf xs) (cells-proper (among xs) recordMax recordMax (omega arith))
 
 pub numbers-good : (c : List ℕ) → badNumberOf (numbersOf c) ≡ Nowhere
-numbers-good c = ascends-good top (numbersOf c) (records-ascend (names c) top)
+numbers-good c = ascends-good recordMax (numbersOf c) (records-ascend (names c) recordMax)
 
 pub numbers-back : (xs : List ℕ) → badNumberOf xs ≡ Nowhere → numbersOf (intervalsOf xs) ≡ xs
-numbers-back xs e = sym (is-records (names (intervalsOf xs)) top xs (good-ascends top xs e) (λ x h g. sym (cells-names (among xs) top x h g)))
+numbers-back xs e = sym (is-records (names (intervalsOf xs)) recordMax xs (good-ascends recordMax xs e) (λ x h g. sym (cells-names (among xs) recordMax x h g)))
 
 pub intervals-back : (c : List ℕ) → badIntervalOf c ≡ Nowhere → intervalsOf (numbersOf c) ≡ c
-intervals-back c e = sym (is-cells (among (numbersOf c)) top c (good-proper c e) (λ x h g. sym (records-among (names c) top x h g)))
+intervals-back c e = sym (is-cells (among (numbersOf c)) recordMax c (good-proper c e) (λ x h g. sym (records-among (names c) recordMax x h g)))
 
 -- ---- of the calls' promises
 
@@ -57,14 +58,14 @@ answer-accepted refusal Nowhere needed room n h = room-step (leb needed room) ne
 pub intervals-written : (xs out out′ : List ℕ) (n : ℕ) → ToIntervals xs out out′ (Wrote n) → take (2 * n) out′ ≡ intervalsOf xs
 intervals-written xs out out′ n p =
     let w = answer-accepted Number (badNumberOf xs) (intervals (intervalsOf xs)) (length out / 2) n (sym (p .answer)) in
-    let k : 2 * n ≡ length (intervalsOf xs) = ap (λ (m : ℕ). 2 * m) (w .wrote) ∙ cells-even (among xs) top in
+    let k : 2 * n ≡ length (intervalsOf xs) = ap (λ (m : ℕ). 2 * m) (w .wrote) ∙ cells-even (among xs) recordMax in
     let e : out′ ≡ intervalsOf xs ++ drop (length (intervalsOf xs)) out = p .cells ∙ rw (w .good, w .fits) in
     rw (e, k) (take-append-seam (intervalsOf xs) (drop (length (intervalsOf xs)) out))
 
 pub numbers-written : (c out out′ : List ℕ) (n : ℕ) → ToNumbers c out out′ (Wrote n) → take n out′ ≡ numbersOf c
 numbers-written c out out′ n p =
     let w = answer-accepted Interval (badIntervalOf c) (records c) (length out) n (sym (p .answer)) in
-    let k : n ≡ length (numbersOf c) = w .wrote ∙ proper-count top c (good-proper c (w .good)) in
+    let k : n ≡ length (numbersOf c) = w .wrote ∙ proper-count recordMax c (good-proper c (w .good)) in
     let e : out′ ≡ numbersOf c ++ drop (length (numbersOf c)) out = p .cells ∙ rw (w .good, w .fits) in
     rw (e, k) (take-append-seam (numbersOf c) (drop (length (numbersOf c)) out))
 
@@ -75,7 +76,7 @@ pub to-numbers-back : (xs out out′ room room′ : List ℕ) (n : ℕ) (s : Wri
 to-numbers-back xs out out′ room room′ n s p q h =
     let w = answer-accepted Number (badNumberOf xs) (intervals (intervalsOf xs)) (length out / 2) n (sym (p .answer)) in
     let e = numbers-back xs (w .good) in
-    let k : records (intervalsOf xs) ≡ length xs = proper-count top (intervalsOf xs) (cells-proper (among xs) top top (omega arith)) ∙ ap length e in
+    let k : records (intervalsOf xs) ≡ length xs = proper-count recordMax (intervalsOf xs) (cells-proper (among xs) recordMax recordMax (omega arith)) ∙ ap length e in
     let f : leb (length xs) (length room) ≡ true = le-leb (length xs) (length room) h in
     let v : ToNumbers (intervalsOf xs) room room′ s = rw (← intervals-written xs out out′ n p) q in
     (v .answer ∙ rw (intervals-good xs, k, f), v .cells ∙ rw (intervals-good xs, k, f, e))

@@ -9,9 +9,10 @@ use lib.ListN.{length, getD, drop}
 use borrow.Author.Tests.{eqb-true, eqb-false, le-leb, lt-leb, eq-eqb, ne-eqb}
 use Rattle.laws.proofs.Tests.{leb-cases, leb-both}
 use Rattle.laws.proofs.Lists.{drop-next, drop-none}
+use Rattle.limits.specs.Limits.{recordMax}
 use Rattle.refusal.specs.declared.Found.the-variants.{Nowhere}
 use Rattle.refusal.specs.First.{first}
-use Rattle.list.specs.Interval.{top, isProper, names, intervals}
+use Rattle.list.specs.Interval.{isProper, names, intervals}
 use Rattle.list.specs.Stretches.{cellsOf}
 use Rattle.list.specs.Among.{among}
 use Rattle.convert.specs.Convert.{badNumber, badNumberOf, intervalsOf}
@@ -21,12 +22,12 @@ use Rattle.list.proofs.RecordLaws.{Ascends}
 use Rattle.convert.proofs.NumberLaws.{good-ascends, ascends-good, good-rest}
 
 -- the cells l, u in front of r, unless the stretch goes on
-abbrev closed : Bool → ℕ → ℕ → List ℕ → List ℕ
+abbrev pub closed : Bool → ℕ → ℕ → List ℕ → List ℕ
 closed true l u r = r
 closed false l u r = l ∷ u ∷ r
 
 -- where the stretch starts that x belongs to: at l if it goes on, else at x
-abbrev startOf : Bool → ℕ → ℕ → ℕ
+abbrev pub startOf : Bool → ℕ → ℕ → ℕ
 startOf true l x = l
 startOf false l x = x
 
@@ -160,12 +161,12 @@ pub runs-cells : (n : ℕ) (xs : List ℕ) → first (badNumber n xs) (length xs
 runs-cells n xs e = is-cells (among xs) n (runs xs) (runs-proper n xs (good-ascends n xs e)) (λ x h g. runs-names xs x)
 
 pub rest-cells : (xs : List ℕ) → badNumberOf xs ≡ Nowhere → (i : ℕ) → i ≤ length xs → runs (drop i xs) ≡ intervalsOf (drop i xs)
-rest-cells xs e i h = runs-cells top (drop i xs) (good-rest top xs e i h)
+rest-cells xs e i h = runs-cells recordMax (drop i xs) (good-rest recordMax xs e i h)
 
 -- behind the last number stands no interval
 pub intervals-none : (xs : List ℕ) (i : ℕ) → length xs ≤ i → intervalsOf (drop i xs) ≡ []
 intervals-none xs i h =
-    ap (λ (ys : List ℕ). intervalsOf ys) (drop-none xs i h) ∙ sym (runs-cells top [] (ascends-good top [] tt)) ∙ runs-none [] refl
+    ap (λ (ys : List ℕ). intervalsOf ys) (drop-none xs i h) ∙ sym (runs-cells recordMax [] (ascends-good recordMax [] tt)) ∙ runs-none [] refl
 
 -- a stretch that ends before place `next`, said of the intervals
 pub run-ended : (xs : List ℕ) (i l u next : ℕ) → badNumberOf xs ≡ Nowhere → i ≤ length xs → next ≤ length xs → runs (drop i xs) ≡ runsFrom l u (drop next xs) →

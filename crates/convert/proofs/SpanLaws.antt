@@ -15,6 +15,7 @@ use Rattle.list.specs.Stretches.{consIf, recordsFrom, recordsOf}
 use Rattle.list.proofs.ProperLaws.{ProperFrom, proper-facts}
 use Rattle.list.proofs.NamesLaws.{names-in, names-past, names-below}
 use Rattle.list.proofs.RecordLaws.{proper-count, records-length}
+use Rattle.convert.proofs.IntervalLaws.{Next}
 
 -- k numbers from x on
 abbrev pub countUp : ℕ → ℕ → List ℕ
@@ -50,17 +51,17 @@ range-end x e h = let s : e - x ≡ 0 = omega arith in rw s
 
 -- ---- the intervals of a slice
 
-pub spans-at : (c : List ℕ) (i : ℕ) → i + 1 < length c → spans (drop i c) ≡ countUp (getD c i 0) (getD c (i + 1) 0 + 1 - getD c i 0) ++ spans (drop (i + 2) c)
+pub spans-at : {n k i : ℕ} {c : List ℕ} → Next n k i c → spans (drop i c) ≡ countUp (getD c i 0) (getD c (i + 1) 0 + 1 - getD c i 0) ++ spans (drop (i + 2) c)
 unfolding spans
-spans-at c i h = rw (drop-two c i h)
+spans-at {i = i} {c} w = rw (drop-two c i (w .whole))
 
 pub spans-end : (c : List ℕ) (i : ℕ) → length c ≤ i → spans (drop i c) ≡ []
 unfolding spans
 spans-end c i h = rw (drop-none c i h)
 
-pub records-at : (c : List ℕ) (i : ℕ) → i + 1 < length c → records (drop i c) ≡ getD c (i + 1) 0 + 1 - getD c i 0 + records (drop (i + 2) c)
+pub records-at : {n k i : ℕ} {c : List ℕ} → Next n k i c → records (drop i c) ≡ getD c (i + 1) 0 + 1 - getD c i 0 + records (drop (i + 2) c)
 unfolding records
-records-at c i h = rw (drop-two c i h)
+records-at {i = i} {c} w = rw (drop-two c i (w .whole))
 
 pub records-end : (c : List ℕ) (i : ℕ) → length c ≤ i → records (drop i c) ≡ 0
 unfolding records

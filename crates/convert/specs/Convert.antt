@@ -5,6 +5,7 @@ use mathlib.Core.Bool.{Bool, cond, _||_}
 use mathlib.Core.List.{List, _++_}
 use lib.Dec.{leb, ltb}
 use lib.ListN.{length, getD, drop}
+use Rattle.limits.specs.Limits.{recordMax}
 use Rattle.refusal.specs.declared.Found.{Found}
 use Rattle.refusal.specs.declared.Found.the-variants.{At, Nowhere}
 use Rattle.refusal.specs.declared.Refusal.{Refusal}
@@ -12,7 +13,7 @@ use Rattle.refusal.specs.declared.Refusal.the-variants.{Number, Interval, Room}
 use Rattle.refusal.specs.First.{first}
 use Rattle.list.specs.declared.Written.{Written}
 use Rattle.list.specs.declared.Written.the-variants.{Wrote, Refused}
-use Rattle.list.specs.Interval.{top, names, intervals, records}
+use Rattle.list.specs.Interval.{names, intervals, records}
 use Rattle.list.specs.Among.{among}
 use Rattle.list.specs.Stretches.{cellsOf, recordsOf}
 
@@ -36,7 +37,7 @@ badInterval c i =
     leb (length c) (2 * i + 1)
     || ltb (getD c (2 * i) 0) (leastLower c i)
     || ltb (getD c (2 * i + 1) 0) (getD c (2 * i) 0)
-    || ltb top (getD c (2 * i + 1) 0)
+    || ltb recordMax (getD c (2 * i + 1) 0)
 
 -- Reference 9.2: a fault first, then 12 with what is needed; else that much is written
 abbrev pub answerOf : (ℕ → Refusal) → Found → ℕ → ℕ → Written
@@ -50,11 +51,11 @@ leftOf Nowhere needed room written out = cond (leb needed room) (written ++ drop
 
 -- Reference 9.2: 15, with the limit of all record numbers
 abbrev pub badNumberOf : List ℕ → Found
-badNumberOf xs = first (badNumber top xs) (length xs)
+badNumberOf xs = first (badNumber recordMax xs) (length xs)
 
 -- Reference 8.7: the list to write
 abbrev pub intervalsOf : List ℕ → List ℕ
-intervalsOf xs = cellsOf (among xs) top
+intervalsOf xs = cellsOf (among xs) recordMax
 
 -- Reference 8.7: the room is half of the cells
 pub record ToIntervals (xs out out′ : List ℕ) (r : Written) : Type 0 where
@@ -67,7 +68,7 @@ badIntervalOf c = first (badInterval c) ((length c + 1) / 2)
 
 -- Reference 8.8: the numbers to write
 abbrev pub numbersOf : List ℕ → List ℕ
-numbersOf c = recordsOf (names c) top
+numbersOf c = recordsOf (names c) recordMax
 
 -- Reference 8.8: the room is all of the cells
 pub record ToNumbers (c out out′ : List ℕ) (r : Written) : Type 0 where

@@ -1,2 +1,3 @@
 pub mod Convert
 pub mod Runs
+pub mod Front

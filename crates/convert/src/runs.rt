@@ -1,8 +1,11 @@
 // Runs of ascending numbers: what every writer of a list from numbers goes by.
 use refusal::Found;
 ghost use mathlib.Core.Path.{_≡_};
-ghost use Prim.Native.Nat.{_<_};
+ghost use mathlib.Core.Bool.{cond};
+ghost use Prim.Native.Nat.{_+_, _≤_, _<_};
+ghost use lib.Dec.{eqb};
 ghost use lib.ListN.{length};
+ghost use Rattle.limits.specs.Limits.{recordMax};
 ghost use Rattle.convert.specs.Convert.{badNumberOf};
 ghost use Rattle.convert.specs.Runs.{RunAt};
 
@@ -39,4 +42,13 @@ pub fn next_run(numbers: &[u32], i: usize) -> Run
         upper: upper,
         next: next,
     }
+}
+
+// 0 where x goes on with the stretch that ends with u, else 1.
+pub fn gap(u: u32, x: u32) -> usize
+    requires { ⌜ u ≤ recordMax ⌝ }
+    ensures is { λ r. ⌜ r ≡ cond (eqb x (u + 1)) 0 1 ⌝ }
+    ensures most { λ r. ⌜ r ≤ 1 ⌝ }
+{
+    if x == u + 1 { 0 } else { 1 }
 }

@@ -1,26 +1,17 @@
 // Numbers to intervals: a fault is looked for, then room is asked for, and only then is anything written.
 use crate::numbers::first_bad_number;
+use crate::runs::gap;
 use crate::runs::next_run;
-use list::TOP;
+use limits::RECORD_MAX;
 use list::Written;
 use refusal::Found;
 use refusal::Refusal;
 ghost use mathlib.Core.Path.{_≡_};
-ghost use mathlib.Core.Bool.{cond};
-ghost use mathlib.Core.List.{_++_};
-ghost use Prim.Native.Nat.{_+_, _≤_, _<_};
-ghost use lib.Dec.{eqb};
-ghost use lib.ListN.{length, drop};
-ghost use Rattle.list.specs.Interval.{top, intervals};
+ghost use Prim.Native.Nat.{_≤_};
+ghost use lib.ListN.{length};
+ghost use Rattle.list.specs.Interval.{intervals};
 ghost use Rattle.convert.specs.Convert.{badNumberOf, intervalsOf, ToIntervals};
-
-// 0 where x goes on with the stretch that ends with u, else 1.
-fn gap(u: u32, x: u32) -> usize
-    requires { ⌜ u ≤ top ⌝ }
-    ensures { λ r. ⌜ (r ≡ cond (eqb x (u + 1)) 0 1) × (r ≤ 1) ⌝ }
-{
-    if x == u + 1 { 0 } else { 1 }
-}
+ghost use Rattle.convert.specs.Front.{inFront};
 
 // How many intervals the numbers listed make.
 fn count_intervals(listed: &[u32]) -> usize
@@ -46,7 +37,7 @@ fn count_intervals(listed: &[u32]) -> usize
 fn write_intervals(numbers: &[u32], out: &mut [u32])
     requires good { ⌜ badNumberOf (now numbers) ≡ Found.Nowhere ⌝ }
     requires room { ⌜ length (intervalsOf (now numbers)) ≤ length (now out) ⌝ }
-    ensures { λ _. ⌜ now (out .exit) ≡ intervalsOf (now (numbers .entry)) ++ drop (length (intervalsOf (now (numbers .entry)))) (now (out .entry)) ⌝ }
+    ensures { λ _. ⌜ now (out .exit) ≡ inFront (intervalsOf (now (numbers .entry))) (now (out .entry)) ⌝ }
 {
     let mut k = 0;
     let mut i = 0;
@@ -63,7 +54,7 @@ fn write_intervals(numbers: &[u32], out: &mut [u32])
 pub fn to_intervals(numbers: &[u32], out: &mut [u32]) -> Written
     ensures { λ r. ⌜ ToIntervals (now (numbers .entry)) (now (out .entry)) (now (out .exit)) r ⌝ }
 {
-    let bad = first_bad_number(numbers, TOP);
+    let bad = first_bad_number(numbers, RECORD_MAX);
     if let Found::At(i) = bad {
         return Written::Refused(Refusal::Number(i));
     }

@@ -1,17 +1,17 @@
 // Intervals to numbers: a fault is looked for, then room is asked for, and only then is anything written.
-use list::TOP;
+use limits::RECORD_MAX;
 use list::Written;
 use refusal::Found;
 use refusal::Refusal;
 ghost use mathlib.Core.Path.{_≡_};
 ghost use mathlib.Core.Bool.{true};
-ghost use mathlib.Core.List.{_++_};
 ghost use Prim.Native.Nat.{ℕ, _+_, _-_, _≤_, _<_};
-ghost use lib.ListN.{length, drop};
+ghost use lib.ListN.{length};
 ghost use lib.Seq.{sets};
 ghost use Rattle.list.specs.Interval.{records};
 ghost use Rattle.list.specs.Stretches.{recordsFrom};
 ghost use Rattle.convert.specs.Convert.{badIntervalOf, numbersOf, ToNumbers};
+ghost use Rattle.convert.specs.Front.{inFront};
 
 // Reference 9.1, row 16: the first bad interval.
 fn first_bad_interval(cells: &[u32]) -> Found
@@ -29,7 +29,7 @@ fn first_bad_interval(cells: &[u32]) -> Found
         if u < l {
             return Found::At(i);
         }
-        if TOP < u {
+        if RECORD_MAX < u {
             return Found::At(i);
         }
         least = u + 2;
@@ -57,7 +57,8 @@ fn count_numbers(cells: &[u32]) -> usize
 
 // Writes the numbers from l to below end from cell k on.
 fn write_range(out: &mut [u32], k: usize, l: u32, end: u32)
-    requires { ⌜ (l ≤ end) × (k + (end - l) ≤ length (now out)) ⌝ }
+    requires forward { ⌜ l ≤ end ⌝ }
+    requires room { ⌜ k + (end - l) ≤ length (now out) ⌝ }
     ensures { λ _. ⌜ now (out .exit) ≡ sets (now (out .entry)) k (recordsFrom (λ (y : ℕ). true) l (end - l)) ⌝ }
 {
     let mut x = l;
@@ -71,8 +72,9 @@ fn write_range(out: &mut [u32], k: usize, l: u32, end: u32)
 
 // Writes the numbers that the intervals name from cell 0; the cells behind them stay.
 fn write_numbers(cells: &[u32], out: &mut [u32])
-    requires { ⌜ (badIntervalOf (now cells) ≡ Found.Nowhere) × (records (now cells) ≤ length (now out)) ⌝ }
-    ensures { λ _. ⌜ now (out .exit) ≡ numbersOf (now (cells .entry)) ++ drop (length (numbersOf (now (cells .entry)))) (now (out .entry)) ⌝ }
+    requires good { ⌜ badIntervalOf (now cells) ≡ Found.Nowhere ⌝ }
+    requires room { ⌜ records (now cells) ≤ length (now out) ⌝ }
+    ensures { λ _. ⌜ now (out .exit) ≡ inFront (numbersOf (now (cells .entry))) (now (out .entry)) ⌝ }
 {
     let mut k: usize = 0;
     let mut i = 0;

@@ -6,27 +6,23 @@ use mathlib.Core.List.{List}
 use lib.Dec.{eqb, ltb}
 use borrow.Author.Tests.{ltb-true, ltb-false, lt-ltb, le-ltb}
 use Rattle.laws.proofs.Tests.{or-neither}
+use Rattle.limits.specs.Limits.{recordMax}
 use Rattle.refusal.specs.declared.Refusal.{Refusal}
-use Rattle.refusal.specs.declared.Refusal.the-variants.{EntryNumber, ProbeRange, Missing}
+use Rattle.refusal.specs.declared.Refusal.the-variants.{EntryNumber, ProbeRange, NoWord}
 use Rattle.refusal.specs.declared.Found.the-variants.{At, Nowhere}
 use Rattle.refusal.specs.First.{first}
 use Rattle.word.specs.Word.{same}
 use Rattle.list.specs.declared.probe.Probe.{Probe}
-use Rattle.list.specs.Interval.{top}
-use Rattle.list.specs.Cell.{numbersIn}
-use Rattle.list.specs.Reading.{KeptIn}
 use Rattle.list.specs.Ginix.{belowCount, overlapCount}
-use Rattle.list.proofs.KeptLaws.{kept-weaker}
 use Rattle.index.specs.declared.Checked.{Checked}
 use Rattle.index.specs.declared.Checked.the-variants.{Good, Refused}
-use Rattle.index.specs.Format.{wordCount, highest, wordStart, wordLength, wordOf, singlesOf, lowerOf, upperOf, listOf}
-use Rattle.index.specs.Sound.{Sound}
+use Rattle.index.specs.Format.{wordCount, wordStart, wordLength, wordOf, listOf}
 use Rattle.index.specs.Check.{checkOf}
 use Rattle.index.proofs.CheckLaws.{not-good, good-sound}
-use Rattle.index.proofs.SoundLaws.{sound-trailer, sound-list}
 use Rattle.directory.specs.declared.Lookup.the-variants.{Entry, NoEntry}
 use Rattle.directory.specs.declared.Probed.the-variants.{Counted, NoCount}
 use Rattle.directory.specs.Entry.{lookupOf, entryAfter, entryCheck, entryStart, entryLength, badRange, rangeAnswer, probeOf}
+use Rattle.directory.specs.Regions.{EntryIn}
 
 -- ---- a lookup
 
@@ -39,7 +35,7 @@ module _ (index word : List ℕ) where
   unfolding lookupOf
   lookup-found i e f = rw (e, f)
 
-  pub lookup-missing : checkOf index ≡ Good → first (λ j. same (wordOf index j) word) (wordCount index) ≡ Nowhere → lookupOf index word ≡ NoEntry Missing
+  pub lookup-missing : checkOf index ≡ Good → first (λ j. same (wordOf index j) word) (wordCount index) ≡ Nowhere → lookupOf index word ≡ NoEntry NoWord
   unfolding lookupOf
   lookup-missing e f = rw (e, f)
 
@@ -64,11 +60,11 @@ after-good Good true e = (refl, refl)
 after-good Good false e = not-good (EntryNumber 0) e
 
 -- an entry that is not refused is one of a sound index
-pub entry-good : (index : List ℕ) (i : ℕ) → entryCheck index i ≡ Good → Sound index × (i < wordCount index)
+pub entry-good : (index : List ℕ) (i : ℕ) → entryCheck index i ≡ Good → EntryIn index i
 unfolding entryCheck
 entry-good index i e =
     let w = after-good (checkOf index) (ltb i (wordCount index)) e in
-    (good-sound index (w .0), ltb-true i (wordCount index) (w .1))
+    record { sound = good-sound index (w .0); below = ltb-true i (wordCount index) (w .1) }
 
 module _ (index : List ℕ) (i : ℕ) where
   pub start-answered : entryCheck index i ≡ Good → entryStart index i ≡ wordStart index i
@@ -98,18 +94,12 @@ module _ (index : List ℕ) (i a b : ℕ) where
   unfolding probeOf
   probe-answered e = rw e
 
--- each list of a sound index is kept within the largest record
-pub list-kept : (index : List ℕ) → Sound index → (i : ℕ) → i < wordCount index → KeptIn top (singlesOf index i) (lowerOf index i) (upperOf index i)
-list-kept index s i h =
-    kept-weaker (highest index) top (numbersIn (singlesOf index i)) (numbersIn (lowerOf index i)) (numbersIn (upperOf index i))
-    (sound-trailer index s .highest-bound) (sound-list index s i h)
-
-pub range-good : (a b : ℕ) → badRange a b ≡ false → (a ≤ b) × (b ≤ top)
+pub range-good : (a b : ℕ) → badRange a b ≡ false → (a ≤ b) × (b ≤ recordMax)
 unfolding badRange
 range-good a b e =
-    let p = or-neither (eqb a 0 || ltb b a) (ltb top b) e in
+    let p = or-neither (eqb a 0 || ltb b a) (ltb recordMax b) e in
     let q = or-neither (eqb a 0) (ltb b a) (p .0) in
-    (ltb-false b a (q .1), ltb-false top b (p .1))
+    (ltb-false b a (q .1), ltb-false recordMax b (p .1))
 
 pub range-refused : (a b below overlapping : ℕ) → badRange a b ≡ true → NoCount ProbeRange ≡ rangeAnswer (badRange a b) below overlapping
 range-refused a b below overlapping e = rw e

@@ -1,3 +1,3 @@
 pub mod HasLaws
 pub mod AnswerLaws
-pub mod EntryIntervals
+pub mod EntryLaws

@@ -3,12 +3,12 @@ use Prim.Native.Nat.{ℕ}
 use mathlib.Core.Bool.{Bool, cond, _||_}
 use mathlib.Core.List.{List}
 use lib.Dec.{eqb, ltb}
+use Rattle.limits.specs.Limits.{recordMax}
 use Rattle.refusal.specs.declared.Found.{Found}
 use Rattle.refusal.specs.declared.Found.the-variants.{At, Nowhere}
-use Rattle.refusal.specs.declared.Refusal.the-variants.{EntryNumber, ProbeRange, Missing}
+use Rattle.refusal.specs.declared.Refusal.the-variants.{EntryNumber, ProbeRange, NoWord}
 use Rattle.refusal.specs.First.{first}
 use Rattle.word.specs.Word.{same}
-use Rattle.list.specs.Interval.{top}
 use Rattle.list.specs.Ginix.{belowCount, overlapCount}
 use Rattle.index.specs.declared.Checked.{Checked}
 use Rattle.index.specs.declared.Checked.the-variants.{Good, Refused}
@@ -23,7 +23,7 @@ use Rattle.directory.specs.declared.Probed.the-variants.{Counted, NoCoun
 -- Reference 8.2: the entry, or 21 behind the check
 abbrev pub foundAnswer : Found → Lookup
 foundAnswer (At i) = Entry i
-foundAnswer Nowhere = NoEntry Missing
+foundAnswer Nowhere = NoEntry NoWord
 
 abbrev pub lookupAfter : Checked → Found → Lookup
 lookupAfter (Refused r) found = NoEntry r
@@ -59,7 +59,7 @@ entryWord index i = partOf (entryStart (index .bytes) i) (entryLength (index .by
 
 -- Reference 9.1, row 20
 unfoldable pub badRange : ℕ → ℕ → Bool
-badRange a b = eqb a 0 || ltb b a || ltb top b
+badRange a b = eqb a 0 || ltb b a || ltb recordMax b
 
 abbrev pub rangeAnswer : Bool → ℕ → ℕ → Probed
 rangeAnswer bad below overlapping = cond bad (NoCount ProbeRange) (Counted (record { below = below; overlapping = overlapping }))

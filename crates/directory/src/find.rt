@@ -1,12 +1,12 @@
 // Looking a word up in the directory.
 ghost use mathlib.Core.Path.{_≡_};
-ghost use Prim.Native.Nat.{_<_};
 ghost use Rattle.refusal.specs.First.{first};
 ghost use Rattle.word.specs.Word.{same, before, orderOf};
 ghost use Rattle.index.specs.Format.{wordCount, wordOf};
 ghost use Rattle.index.specs.Sound.{Sound};
 ghost use Rattle.directory.specs.Has.{wordPlace};
 ghost use Rattle.directory.specs.Entry.{lookupOf};
+ghost use Rattle.directory.specs.Regions.{EntryIn};
 use crate::Lookup;
 use index::Checked;
 use index::trailer::word_count;
@@ -16,14 +16,14 @@ use word::Order;
 
 // How the word of entry i stands to a word.
 fn order_at(index: &[u8], i: usize, word: &[u8]) -> Order
-    requires { ⌜ Sound (now index) × (i < wordCount (now index)) ⌝ }
+    requires { ⌜ EntryIn (now index) i ⌝ }
     ensures { λ r. ⌜ r ≡ orderOf (wordOf (now (index .entry)) i) (now (word .entry)) ⌝ }
 {
     word::compare(crate::parts::word_of(index, i), word)
 }
 
 fn stands_before(index: &[u8], i: usize, word: &[u8]) -> bool
-    requires { ⌜ Sound (now index) × (i < wordCount (now index)) ⌝ }
+    requires { ⌜ EntryIn (now index) i ⌝ }
     ensures { λ r. ⌜ r ≡ before (wordOf (now (index .entry)) i) (now (word .entry)) ⌝ }
 {
     match order_at(index, i, word) {
@@ -75,7 +75,7 @@ pub fn look_up(index: &[u8], word: &[u8]) -> Lookup
         Checked::Refused(refusal) => Lookup::NoEntry(refusal),
         Checked::Good => match find_word(index, word) {
             Found::At(i) => Lookup::Entry(i),
-            Found::Nowhere => Lookup::NoEntry(Refusal::Missing),
+            Found::Nowhere => Lookup::NoEntry(Refusal::NoWord),
         },
     }
 }

@@ -1,16 +1,16 @@
 // Probing the list of one entry.
 ghost use mathlib.Core.Path.{_≡_};
-ghost use Prim.Native.Nat.{_≤_, _<_};
-ghost use Rattle.list.specs.Interval.{top};
+ghost use Prim.Native.Nat.{_≤_};
+ghost use Rattle.limits.specs.Limits.{recordMax};
 ghost use Rattle.list.specs.Ginix.{belowCount, overlapCount};
-ghost use Rattle.index.specs.Format.{wordCount, listOf};
-ghost use Rattle.index.specs.Sound.{Sound};
+ghost use Rattle.index.specs.Format.{listOf};
 ghost use Rattle.directory.specs.Entry.{badRange, rangeAnswer, probeOf};
+ghost use Rattle.directory.specs.Regions.{EntryIn};
 use crate::Probed;
-use crate::parts::lower_of;
-use crate::parts::singles_of;
-use crate::parts::upper_of;
+use crate::parts::Regions;
+use crate::parts::regions_of;
 use index::Checked;
+use limits::RECORD_MAX;
 use list::probe::Probe;
 use list::probe::probe_list;
 use refusal::Refusal;
@@ -19,26 +19,24 @@ use refusal::Refusal;
 fn bad_range(a: u32, b: u32) -> bool
     ensures { λ r. ⌜ r ≡ badRange a b ⌝ }
 {
-    (a == 0) | (b < a) | (16777215 < b)
+    (a == 0) | (b < a) | (RECORD_MAX < b)
 }
 
 // Probes an entry's list by its regions, which are slices of the index.
 fn probe_parts(index: &[u8], i: usize, a: u32, b: u32) -> Probe
-    requires { ⌜ Sound (now index) × (i < wordCount (now index)) × (a ≤ b) × (b ≤ top) ⌝ }
-    ensures { λ r. ⌜ (r .below ≡ belowCount a (listOf (now (index .entry)) i)) × (r .overlapping ≡ overlapCount a b (listOf (now (index .entry)) i)) ⌝ }
+    requires entry { ⌜ EntryIn (now index) i ⌝ }
+    requires ordered { ⌜ a ≤ b ⌝ }
+    requires within { ⌜ b ≤ recordMax ⌝ }
+    ensures below { λ r. ⌜ r .below ≡ belowCount a (listOf (now (index .entry)) i) ⌝ }
+    ensures overlapping { λ r. ⌜ r .overlapping ≡ overlapCount a b (listOf (now (index .entry)) i) ⌝ }
 {
-    probe_list(
-        singles_of(index, i),
-        lower_of(index, i),
-        upper_of(index, i),
-        a,
-        b,
-    )
+    let Regions { s, l, u, end } = regions_of(index, i);
+    probe_list(&index[s..l], &index[l..u], &index[u..end], a, b)
 }
 
 // The probe of an entry that a sound index has.
 fn probe_sound(index: &[u8], i: usize, a: u32, b: u32) -> Probed
-    requires { ⌜ Sound (now index) × (i < wordCount (now index)) ⌝ }
+    requires { ⌜ EntryIn (now index) i ⌝ }
     ensures { λ r. ⌜ r ≡ rangeAnswer (badRange a b) (belowCount a (listOf (now (index .entry)) i)) (overlapCount a b (listOf (now (index .entry)) i)) ⌝ }
 {
     if bad_range(a, b) {

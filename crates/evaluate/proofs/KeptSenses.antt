@@ -1,24 +1,20 @@
 -- Laws of kept senses: none says anything at first, what is said at x is said at each later record, and one slot is renewed.
-use Prim.Native.Nat.{ℕ, zero, suc, _+_, _/_, _≤_, _<_}
+use Prim.Native.Nat.{ℕ, _+_, _/_, _≤_, _<_}
 use native.Mathlib.Decide.{ℕ-discrete}
 use native.Mathlib.Omega.{arith}
-use mathlib.Core.Path.{_≡_, refl, sym, ap, _∙_, subst}
+use mathlib.Core.Path.{_≡_, sym, ap, _∙_, subst}
 use mathlib.Core.Bool.{Bool}
 use mathlib.Core.List.{List}
 use lib.ListN.{length, getD, set, replicate, length-set}
 use lib.Seq.{getD-set-same, getD-set-other}
 use Rattle.laws.proofs.Tests.{leb-cases}
-use Rattle.list.specs.Interval.{top}
+use Rattle.limits.specs.Limits.{recordMax}
 use Rattle.list.specs.Sense.{Steady}
+use Rattle.window.proofs.HoldLaws.{zeros-at}
 use Rattle.evaluate.specs.Senses.{inIt, untilOf, Sensed, Known, Renewed}
 
-none : (n k : ℕ) → _≡_ {A = ℕ} (getD (replicate n 0) k 0) 0
-none zero k = refl
-none (suc n) zero = refl
-none (suc n) (suc k) = none n k
-
 pub sensed-none : (v : ℕ → ℕ → Bool) (n x : ℕ) → Sensed v (replicate n 0) x
-sensed-none v n x = record { near = λ k. omega (arith, none n k); same = λ k y h l. absurd (omega (arith, none n k)) }
+sensed-none v n x = record { near = λ k. omega (arith, zeros-at n k); same = λ k y h l. absurd (omega (arith, zeros-at n k)) }
 
 module _ (v : ℕ → ℕ → Bool) (senses : List ℕ) (x : ℕ) (s : Sensed v senses x) where
   pub sensed-later : (y : ℕ) → x ≤ y → Sensed v senses y
@@ -49,7 +45,7 @@ module _ (v : ℕ → ℕ → Bool) (senses : List ℕ) (x k : ℕ) (s : Sensed 
   renewed-set h e f = record {
     long = length-set senses k n;
     sensed = record {
-      near = λ j. set-cases (λ m. m / 2 ≤ top + 1) senses k n j h (λ _. omega (arith, t .near)) (s .near j);
+      near = λ j. set-cases (λ m. m / 2 ≤ recordMax + 1) senses k n j h (λ _. omega (arith, t .near)) (s .near j);
       same = λ j y g. set-cases (λ m. y < m / 2 → v j y ≡ inIt m) senses k n j h
           (λ i l. ap (λ (j : ℕ). v j y) i ∙ t .same y g (omega arith) ∙ sym f) (s .same j y g);
     };

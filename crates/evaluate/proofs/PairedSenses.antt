@@ -5,18 +5,21 @@ use mathlib.Core.Path.{_≡_, refl, sym, ap, _∙_}
 use mathlib.Core.Bool.{Bool, true, false, not, _&&_, _||_, and-false}
 use mathlib.Core.List.{List}
 use lib.ListN.{length, getD, length-append}
-use Rattle.list.specs.Interval.{top, names}
-use Rattle.list.specs.Reading.{listIn}
+use Rattle.limits.specs.Limits.{recordMax}
+use Rattle.list.specs.Interval.{names}
 use Rattle.list.specs.Sense.{Steady}
-use Rattle.index.specs.Format.{wordCount, singlesOf, lowerOf, upperOf}
+use Rattle.index.specs.Format.{wordCount, listOf}
 use Rattle.question.specs.declared.token.Op.{Op}
 use Rattle.question.specs.declared.token.Op.the-variants.{And, Or, Not}
-use Rattle.question.specs.Grammar.{Tree, word, pair, part, treeWords}
+use Rattle.question.specs.Token.{Tok}
+use Rattle.question.specs.Grammar.{Tree, Out, word, pair, part, treeWords}
 use Rattle.question.specs.Meaning.{combine}
-use Rattle.codes.specs.Code.{opCode}
-use Rattle.slots.specs.Slots.{slotHas, slotFits}
+use Rattle.codes.specs.Code.{andCode, orCode, opCode}
+use Rattle.codes.specs.Reads.{Reads}
+use Rattle.slots.specs.Slots.{slotHas, slotSatisfies}
 use Rattle.evaluate.specs.Senses.{untilOf, insideOf}
-use Rattle.evaluate.specs.Look.{Tells}
+use Rattle.evaluate.specs.declared.look.Look.{Look}
+use Rattle.evaluate.specs.Look.{Tells, Looks}
 use Rattle.slots.proofs.SlotLaws.{slot-lists, slot-lacks, slot-word, slot-part, slot-pair}
 
 -- ---- of equal tests, and of the opposite
@@ -24,12 +27,12 @@ use Rattle.slots.proofs.SlotLaws.{slot-lists, slot-lacks, slot-word, slot-part,
 pub steady-same : (p q : ℕ → Bool) (x : ℕ) (a : Bool) (u : ℕ) → ((y : ℕ) → p y ≡ q y) → Steady p x a u → Steady q x a u
 steady-same p q x a u e s = record { later = s .later; near = s .near; same = λ y h l. sym (e y) ∙ s .same y h l }
 
-pub steady-not : (p : ℕ → Bool) (x : ℕ) (a : Bool) (u : ℕ) → Steady p x a u → Steady (λ y. not (p y)) x (not a) u
-steady-not p x a u s = record { later = s .later; near = s .near; same = λ y h l. ap not (s .same y h l) }
+pub steady-not : {p : ℕ → Bool} {x : ℕ} {a : Bool} {u : ℕ} → Steady p x a u → Steady (λ y. not (p y)) x (not a) u
+steady-not s = record { later = s .later; near = s .near; same = λ y h l. ap not (s .same y h l) }
 
 -- ---- of two tests that both hold
 
-module _ (p q : ℕ → Bool) (x : ℕ) (a b : Bool) (u v : ℕ) (s : Steady p x a u) (t : Steady q x b v) where
+module _ {p q : ℕ → Bool} {x : ℕ} {a b : Bool} {u v : ℕ} (s : Steady p x a u) (t : Steady q x b v) where
   pub both-first-in : a ≡ true → b ≡ true → u ≤ v → Steady (λ y. p y && q y) x a u
   both-first-in e f h = record { later = s .later; near = s .near; same = λ y g l. rw (s .same y g l, t .same y g (omega arith), e, f) }
 
@@ -49,18 +52,18 @@ or-by-and true b = refl
 or-by-and false true = refl
 or-by-and false false = refl
 
-module _ (p q : ℕ → Bool) (x : ℕ) (a : Bool) (u : ℕ) where
-  pub paired-and : (o : Op) → 1 ≡ opCode o → Steady (λ y. p y && q y) x a u → Steady (λ y. combine o (p y) (q y)) x a u
+module _ (p q : ℕ → Bool) {x : ℕ} {a : Bool} {u : ℕ} where
+  pub paired-and : (o : Op) → andCode ≡ opCode o → Steady (λ y. p y && q y) x a u → Steady (λ y. combine o (p y) (q y)) x a u
   paired-and And e s = s
   paired-and Or e s = absurd (omega arith)
   paired-and Not e s = absurd (omega arith)
 
-  pub paired-or : (o : Op) → 2 ≡ opCode o → Steady (λ y. not (not (p y) && not (q y))) x a u → Steady (λ y. combine o (p y) (q y)) x a u
+  pub paired-or : (o : Op) → orCode ≡ opCode o → Steady (λ y. not (not (p y) && not (q y))) x a u → Steady (λ y. combine o (p y) (q y)) x a u
   paired-or And e s = absurd (omega arith)
   paired-or Or e s = steady-same (λ y. not (not (p y) && not (q y))) (λ y. p y || q y) x a u (λ y. or-by-and (p y) (q y)) s
   paired-or Not e s = absurd (omega arith)
 
-  pub paired-not : (c : ℕ) (o : Op) → c ≡ opCode o → (c ≡ 1 → ⊥) → (c ≡ 2 → ⊥) → Steady (λ y. p y && not (q y)) x a u → Steady (λ y. combine o (p y) (q y)) x a u
+  pub paired-not : (c : ℕ) (o : Op) → c ≡ opCode o → (c ≡ andCode → ⊥) → (c ≡ orCode → ⊥) → Steady (λ y. p y && not (q y)) x a u → Steady (λ y. combine o (p y) (q y)) x a u
   paired-not c And e f g s = absurd (f e)
   paired-not c Or e f g s = absurd (g e)
   paired-not c Not e f g s = s
@@ -68,42 +71,24 @@ module _ (p q : ℕ → Bool) (x : ℕ) (a : Bool) (u : ℕ) where
 -- ---- of a slot
 
 module _ (index entries : List ℕ) (k x : ℕ) where
-  pub slot-in : (a : Bool) (u : ℕ) → getD entries k 0 < wordCount index →
-      Steady (names (listIn (singlesOf index (getD entries k 0)) (lowerOf index (getD entries k 0)) (upperOf index (getD entries k 0)))) x a u →
+  pub slot-in : (a : Bool) (u : ℕ) → getD entries k 0 < wordCount index → Steady (names (listOf index (getD entries k 0))) x a u →
       Steady (slotHas index entries k) x a u
   slot-in a u h s =
-      let i = getD entries k 0 in
-      steady-same (names (listIn (singlesOf index i) (lowerOf index i) (upperOf index i))) (slotHas index entries k) x a u
-      (λ y. sym (slot-lists index entries k h y)) s
+      steady-same (names (listOf index (getD entries k 0))) (slotHas index entries k) x a u (λ y. sym (slot-lists index entries k h y)) s
 
-  pub slot-out : wordCount index ≤ getD entries k 0 → x ≤ top → Steady (slotHas index entries k) x false (top + 1)
+  pub slot-out : wordCount index ≤ getD entries k 0 → x ≤ recordMax → Steady (slotHas index entries k) x false (recordMax + 1)
   slot-out h l = record { later = omega arith; near = omega arith; same = λ y g m. slot-lacks index entries k h y }
-
--- ---- of a tree
-
-module _ (v : ℕ → ℕ → Bool) (k x : ℕ) (a : Bool) (u : ℕ) where
-  pub tree-word : (w : List ℕ) → Steady (v k) x a u → Steady (slotFits v (word w) k) x a u
-  tree-word w s = steady-same (v k) (slotFits v (word w) k) x a u (λ y. sym (slot-word v k y w)) s
-
-  pub tree-part : (t : Tree) → Steady (slotFits v t k) x a u → Steady (slotFits v (part t) k) x a u
-  tree-part t s = steady-same (slotFits v t k) (slotFits v (part t) k) x a u (λ y. sym (slot-part v k y t)) s
-
-  pub tree-pair : (o : Op) (left right : Tree) (j : ℕ) → j ≡ k + length (treeWords left) →
-      Steady (λ y. combine o (slotFits v left k y) (slotFits v right j y)) x a u → Steady (slotFits v (pair o left right) k) x a u
-  tree-pair o left right j e s =
-      steady-same (λ y. combine o (slotFits v left k y) (slotFits v right j y)) (slotFits v (pair o left right) k) x a u
-      (λ y. sym (slot-pair v k y o left right j e)) s
 
 -- ---- of a tree, by the kept senses of its slots
 
 module _ (senses : List ℕ) (k : ℕ) (a : Bool) (u : ℕ) where
   pub tells-word : u ≡ untilOf senses k → a ≡ insideOf senses k → (w : List ℕ) → Tells senses k a u (word w)
   unfolding treeWords
-  tells-word e f w v slots x h known = tree-word v k x a u w (rw (e, f) (known k (omega arith)))
+  tells-word e f w v slots x h known = steady-same (v k) (slotSatisfies v (word w) k) x a u (λ y. sym (slot-word v k y w)) (rw (e, f) (known k (omega arith)))
 
   pub tells-part : (t : Tree) → Tells senses k a u t → Tells senses k a u (part t)
   unfolding treeWords
-  tells-part t s v slots x h known = tree-part v k x a u t (s v slots x h known)
+  tells-part t s v slots x h known = steady-same (slotSatisfies v t k) (slotSatisfies v (part t) k) x a u (λ y. sym (slot-part v k y t)) (s v slots x h known)
 
   pub tells-pair : (o : Op) (left right : Tree) (j : ℕ) → j ≡ k + length (treeWords left) → (b c : Bool) (m n : ℕ) →
       ((p q : ℕ → Bool) (x : ℕ) → Steady p x b m → Steady q x c n → Steady (λ y. combine o (p y) (q y)) x a u) →
@@ -111,5 +96,12 @@ module _ (senses : List ℕ) (k : ℕ) (a : Bool) (u : ℕ) where
   unfolding treeWords
   tells-pair o left right j e b c m n paired s t v slots x h known =
       let l = length-append (treeWords left) (treeWords right) in
-      tree-pair v k x a u o left right j e
-      (paired (slotFits v left k) (slotFits v right j) x (s v slots x (omega arith) known) (t v slots x (omega arith) known))
+      steady-same (λ y. combine o (slotSatisfies v left k y) (slotSatisfies v right j y)) (slotSatisfies v (pair o left right) k) x a u (λ y. sym (slot-pair v k y o left right j e))
+      (paired (slotSatisfies v left k) (slotSatisfies v right j) x (s v slots x (omega arith) known) (t v slots x (omega arith) known))
+
+-- ---- of a look
+
+-- nothing could be read there
+pub looks-none : {reading : ℕ → List Tok → Out Tree} {codes : List ℕ} {i k : ℕ} {senses : List ℕ} {r : Look} → i ≤ length codes → r .code ≡ i →
+    ((f : ℕ) → Reads (reading f) codes i (r .code) (r .slot) (Tells senses k (r .inside) (r .until))) → Looks reading codes i k senses r
+looks-none h e reads = record { ahead = omega arith; inside = omega arith; reads = reads }

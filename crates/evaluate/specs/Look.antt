@@ -12,7 +12,7 @@ use Rattle.question.specs.Grammar.{Tree, Out, treeWords}
 use Rattle.question.specs.Meaning.{combine}
 use Rattle.evaluate.specs.declared.look.Look.{Look}
 use Rattle.codes.specs.Code.{opCode}
-use Rattle.slots.specs.Slots.{slotFits}
+use Rattle.slots.specs.Slots.{slotSatisfies}
 use Rattle.codes.specs.Reads.{Reads}
 use Rattle.evaluate.specs.Senses.{Known}
 
@@ -33,7 +33,7 @@ Paired code a b r = (o : Op) → code ≡ opCode o → (p q : ℕ → Bool) (x :
 -- what a sense says of a tree whose first word has slot k: it is the tree's at each x at which the senses of its slots are known
 abbrev pub Tells : List ℕ → ℕ → Bool → ℕ → Tree → Type 0
 Tells senses k inside until t =
-    (v : ℕ → ℕ → Bool) (slots x : ℕ) → k + length (treeWords t) ≤ slots → Known v senses slots x → Steady (slotFits v t k) x inside until
+    (v : ℕ → ℕ → Bool) (slots x : ℕ) → k + length (treeWords t) ≤ slots → Known v senses slots x → Steady (slotSatisfies v t k) x inside until
 
 -- what a look by the codes from i on comes to, where k words stand before: the sense of the tree that the codes read as
 pub record Looks (reading : ℕ → List Tok → Out Tree) (codes : List ℕ) (i k : ℕ) (senses : List ℕ) (r : Look) : Type 0 where

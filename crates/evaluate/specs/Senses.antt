@@ -5,7 +5,7 @@ use mathlib.Core.Bool.{Bool}
 use mathlib.Core.List.{List}
 use lib.Dec.{eqb}
 use lib.ListN.{length, getD}
-use Rattle.list.specs.Interval.{top}
+use Rattle.limits.specs.Limits.{recordMax}
 use Rattle.list.specs.Sense.{Steady}
 
 -- a sense is one number: twice the number until which it holds, and one more where it is in
@@ -20,7 +20,7 @@ insideOf senses k = inIt (getD senses k 0)
 
 -- from x on no sense says what is not so of v, which says what each slot has; one that ends before x says nothing
 pub record Sensed (v : ℕ → ℕ → Bool) (senses : List ℕ) (x : ℕ) : Type 0 where
-  pub near : (k : ℕ) → untilOf senses k ≤ top + 1
+  pub near : (k : ℕ) → untilOf senses k ≤ recordMax + 1
   pub same : (k y : ℕ) → x ≤ y → y < untilOf senses k → v k y ≡ insideOf senses k
 
 -- the senses of the first `slots` slots say what those have at x

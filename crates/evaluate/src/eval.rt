@@ -1,34 +1,18 @@
 // A question answered for a window, by its codes: a level evaluates its first operand into the window, and each further one into a window of
 // its own, which is then combined with it. The bracket depth left falls at each call.
-ghost use mathlib.Core.Path.{_≡_};
-ghost use lib.ListN.{length};
-ghost use Rattle.window.specs.Window.{Combined};
 ghost use Rattle.question.specs.Grammar.{fromLeft, question, operand};
-ghost use Rattle.question.specs.Meaning.{combine};
-ghost use Rattle.codes.specs.Code.{opOf};
 ghost use Rattle.evaluate.specs.Evaluated.{Ready, Evaluated};
+use crate::combine::combine_into;
+use codes::code::CLOSE_CODE;
+use codes::code::OPEN_CODE;
+use codes::code::WORD_CODE;
 use codes::read::code_at;
+use window::tuning::MOST;
 
 // The code behind what was evaluated, and the slot of the next word.
 pub struct Step {
     pub code: usize,
     pub slot: usize,
-}
-
-// Combines a window with the window of its right side, by the operator's code.
-fn combine_into(code: u8, ws: &mut [u64], other: &[u64])
-    requires { ⌜ length (now other) ≡ length (now ws) ⌝ }
-    ensures { λ _. ⌜ Combined (combine (opOf code)) (now (ws .entry)) (now (other .entry)) (now (ws .exit)) ⌝ }
-{
-    if code <= 1 {
-        window::combine::and_into(ws, other);
-        return;
-    }
-    if code == 2 {
-        window::combine::or_into(ws, other);
-        return;
-    }
-    window::combine::and_not_into(ws, other);
 }
 
 // Evaluates the level whose codes begin at i, where k words stand before it and d brackets may still open, for the records from base on.
@@ -55,7 +39,7 @@ pub fn eval_level(
         if !codes::read::is_operator(code) {
             return Step { code: at, slot };
         }
-        let mut other: [u64; 128] = [0; 128];
+        let mut other: [u64; MOST] = [0; MOST];
         let next = eval_operand(
             codes,
             at + 1,
@@ -89,7 +73,7 @@ fn eval_operand(
     ensures { λ r. ⌜ Evaluated (λ f. operand fromLeft f d k) (now (codes .entry)) i k (now (index .entry)) (now (entries .entry)) base (now (hints .entry)) (now (ws .entry)) (now (hints .exit)) (now (ws .exit)) r ⌝ }
 {
     let code = code_at(codes, i);
-    if code == 0 {
+    if code == WORD_CODE {
         if k < entries.len() {
             crate::slot::fill_slot(index, entries, k, base, hints, ws);
             return Step {
@@ -99,7 +83,7 @@ fn eval_operand(
         }
         return Step { code: i, slot: k };
     }
-    if code != 4 {
+    if code != OPEN_CODE {
         return Step { code: i, slot: k };
     }
     if d == 0 {
@@ -107,7 +91,7 @@ fn eval_operand(
     }
     let inside = eval_level(codes, i + 1, k, d - 1, index, entries, base, hints, ws);
     let end = inside.code;
-    if code_at(codes, end) != 5 {
+    if code_at(codes, end) != CLOSE_CODE {
         return Step { code: i, slot: k };
     }
     Step {

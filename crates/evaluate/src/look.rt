@@ -2,12 +2,18 @@
 ghost use mathlib.Core.Path.{_≡_};
 ghost use Prim.Native.Nat.{_≤_};
 ghost use lib.ListN.{length, getD};
+ghost use Rattle.limits.specs.Limits.{questionWordsMax};
 ghost use Rattle.question.specs.Grammar.{fromLeft, question, operand};
+ghost use Rattle.codes.specs.Code.{wordCode, noCode};
 ghost use Rattle.evaluate.specs.Look.{Looks};
 use crate::sense_pair::pair_senses;
 use crate::senses::sense_of;
+use codes::code::CLOSE_CODE;
+use codes::code::OPEN_CODE;
+use codes::code::WORD_CODE;
 use codes::read::code_at;
 use codes::read::is_operator;
+use limits::QUESTION_WORDS_MAX;
 use list::sense::Sense;
 
 // The code and the slot behind what was looked at, and its sense.
@@ -32,7 +38,8 @@ fn unread(code: usize) -> Look
 
 // The operands of a level, from the left.
 pub fn look_level(codes: &[u8], i: usize, k: usize, d: usize, senses: &[u32]) -> Look
-    requires { ⌜ (i ≤ length (now codes)) × (length (now senses) ≡ 16) ⌝ }
+    requires within { ⌜ i ≤ length (now codes) ⌝ }
+    requires long { ⌜ length (now senses) ≡ questionWordsMax ⌝ }
     ensures { λ r. ⌜ Looks (λ f. question fromLeft f d k) (now (codes .entry)) i k (now (senses .entry)) r ⌝ }
 {
     let first = look_operand(codes, i, k, d, senses);
@@ -68,13 +75,14 @@ pub fn look_level(codes: &[u8], i: usize, k: usize, d: usize, senses: &[u32]) ->
 
 // A word, or a level in brackets, of which d may still open. It is small, so that the words of a level are looked at without a call.
 fn look_operand(codes: &[u8], i: usize, k: usize, d: usize, senses: &[u32]) -> Look
-    requires { ⌜ (i ≤ length (now codes)) × (length (now senses) ≡ 16) ⌝ }
+    requires within { ⌜ i ≤ length (now codes) ⌝ }
+    requires long { ⌜ length (now senses) ≡ questionWordsMax ⌝ }
     ensures { λ r. ⌜ Looks (λ f. operand fromLeft f d k) (now (codes .entry)) i k (now (senses .entry)) r ⌝ }
 {
-    if code_at(codes, i) != 0 {
+    if code_at(codes, i) != WORD_CODE {
         return look_part(codes, i, k, d, senses);
     }
-    if 16 <= k {
+    if QUESTION_WORDS_MAX <= k {
         return unread(i);
     }
     let sense = sense_of(senses, k);
@@ -88,10 +96,12 @@ fn look_operand(codes: &[u8], i: usize, k: usize, d: usize, senses: &[u32]) -> L
 
 // A level in brackets.
 fn look_part(codes: &[u8], i: usize, k: usize, d: usize, senses: &[u32]) -> Look
-    requires { ⌜ (i ≤ length (now codes)) × (length (now senses) ≡ 16) × (getD (now codes) i 6 ≡ 0 → ⊥) ⌝ }
+    requires within { ⌜ i ≤ length (now codes) ⌝ }
+    requires long { ⌜ length (now senses) ≡ questionWordsMax ⌝ }
+    requires wordless { ⌜ (getD (now codes) i noCode ≡ wordCode → ⊥) ⌝ }
     ensures { λ r. ⌜ Looks (λ f. operand fromLeft f d k) (now (codes .entry)) i k (now (senses .entry)) r ⌝ }
 {
-    if code_at(codes, i) != 4 {
+    if code_at(codes, i) != OPEN_CODE {
         return unread(i);
     }
     if d == 0 {
@@ -99,7 +109,7 @@ fn look_part(codes: &[u8], i: usize, k: usize, d: usize, senses: &[u32]) -> Look
     }
     let part = look_level(codes, i + 1, k, d - 1, senses);
     let close = part.code;
-    if code_at(codes, close) != 5 {
+    if code_at(codes, close) != CLOSE_CODE {
         return unread(close);
     }
     Look {

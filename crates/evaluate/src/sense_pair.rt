@@ -1,5 +1,7 @@
 // Two senses under an operator: what they say together, and how long that stays so.
 ghost use Rattle.evaluate.specs.Look.{Opposite, Both, Paired};
+use codes::code::AND_CODE;
+use codes::code::OR_CODE;
 use list::sense::Sense;
 
 fn opposite(a: Sense) -> Sense
@@ -36,10 +38,10 @@ fn both(a: Sense, b: Sense) -> Sense
 pub fn pair_senses(code: u8, a: Sense, b: Sense) -> Sense
     ensures { λ r. ⌜ Paired code a b r ⌝ }
 {
-    if code == 1 {
+    if code == AND_CODE {
         return both(a, b);
     }
-    if code == 2 {
+    if code == OR_CODE {
         return opposite(both(opposite(a), opposite(b)));
     }
     both(a, opposite(b))

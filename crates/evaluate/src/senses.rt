@@ -2,13 +2,12 @@
 ghost use mathlib.Core.Path.{_≡_};
 ghost use Prim.Native.Nat.{_+_, _/_, _≤_, _<_};
 ghost use lib.ListN.{length};
-ghost use Rattle.list.specs.Interval.{top};
+ghost use Rattle.limits.specs.Limits.{questionWordsMax, recordMax};
 ghost use Rattle.list.specs.Sense.{Steady};
 ghost use Rattle.slots.specs.Slots.{slotHas, ReadBy};
 ghost use Rattle.evaluate.specs.Senses.{untilOf, insideOf, inIt, Sensed, Known, Renewed};
-use directory::parts::lower_of;
-use directory::parts::singles_of;
-use directory::parts::upper_of;
+use directory::parts::Regions;
+use directory::parts::regions_of;
 use index::trailer::word_count;
 use list::END;
 use list::hints::hint_of;
@@ -19,7 +18,9 @@ use list::sense::sense_at;
 
 // What the word of slot k says of record x; its hint keeps where the list is read on.
 fn look_slot(index: &[u8], entries: &[usize], k: usize, x: u32, hints: &mut [usize]) -> Sense
-    requires { ⌜ ReadBy (now index) (now entries) (now hints) × (k < 16) × (x ≤ 16777215) ⌝ }
+    requires lends { ⌜ ReadBy (now index) (now entries) (now hints) ⌝ }
+    requires within { ⌜ k < questionWordsMax ⌝ }
+    requires near { ⌜ x ≤ recordMax ⌝ }
     ensures keeps { λ r. ⌜ length (now (hints .exit)) ≡ length (now (hints .entry)) ⌝ }
     ensures steady { λ r. ⌜ Steady (slotHas (now (index .entry)) (now (entries .entry)) k) x (r .inside) (r .until) ⌝ }
 {
@@ -30,18 +31,19 @@ fn look_slot(index: &[u8], entries: &[usize], k: usize, x: u32, hints: &mut [usi
             until: END,
         };
     }
-    let singles = singles_of(index, entry);
-    let lower = lower_of(index, entry);
-    let upper = upper_of(index, entry);
+    let Regions { s, l, u, end } = regions_of(index, entry);
+    let singles = &index[s..l];
+    let upper = &index[u..end];
     let at = reading_place(singles, upper, hint_of(hints, k), x);
     keep_hint(hints, k, at);
-    sense_at(singles, lower, upper, at, x)
+    sense_at(singles, &index[l..u], upper, at, x)
 }
 
 // A sense as one number.
 fn pack(sense: Sense) -> u32
-    requires { ⌜ sense .until ≤ top + 1 ⌝ }
-    ensures { λ r. ⌜ (r / 2 ≡ sense .until) × (inIt r ≡ sense .inside) ⌝ }
+    requires { ⌜ sense .until ≤ recordMax + 1 ⌝ }
+    ensures until { λ r. ⌜ r / 2 ≡ sense .until ⌝ }
+    ensures inside { λ r. ⌜ inIt r ≡ sense .inside ⌝ }
 {
     if sense.inside {
         2 * sense.until + 1
@@ -53,7 +55,8 @@ fn pack(sense: Sense) -> u32
 // The kept sense of slot k.
 pub fn sense_of(senses: &[u32], k: usize) -> Sense
     requires { ⌜ k < length (now senses) ⌝ }
-    ensures { λ r. ⌜ (r .until ≡ untilOf (now (senses .entry)) k) × (r .inside ≡ insideOf (now (senses .entry)) k) ⌝ }
+    ensures until { λ r. ⌜ r .until ≡ untilOf (now (senses .entry)) k ⌝ }
+    ensures inside { λ r. ⌜ r .inside ≡ insideOf (now (senses .entry)) k ⌝ }
 {
     let sense = senses[k];
     Sense {
@@ -71,8 +74,10 @@ fn renew_sense(
     hints: &mut [usize],
     senses: &mut [u32],
 )
-    requires lends { ⌜ ReadBy (now index) (now entries) (now hints) × (length (now senses) ≡ 16) ⌝ }
-    requires within { ⌜ (k < 16) × (x ≤ 16777215) ⌝ }
+    requires lends { ⌜ ReadBy (now index) (now entries) (now hints) ⌝ }
+    requires long { ⌜ length (now senses) ≡ questionWordsMax ⌝ }
+    requires within { ⌜ k < questionWordsMax ⌝ }
+    requires near { ⌜ x ≤ recordMax ⌝ }
     requires sensed { ⌜ Sensed (slotHas (now index) (now entries)) (now senses) x ⌝ }
     ensures keeps { λ _. ⌜ length (now (hints .exit)) ≡ length (now (hints .entry)) ⌝ }
     ensures renews { λ _. ⌜ Renewed (slotHas (now (index .entry)) (now (entries .entry))) x k (now (senses .entry)) (now (senses .exit)) ⌝ }
@@ -92,10 +97,13 @@ pub fn renew_senses(
     hints: &mut [usize],
     senses: &mut [u32],
 )
-    requires lends { ⌜ ReadBy (now index) (now entries) (now hints) × (length (now senses) ≡ 16) ⌝ }
-    requires within { ⌜ (slots ≤ 16) × (x ≤ 16777215) ⌝ }
+    requires lends { ⌜ ReadBy (now index) (now entries) (now hints) ⌝ }
+    requires long { ⌜ length (now senses) ≡ questionWordsMax ⌝ }
+    requires within { ⌜ slots ≤ questionWordsMax ⌝ }
+    requires near { ⌜ x ≤ recordMax ⌝ }
     requires sensed { ⌜ Sensed (slotHas (now index) (now entries)) (now senses) x ⌝ }
-    ensures keeps { λ _. ⌜ (length (now (hints .exit)) ≡ length (now (hints .entry))) × (length (now (senses .exit)) ≡ length (now (senses .entry))) ⌝ }
+    ensures keeps { λ _. ⌜ length (now (hints .exit)) ≡ length (now (hints .entry)) ⌝ }
+    ensures long { λ _. ⌜ length (now (senses .exit)) ≡ length (now (senses .entry)) ⌝ }
     ensures sensed { λ _. ⌜ Sensed (slotHas (now (index .entry)) (now (entries .entry))) (now (senses .exit)) x ⌝ }
     ensures known { λ _. ⌜ Known (slotHas (now (index .entry)) (now (entries .entry))) (now (senses .exit)) slots x ⌝ }
 {

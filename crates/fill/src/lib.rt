@@ -1,14 +1,16 @@
 // A kept list filled into a window: the singles bit by bit, the pairs stretch by stretch, each side from what does not end before the window.
 ghost use mathlib.Core.Path.{_≡_};
-ghost use Prim.Native.Nat.{_-_, _≤_, _<_};
+ghost use Prim.Native.Nat.{_+_, _-_, _≤_, _<_};
 ghost use mathlib.Core.List.{[]};
 ghost use lib.ListN.{length};
+ghost use Rattle.limits.specs.Limits.{recordMax};
 ghost use Rattle.list.specs.Cell.{numbersIn};
 ghost use Rattle.list.specs.Among.{among};
-ghost use Rattle.list.specs.Interval.{top, names};
+ghost use Rattle.list.specs.Interval.{names};
 ghost use Rattle.list.specs.Kept.{walked};
 ghost use Rattle.list.specs.Reading.{KeptIn, listIn, readingPlace};
 ghost use Rattle.list.specs.Seek.{Ascends, countBelow};
+ghost use Rattle.window.specs.Tuning.{windowMost};
 ghost use Rattle.fill.specs.Added.{Added, Apart};
 use list::PairAt;
 use list::Place;
@@ -17,7 +19,10 @@ use list::cell::number_at;
 
 // Sets the bits of the singles from place `from` on, before which all lie below base. The answer is the first single behind the window.
 fn fill_singles(singles: &[u8], from: SingleAt, base: u32, ws: &mut [u64]) -> SingleAt
-    requires { ⌜ Ascends (numbersIn (now singles)) × (from .0 ≡ countBelow base (numbersIn (now singles))) × (length (now ws) ≤ 128) × (base ≤ 16777216) ⌝ }
+    requires ascends { ⌜ Ascends (numbersIn (now singles)) ⌝ }
+    requires begins { ⌜ from .0 ≡ countBelow base (numbersIn (now singles)) ⌝ }
+    requires size { ⌜ length (now ws) ≤ windowMost ⌝ }
+    requires near { ⌜ base ≤ recordMax + 1 ⌝ }
     ensures { λ r. ⌜ Added (among (numbersIn (now (singles .entry)))) base (now (ws .entry)) (now (ws .exit)) ⌝ }
 {
     let end = base + 64 * ws.len() as u32;
@@ -43,7 +48,10 @@ fn above(l: u32, base: u32) -> u32
 
 // Sets the bits of the pairs from place `from` on, before which all end before base. The answer is the first pair that does not end in the window.
 fn fill_pairs(lower: &[u8], upper: &[u8], from: PairAt, base: u32, ws: &mut [u64]) -> PairAt
-    requires { ⌜ Apart (numbersIn (now lower)) (numbersIn (now upper)) × (from .0 ≡ countBelow base (numbersIn (now upper))) × (length (now ws) ≤ 128) × (base ≤ 16777216) ⌝ }
+    requires apart { ⌜ Apart (numbersIn (now lower)) (numbersIn (now upper)) ⌝ }
+    requires begins { ⌜ from .0 ≡ countBelow base (numbersIn (now upper)) ⌝ }
+    requires size { ⌜ length (now ws) ≤ windowMost ⌝ }
+    requires near { ⌜ base ≤ recordMax + 1 ⌝ }
     ensures { λ r. ⌜ Added (names (walked [] (numbersIn (now (lower .entry))) (numbersIn (now (upper .entry))))) base (now (ws .entry)) (now (ws .exit)) ⌝ }
 {
     let size = 64 * ws.len() as u32;
@@ -79,7 +87,10 @@ pub fn fill_list(
     base: u32,
     ws: &mut [u64],
 ) -> Place
-    requires { ⌜ KeptIn top (now singles) (now lower) (now upper) × (at ≡ readingPlace base (numbersIn (now singles)) (numbersIn (now upper))) × (length (now ws) ≤ 128) × (base ≤ 16777216) ⌝ }
+    requires kept { ⌜ KeptIn recordMax (now singles) (now lower) (now upper) ⌝ }
+    requires begins { ⌜ at ≡ readingPlace base (numbersIn (now singles)) (numbersIn (now upper)) ⌝ }
+    requires size { ⌜ length (now ws) ≤ windowMost ⌝ }
+    requires near { ⌜ base ≤ recordMax + 1 ⌝ }
     ensures { λ r. ⌜ Added (names (listIn (now (singles .entry)) (now (lower .entry)) (now (upper .entry)))) base (now (ws .entry)) (now (ws .exit)) ⌝ }
 {
     let p = fill_singles(singles, at.p, base, ws);

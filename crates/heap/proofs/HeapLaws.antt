@@ -80,20 +80,15 @@ front-from xs p (suc k) i h g = go (front-from xs p k ((i - 1) / 2) (omega arith
     go r (yes e) = rw e (omega arith)
     go r (no ne) = omega (arith, p i (omega arith) g)
 
-pub least-first : (y : ℕ) (xs : List ℕ) → IsHeap xs → 0 < countOf y xs → getD xs 0 0 ≤ y
+least-first : (y : ℕ) (xs : List ℕ) → IsHeap xs → 0 < countOf y xs → getD xs 0 0 ≤ y
 least-first y xs p h = let w = count-where y xs h in omega (arith, front-from xs p (w .0) (w .0) (omega arith) (w .1), w .2)
-
-pub first-counted : (xs : List ℕ) → 0 < length xs → 0 < countOf (getD xs 0 0) xs
-first-counted xs h = count-at xs 0 h
 
 -- the same of the first n cells of a slice
 pub least-front : (y n : ℕ) (xs : List ℕ) → 0 < n → IsHeap (take n xs) → 0 < countOf y (take n xs) → getD xs 0 0 ≤ y
 least-front y n xs h p g = rw (getD-take n xs 0 0 h) at (least-first y (take n xs) p g)
 
 pub front-counted : (n : ℕ) (xs : List ℕ) → 0 < n → n ≤ length xs → 0 < countOf (getD xs 0 0) (take n xs)
-front-counted n xs h g =
-    let l = length-take-le n xs g in
-    rw (getD-take n xs 0 0 h) at (first-counted (take n xs) (omega arith))
+front-counted n xs h g = let l = length-take-le n xs g in rw (getD-take n xs 0 0 h) at (count-at (take n xs) 0 (omega arith))
 
 -- ---- who is in the new bag
 
@@ -104,7 +99,7 @@ one-itself x = rw (eq-eqb x x refl)
 came : (y x a b : ℕ) → b ≤ one (eqb y x) + a → 0 < b → (y ≡ x) ⊎ (0 < a)
 came y x a b h g = by-test (eqb y x) (λ e. inl (eqb-true y x e)) (λ e. inr (let k = rw e at h in omega arith))
 
-module _ (size x : ℕ) (old new : List ℕ) (p : Pushed size x old new) where
+module _ {size x : ℕ} {old new : List ℕ} (p : Pushed size x old new) where
   pub pushed-either : (y : ℕ) → 0 < countOf y (take (size + 1) new) → (y ≡ x) ⊎ (0 < countOf y (take size old))
   pushed-either y h = came y x (countOf y (take size old)) (countOf y (take (size + 1) new)) (omega (arith, p .bag y)) h
 

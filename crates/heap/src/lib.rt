@@ -5,7 +5,8 @@ ghost use Rattle.heap.specs.Heap.{IsHeap, Pushed, Replaced, Dropped, Les
 
 // Puts x in, from the end: what is greater on the way to the front moves down a cell.
 pub fn push(heap: &mut [u32], size: usize, x: u32)
-    requires { ⌜ (size < length (now heap)) × IsHeap (take size (now heap)) ⌝ }
+    requires room { ⌜ size < length (now heap) ⌝ }
+    requires ordered { ⌜ IsHeap (take size (now heap)) ⌝ }
     ensures { λ _. ⌜ Pushed size x (now (heap .entry)) (now (heap .exit)) ⌝ }
 {
     let mut i = size;
@@ -24,7 +25,8 @@ pub fn push(heap: &mut [u32], size: usize, x: u32)
 
 // The cell of the lesser of the numbers below cell i, where there is one.
 fn lesser_below(heap: &[u32], size: usize, i: usize) -> usize
-    requires { ⌜ (size ≤ length (now heap)) × (2 * i + 1 < size) ⌝ }
+    requires within { ⌜ size ≤ length (now heap) ⌝ }
+    requires below { ⌜ 2 * i + 1 < size ⌝ }
     ensures { λ r. ⌜ Lesser size i (now (heap .entry)) r ⌝ }
 {
     let left = 2 * i + 1;
@@ -39,7 +41,9 @@ fn lesser_below(heap: &[u32], size: usize, i: usize) -> usize
 
 // Puts x in the place of the least, from the front: what is less on the way to the end moves up a cell.
 pub fn replace_least(heap: &mut [u32], size: usize, x: u32)
-    requires { ⌜ (0 < size) × (size ≤ length (now heap)) × IsHeap (take size (now heap)) ⌝ }
+    requires some { ⌜ 0 < size ⌝ }
+    requires within { ⌜ size ≤ length (now heap) ⌝ }
+    requires ordered { ⌜ IsHeap (take size (now heap)) ⌝ }
     ensures { λ _. ⌜ Replaced size x (now (heap .entry)) (now (heap .exit)) ⌝ }
 {
     let mut i = 0;
@@ -58,7 +62,9 @@ pub fn replace_least(heap: &mut [u32], size: usize, x: u32)
 
 // Takes the least away: the last number comes in its place.
 pub fn drop_least(heap: &mut [u32], size: usize)
-    requires { ⌜ (0 < size) × (size ≤ length (now heap)) × IsHeap (take size (now heap)) ⌝ }
+    requires some { ⌜ 0 < size ⌝ }
+    requires within { ⌜ size ≤ length (now heap) ⌝ }
+    requires ordered { ⌜ IsHeap (take size (now heap)) ⌝ }
     ensures { λ _. ⌜ Dropped size (now (heap .entry)) (now (heap .exit)) ⌝ }
 {
     let left = size - 1;

@@ -6,10 +6,11 @@ use mathlib.Core.Bool.{Bool, true, false, cond}
 use mathlib.Core.List.{List}
 use lib.ListN.{length}
 use borrow.Author.Tests.{lt-ltb, le-ltb, eq-eqb, ne-eqb}
+use Rattle.limits.specs.Limits.{indexMax, indexMin}
 use Rattle.refusal.specs.declared.Found.{Found}
 use Rattle.refusal.specs.declared.Found.the-variants.{At, Nowhere}
 use Rattle.refusal.specs.declared.Refusal.{Refusal}
-use Rattle.refusal.specs.declared.Refusal.the-variants.{IndexLength, Edition, Trailer, Directory, KeptList}
+use Rattle.refusal.specs.declared.Refusal.the-variants.{IndexLength, IndexEdition, IndexTrailer, IndexEntry, IndexList}
 use Rattle.refusal.specs.First.{first}
 use Rattle.refusal.proofs.FirstLaws.{first-none, first-none-is}
 use Rattle.index.specs.declared.Checked.{Checked}
@@ -21,27 +22,27 @@ use Rattle.index.specs.Check.{badPlace, badEntryOf, entriesAnswer, badLi
 -- ---- refusal by refusal
 
 module _ (index : List ℕ) where
-  pub length-good : 20 ≤ length index → length index ≤ 16777216 → badLength index ≡ false
+  pub length-good : indexMin ≤ length index → length index ≤ indexMax → badLength index ≡ false
   unfolding badLength
-  length-good h k = rw (le-ltb (length index) 20 h, le-ltb 16777216 (length index) k)
+  length-good h k = rw (le-ltb (length index) indexMin h, le-ltb indexMax (length index) k)
 
   pub edition-good : edition index ≡ 1 → badEdition index ≡ false
   unfolding badEdition
   edition-good e = rw (eq-eqb (edition index) 1 e)
 
-  pub check-short : length index < 20 → checkOf index ≡ Refused (IndexLength (length index))
+  pub check-short : length index < indexMin → checkOf index ≡ Refused (IndexLength (length index))
   unfolding checkOf badLength
-  check-short h = rw (lt-ltb (length index) 20 h)
+  check-short h = rw (lt-ltb (length index) indexMin h)
 
-  pub check-long : 20 ≤ length index → 16777216 < length index → checkOf index ≡ Refused (IndexLength (length index))
+  pub check-long : indexMin ≤ length index → indexMax < length index → checkOf index ≡ Refused (IndexLength (length index))
   unfolding checkOf badLength
-  check-long h k = rw (le-ltb (length index) 20 h, lt-ltb 16777216 (length index) k)
+  check-long h k = rw (le-ltb (length index) indexMin h, lt-ltb indexMax (length index) k)
 
-  pub check-edition : badLength index ≡ false → (edition index ≡ 1 → ⊥) → checkOf index ≡ Refused (Edition (edition index))
+  pub check-edition : badLength index ≡ false → (edition index ≡ 1 → ⊥) → checkOf index ≡ Refused (IndexEdition (edition index))
   unfolding checkOf badEdition
   check-edition h n = rw (h, ne-eqb (edition index) 1 n)
 
-  pub check-trailer : badLength index ≡ false → badEdition index ≡ false → badTrailer index ≡ true → checkOf index ≡ Refused Trailer
+  pub check-trailer : badLength index ≡ false → badEdition index ≡ false → badTrailer index ≡ true → checkOf index ≡ Refused IndexTrailer
   unfolding checkOf
   check-trailer h k e = rw (h, k, e)
 
@@ -49,11 +50,11 @@ module _ (index : List ℕ) where
   unfolding checkOf
   check-contents h k e = rw (h, k, e)
 
-  pub contents-directory : (i : ℕ) → badEntryOf index ≡ At i → contentsOf index ≡ Refused (Directory i)
+  pub contents-directory : (i : ℕ) → badEntryOf index ≡ At i → contentsOf index ≡ Refused (IndexEntry i)
   unfolding contentsOf
   contents-directory i e = rw e
 
-  pub contents-list : (i : ℕ) → badEntryOf index ≡ Nowhere → badListOf index ≡ At i → contentsOf index ≡ Refused (KeptList i)
+  pub contents-list : (i : ℕ) → badEntryOf index ≡ Nowhere → badListOf index ≡ At i → contentsOf index ≡ Refused (IndexList i)
   unfolding contentsOf
   contents-list i e f = rw (e, f)
 
@@ -72,11 +73,11 @@ cond-good true r next e = not-good r e
 cond-good false r next e = (refl, e)
 
 entries-passed : (f : Found) (next : Checked) → entriesAnswer f next ≡ Good → (f ≡ Nowhere) × (next ≡ Good)
-entries-passed (At i) next e = not-good (Directory i) e
+entries-passed (At i) next e = not-good (IndexEntry i) e
 entries-passed Nowhere next e = (refl, e)
 
 lists-passed : (f : Found) → listsAnswer f ≡ Good → f ≡ Nowhere
-lists-passed (At i) e = not-good (KeptList i) e
+lists-passed (At i) e = not-good (IndexList i) e
 lists-passed Nowhere e = refl
 
 somewhere : {A : Type 0} (i : ℕ) → At i ≡ Nowhere → A
@@ -94,12 +95,12 @@ pub good-sound : (index : List ℕ) → checkOf index ≡ Good → Sound index
 unfolding checkOf contentsOf
 good-sound index e =
     let a = cond-good (badLength index) (IndexLength (length index)) _ e in
-    let b = cond-good (badEdition index) (Edition (edition index)) _ (a .1) in
-    let c = cond-good (badTrailer index) Trailer _ (b .1) in
+    let b = cond-good (badEdition index) (IndexEdition (edition index)) _ (a .1) in
+    let c = cond-good (badTrailer index) IndexTrailer _ (b .1) in
     let d = entries-passed (badEntryOf index) (listsAnswer (badListOf index)) (c .1) in
     record {
       size = a .0;
-      issue = b .0;
+      edition-one = b .0;
       trailer = c .0;
       entries = entries-good index (d .0);
       ends = place-none (first (badEntry index) (wordCount index)) (badEnd index) (wordCount index) (d .0) .1;
@@ -108,5 +109,5 @@ good-sound index e =
 
 pub sound-good : (index : List ℕ) → Sound index → checkOf index ≡ Good
 sound-good index s =
-    check-contents index (s .size) (s .issue) (s .trailer)
+    check-contents index (s .size) (s .edition-one) (s .trailer)
     ∙ contents-good index (rw (first-none-is (badEntry index) (wordCount index) (s .entries), s .ends)) (first-none-is (badList index) (wordCount index) (s .lists))

@@ -69,24 +69,24 @@ module _ (index : List ℕ) (i : ℕ) where
   pub next-within : badDirectory index i ≡ false → wordsEnd index i + wordLength index i ≤ directoryStart index
   next-within e = rw (← wordsEnd-next index i) (directory-facts index i e .3)
 
-module _ (index : List ℕ) (e : Entry) (prior words lists i : ℕ) (g : Going index prior words lists i) (h : i < wordCount index) where
+module _ {index : List ℕ} {prior words lists i : ℕ} (g : Going index prior words lists i) (h : i < wordCount index) where
   pub going-hit : badEntry index i ≡ true → first (badEntry index) (wordCount index) ≡ At i
   going-hit b = g .left ∙ first-hit (badEntry index) i (wordCount index) h b
 
   -- what the code asks of the two parts is the word rule
-  pub going-word : EntryCells index i e → badDirectory index i ≡ false →
+  pub going-word : {e : Entry} → EntryCells index i e → badDirectory index i ≡ false →
       isWord (take (words + e .«word_length» - words) (drop words index))
       && before (take (words - prior) (drop prior index)) (take (words + e .«word_length» - words) (drop words index))
       ≡ not (badWord index i)
-  going-word of d =
+  going-word {e} of d =
       let f = directory-facts index i d in
       let p = word-part index i words (words + e .«word_length») (g .words-sum ∙ sym (f .0)) (ap (λ n. words + n) (of .word-length)) in
       rw (p, g .prior-word, word-rule index i) (sym (Bool·not-not (isWord (wordOf index i) && before (wordBefore index i) (wordOf index i))))
 
-  pub going-step : EntryCells index i e → badDirectory index i ≡ false → badWord index i ≡ false →
+  pub going-step : {e : Entry} → EntryCells index i e → badDirectory index i ≡ false → badWord index i ≡ false →
       Going index words (words + e .«word_length») (lists + 4 * (e .singles + 2 * e .pairs)) (i + 1)
   unfolding listLength
-  going-step of d b =
+  going-step {e} of d b =
       let f = directory-facts index i d in
       let w = wordsEnd-next index i in
       let l = listsEnd-next index i in
@@ -102,7 +102,7 @@ module _ (index : List ℕ) (e : Entry) (prior words lists i : ℕ) (g : Going i
         left = g .left ∙ first-miss (badEntry index) i (wordCount index) h (entry-good index i d b);
       }
 
-module _ (index : List ℕ) (prior words lists i : ℕ) (g : Going index prior words lists i) (h : wordCount index ≤ i) where
+module _ {index : List ℕ} {prior words lists i : ℕ} (g : Going index prior words lists i) (h : wordCount index ≤ i) where
   going-none : first (badEntry index) (wordCount index) ≡ Nowhere
   going-none = g .left ∙ first-end (badEntry index) i (wordCount index) h
 

@@ -3,17 +3,15 @@ use mathlib.Core.Path.{_≡_, refl, sym, _∙_}
 use Prim.Native.Nat.{ℕ, zero, suc, _+_, _-_, _*_, _≤_, _<_}
 use native.Mathlib.Omega.{arith}
 use native.Mathlib.Numerals.{add-one}
-use native.Mathlib.Nat.{lt-of-not-le}
-use native.Mathlib.Decide.{decLe}
 use mathlib.Core.Bool.{true, false, not, _||_}
 use mathlib.Core.List.{List, []}
 use lib.Dec.{eqb, ltb}
 use lib.ListN.{length, take, drop, length-drop, length-take}
 use borrow.Author.Tests.{ltb-false, eqb-true, eqb-false, not-false}
-use Rattle.laws.proofs.Tests.{true-false, or-neither}
+use Rattle.laws.proofs.Tests.{true-false, or-neither, leb-cases}
+use Rattle.limits.specs.Limits.{indexMax, indexMin, recordMax, wordsMax}
 use Rattle.word.specs.Word.{before, isWord}
 use Rattle.word.proofs.WordLaws.{before-irreflexive, before-transitive}
-use Rattle.list.specs.Interval.{top}
 use Rattle.list.specs.Cell.{numbersIn}
 use Rattle.list.specs.Kept.{isKept}
 use Rattle.index.specs.Format.{wordsStart, directoryStart, wordCount, highest, edition, entryPlace, wordStart, wordLength, listStart, singleCount, pairCount, listLength, wordsEnd, listsEnd, part, wordOf, singlesOf, lowerOf, upperOf}
@@ -22,35 +20,35 @@ use Rattle.index.specs.Sound.{badLength, badEdition, badTrailer, badDire
 
 -- ---- the trailer
 
-pub sound-length : (index : List ℕ) → Sound index → (20 ≤ length index) × (length index ≤ 16777216)
+pub sound-length : (index : List ℕ) → Sound index → (indexMin ≤ length index) × (length index ≤ indexMax)
 unfolding badLength
 sound-length index s =
-    let w = or-neither (ltb (length index) 20) (ltb 16777216 (length index)) (s .size) in
-    (ltb-false (length index) 20 (w .0), ltb-false 16777216 (length index) (w .1))
+    let w = or-neither (ltb (length index) indexMin) (ltb indexMax (length index)) (s .size) in
+    (ltb-false (length index) indexMin (w .0), ltb-false indexMax (length index) (w .1))
 
 pub sound-edition : (index : List ℕ) → Sound index → edition index ≡ 1
 unfolding badEdition
-sound-edition index s = eqb-true (edition index) 1 (not-false (eqb (edition index) 1) (s .issue))
+sound-edition index s = eqb-true (edition index) 1 (not-false (eqb (edition index) 1) (s .edition-one))
 
 pub record TrailerFacts (index : List ℕ) : Type 0 where
-  pub highest-bound : highest index ≤ 16777215
-  pub count-bound : wordCount index ≤ 65535
+  pub highest-bound : highest index ≤ recordMax
+  pub count-bound : wordCount index ≤ wordsMax
   pub words-below : wordsStart index ≤ directoryStart index
   pub total : directoryStart index + 20 * wordCount index + 20 ≡ length index
 
 pub trailer-facts : (index : List ℕ) → badTrailer index ≡ false → TrailerFacts index
 unfolding badTrailer
 trailer-facts index h =
-    let a = ltb top (highest index) in
-    let b = ltb 65535 (wordCount index) in
+    let a = ltb recordMax (highest index) in
+    let b = ltb wordsMax (wordCount index) in
     let c = ltb (directoryStart index) (wordsStart index) in
     let d = eqb (directoryStart index + 20 * wordCount index + 20) (length index) in
     let u = or-neither (a || b || c) (not d) h in
     let v = or-neither (a || b) c (u .0) in
     let w = or-neither a b (v .0) in
     record {
-      highest-bound = ltb-false top (highest index) (w .0);
-      count-bound = ltb-false 65535 (wordCount index) (w .1);
+      highest-bound = ltb-false recordMax (highest index) (w .0);
+      count-bound = ltb-false wordsMax (wordCount index) (w .1);
       words-below = ltb-false (directoryStart index) (wordsStart index) (v .1);
       total = eqb-true (directoryStart index + 20 * wordCount index + 20) (length index) (not-false d (u .1));
     }
@@ -59,12 +57,6 @@ pub sound-trailer : (index : List ℕ) → Sound index → TrailerFacts index
 sound-trailer index s = trailer-facts index (s .trailer)
 
 -- ---- the directory
-
--- what the entries add up to never falls below where it began
-pub wordsEnd-least : (index : List ℕ) (i : ℕ) → wordsStart index ≤ wordsEnd index i
-unfolding wordsEnd
-wordsEnd-least index zero = omega arith
-wordsEnd-least index (suc i) = let h = wordsEnd-least index i in omega arith
 
 pub wordsEnd-next : (index : List ℕ) (i : ℕ) → wordsEnd index (i + 1) ≡ wordsEnd index i + wordLength index i
 unfolding wordsEnd
@@ -76,9 +68,8 @@ listsEnd-next index i = rw (add-one i)
 
 -- entry i: where it, its word and its list stand
 pub record EntryFacts (index : List ℕ) (i : ℕ) : Type 0 where
-  pub entry-within : entryPlace index i + 20 ≤ length index - 20
+  pub entry-within : entryPlace index i + indexMin ≤ length index - 20
   pub word-start : wordStart index i ≡ wordsEnd index i
-  pub word-least : wordsStart index ≤ wordStart index i
   pub word-within : wordStart index i + wordLength index i ≤ directoryStart index
   pub list-start : listStart index i ≡ listsEnd index i
   pub list-within : listStart index i + listLength index i ≤ wordsStart index
@@ -104,14 +95,10 @@ directory-facts index i h =
     let n : singleCount index i + pairCount index i ≡ 0 → ⊥ = eqb-false (singleCount index i + pairCount index i) 0 (r .1) in (
       eqb-true (wordStart index i) (wordsEnd index i) (not-false a (s .0)),
       eqb-true (listStart index i) (listsEnd index i) (not-false b (s .1)),
-      go (decLe 1 (singleCount index i + pairCount index i)) n,
+      leb-cases 1 (singleCount index i + pairCount index i) (λ g. g) (λ g. absurd (n (omega arith))),
       ltb-false (directoryStart index) (wordsEnd index (i + 1)) (q .1),
       ltb-false (wordsStart index) (listsEnd index (i + 1)) (p .1),
     )
-  where
-    go : {x : ℕ} → Dec (1 ≤ x) → (x ≡ 0 → ⊥) → 1 ≤ x
-    go (yes d) n = d
-    go (no d) n = let l = lt-of-not-le d in absurd (n (omega arith))
 
 sound-directory : (index : List ℕ) → Sound index → (i : ℕ) → i < wordCount index → badDirectory index i ≡ false
 unfolding badEntry
@@ -127,11 +114,9 @@ sound-entry index s i h =
     let f = directory-facts index i (sound-directory index s i h) in
     let w = wordsEnd-next index i in
     let l = listsEnd-next index i in
-    let m = wordsEnd-least index i in
     record {
       entry-within = entry-room (directoryStart index) i (wordCount index) (length index) (entryPlace index i) (read-entry index i) h (t .total);
       word-start = f .0;
-      word-least = rw (f .0) m;
       word-within = rw (f .0, ← w) (f .3);
       list-start = f .1;
       list-within = rw (f .1, ← l) (f .4);
@@ -219,11 +204,9 @@ words-step index s i h = word-facts index s (suc i) h .1
 
 pub words-ascend : (index : List ℕ) → Sound index → (i j : ℕ) → i < j → j < wordCount index → before (wordOf index i) (wordOf index j) ≡ true
 words-ascend index s i zero l h = absurd (omega arith)
-words-ascend index s i (suc j) l h = go (decLe j i) (λ g. words-ascend index s i j g (omega arith))
-  where
-    go : Dec (j ≤ i) → (i < j → before (wordOf index i) (wordOf index j) ≡ true) → before (wordOf index i) (wordOf index (suc j)) ≡ true
-    go (yes d) ih = let e : i ≡ j = omega arith in rw e (words-step index s j h)
-    go (no d) ih = before-transitive (wordOf index i) (wordOf index j) (wordOf index (suc j)) (ih (lt-of-not-le d)) (words-step index s j h)
+words-ascend index s i (suc j) l h =
+    leb-cases j i (λ d. let e : i ≡ j = omega arith in rw e (words-step index s j h))
+    (λ d. before-transitive (wordOf index i) (wordOf index j) (wordOf index (suc j)) (words-ascend index s i j d (omega arith)) (words-step index s j h))
 
 -- so no word stands in two entries
 pub words-differ : (index : List ℕ) → Sound index → (i j : ℕ) → i < j → j < wordCount index → wordOf index i ≡ wordOf index j → ⊥
@@ -232,13 +215,8 @@ words-differ index s i j l h e =
     true-false (sym a ∙ before-irreflexive (wordOf index j))
 
 pub word-injective : (index : List ℕ) → Sound index → (i j : ℕ) → i < wordCount index → j < wordCount index → wordOf index i ≡ wordOf index j → i ≡ j
-word-injective index s i j h k e = go (decLe i j) (decLe j i)
-  where
-    go : Dec (i ≤ j) → Dec (j ≤ i) → i ≡ j
-    go (yes a) (yes b) = omega arith
-    go (yes a) (no b) = absurd (words-differ index s i j (lt-of-not-le b) k e)
-    go (no a) (yes b) = absurd (words-differ index s j i (lt-of-not-le a) h (sym e))
-    go (no a) (no b) = let p = lt-of-not-le a in let q = lt-of-not-le b in absurd (omega arith)
+word-injective index s i j h k e =
+    leb-cases i j (λ a. leb-cases j i (λ b. omega arith) (λ b. absurd (words-differ index s i j b k e))) (λ a. absurd (words-differ index s j i a h (sym e)))
 
 -- ---- the lists
 

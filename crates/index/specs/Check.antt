@@ -5,8 +5,7 @@ use mathlib.Core.List.{List}
 use lib.ListN.{length}
 use Rattle.refusal.specs.declared.Found.{Found}
 use Rattle.refusal.specs.declared.Found.the-variants.{At, Nowhere}
-use Rattle.refusal.specs.declared.Refusal.{Refusal}
-use Rattle.refusal.specs.declared.Refusal.the-variants.{IndexLength, Edition, Trailer, Directory, KeptList}
+use Rattle.refusal.specs.declared.Refusal.the-variants.{IndexLength, IndexEdition, IndexTrailer, IndexEntry, IndexList}
 use Rattle.refusal.specs.First.{first}
 use Rattle.index.specs.declared.Checked.{Checked}
 use Rattle.index.specs.declared.Checked.the-variants.{Good, Refused}
@@ -22,7 +21,7 @@ abbrev pub badEntryOf : List ℕ → Found
 badEntryOf index = badPlace (first (badEntry index) (wordCount index)) (badEnd index) (wordCount index)
 
 abbrev pub entriesAnswer : Found → Checked → Checked
-entriesAnswer (At i) next = Refused (Directory i)
+entriesAnswer (At i) next = Refused (IndexEntry i)
 entriesAnswer Nowhere next = next
 
 -- Reference 9.1, row 5
@@ -31,7 +30,7 @@ badListOf index = first (badList index) (wordCount index)
 
 -- Reference 5.1: an index that breaks none of the rules is good
 abbrev pub listsAnswer : Found → Checked
-listsAnswer (At i) = Refused (KeptList i)
+listsAnswer (At i) = Refused (IndexList i)
 listsAnswer Nowhere = Good
 
 -- Reference 9.2: 4, then 5
@@ -42,5 +41,5 @@ contentsOf index = entriesAnswer (badEntryOf index) (listsAnswer (badListOf inde
 unfoldable pub checkOf : List ℕ → Checked
 checkOf index =
     cond (badLength index) (Refused (IndexLength (length index)))
-    (cond (badEdition index) (Refused (Edition (edition index)))
-    (cond (badTrailer index) (Refused Trailer) (contentsOf index)))
+    (cond (badEdition index) (Refused (IndexEdition (edition index)))
+    (cond (badTrailer index) (Refused IndexTrailer) (contentsOf index)))

@@ -1,6 +1,6 @@
 -- Reference 4: where everything stands in an index.
 use Prim.Native.Nat.{ℕ, zero, suc, _+_, _-_, _*_}
-use mathlib.Core.List.{List, []}
+use mathlib.Core.List.{List}
 use lib.ListN.{length, take, drop}
 use Rattle.list.specs.Cell.{cellAt, numbersIn}
 use Rattle.list.specs.Kept.{walked}

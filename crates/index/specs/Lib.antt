@@ -3,3 +3,4 @@ pub mod Part
 pub mod Sound
 pub mod Check
 pub mod Read
+pub mod Told

@@ -3,21 +3,11 @@ use Prim.Native.Nat.{ℕ, _+_, _*_, _≤_, _<_}
 use mathlib.Core.Path.{_≡_}
 use mathlib.Core.List.{List}
 use lib.ListN.{length}
+use Rattle.limits.specs.Limits.{indexMax, recordMax}
 use Rattle.index.specs.declared.trailer.Trailer.{Trailer}
 use Rattle.index.specs.declared.entry.Entry.{Entry}
-use Rattle.index.specs.Format.{
-  wordsStart,
-  directoryStart,
-  wordCount,
-  highest,
-  edition,
-  entrySize,
-  wordStart,
-  wordLength,
-  listStart,
-  singleCount,
-  pairCount,
-}
+use Rattle.index.specs.Format.{wordsStart, directoryStart, wordCount, highest, edition, entrySize, wordStart, wordLength, listStart}
+use Rattle.index.specs.Format.{singleCount, pairCount}
 
 pub record TrailerOf (index : List ℕ) (t : Trailer) : Type 0 where
   pub words : t .words ≡ wordsStart index
@@ -32,8 +22,8 @@ pub record Framed (index : List ℕ) (t : Trailer) : Type 0 where
   pub is : TrailerOf index t
   pub ordered : t .words ≤ t .directory
   pub whole : t .directory + entrySize (t .edition) * t .count + 20 ≡ length index
-  pub long : length index ≤ 16777216
-  pub highest : t .highest ≤ 16777215
+  pub long : length index ≤ indexMax
+  pub highest : t .highest ≤ recordMax
 
 -- an entry's numbers are cells, so that their sums fit
 pub record Small (e : Entry) : Type 0 where

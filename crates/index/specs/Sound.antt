@@ -5,34 +5,16 @@ use mathlib.Core.Bool.{Bool, false, not, _||_}
 use mathlib.Core.List.{List, []}
 use lib.Dec.{eqb, ltb}
 use lib.ListN.{length}
+use Rattle.limits.specs.Limits.{indexMax, indexMin, recordMax, wordsMax}
 use Rattle.word.specs.Word.{before, isWord}
-use Rattle.list.specs.Interval.{top}
 use Rattle.list.specs.Cell.{numbersIn}
 use Rattle.list.specs.Kept.{isKept}
-use Rattle.index.specs.Format.{
-  wordsStart,
-  directoryStart,
-  wordCount,
-  highest,
-  edition,
-  entrySize,
-  wordStart,
-  wordLength,
-  listStart,
-  singleCount,
-  pairCount,
-  listLength,
-  wordsEnd,
-  listsEnd,
-  wordOf,
-  singlesOf,
-  lowerOf,
-  upperOf,
-}
+use Rattle.index.specs.Format.{wordsStart, directoryStart, wordCount, highest, edition, entrySize, wordStart, listStart, singleCount, pairCount}
+use Rattle.index.specs.Format.{wordsEnd, listsEnd, wordOf, singlesOf, lowerOf, upperOf}
 
 -- Reference 5.1, rule 1
 unfoldable pub badLength : List ℕ → Bool
-badLength index = ltb (length index) 20 || ltb 16777216 (length index)
+badLength index = ltb (length index) indexMin || ltb indexMax (length index)
 
 -- Reference 5.1, rule 2
 unfoldable pub badEdition : List ℕ → Bool
@@ -41,8 +23,8 @@ badEdition index = not (eqb (edition index) 1)
 -- Reference 5.1, rule 3
 unfoldable pub badTrailer : List ℕ → Bool
 badTrailer index =
-    ltb top (highest index)
-    || ltb 65535 (wordCount index)
+    ltb recordMax (highest index)
+    || ltb wordsMax (wordCount index)
     || ltb (directoryStart index) (wordsStart index)
     || not (eqb (directoryStart index + entrySize (edition index) * wordCount index + 20) (length index))
 
@@ -82,7 +64,7 @@ badList index i =
 -- Reference 5.1: no rule is broken
 pub record Sound (index : List ℕ) : Type 0 where
   pub size : badLength index ≡ false
-  pub issue : badEdition index ≡ false
+  pub edition-one : badEdition index ≡ false
   pub trailer : badTrailer index ≡ false
   pub entries : (i : ℕ) → i < wordCount index → badEntry index i ≡ false
   pub ends : badEnd index ≡ false

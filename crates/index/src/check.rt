@@ -1,13 +1,14 @@
 // The check of an index: refusals 1 to 5. Reference 5.
 ghost use mathlib.Core.Path.{_≡_};
 ghost use mathlib.Core.Bool.{not, false, _&&_};
-ghost use mathlib.Core.List.{List};
 ghost use Prim.Native.Nat.{ℕ, _+_, _*_, _≤_, _<_};
 ghost use lib.ListN.{length};
+ghost use Rattle.limits.specs.Limits.{indexMax, recordMax};
 ghost use Rattle.word.specs.Word.{isWord, before};
-ghost use Rattle.index.specs.Format.{wordCount, highest, wordsEnd, listsEnd};
-ghost use Rattle.index.specs.Read.{TrailerOf, Framed, EntryCells, Small};
-ghost use Rattle.index.specs.Sound.{badTrailer, badDirectory, badEntry, badList};
+ghost use Rattle.index.specs.Format.{wordCount};
+ghost use Rattle.index.specs.Read.{TrailerOf, Framed, Small};
+ghost use Rattle.index.specs.Sound.{badTrailer, badEntry};
+ghost use Rattle.index.specs.Told.{DirectoryTold, ListTold};
 ghost use Rattle.index.specs.Check.{badEntryOf, badListOf, contentsOf, checkOf};
 use crate::Checked;
 use crate::entry::Entry;
@@ -15,6 +16,10 @@ use crate::entry::entry_place;
 use crate::entry::read_entry;
 use crate::trailer::Trailer;
 use crate::trailer::read_trailer;
+use limits::INDEX_MAX;
+use limits::INDEX_MIN;
+use limits::RECORD_MAX;
+use limits::WORDS_MAX;
 use refusal::Found;
 use refusal::Refusal;
 
@@ -23,10 +28,10 @@ fn trailer_good(index: &[u8], trailer: Trailer) -> bool
     requires { ⌜ TrailerOf (now index) trailer ⌝ }
     ensures { λ r. ⌜ r ≡ not (badTrailer (now (index .entry))) ⌝ }
 {
-    if trailer.highest > 16777215 {
+    if trailer.highest > RECORD_MAX {
         return false;
     }
-    if trailer.count > 65535 {
+    if trailer.count > WORDS_MAX {
         return false;
     }
     if trailer.directory < trailer.words {
@@ -37,7 +42,7 @@ fn trailer_good(index: &[u8], trailer: Trailer) -> bool
 
 // How many bytes an entry's list takes.
 fn list_length(entry: Entry) -> usize
-    requires { ⌜ (entry .singles < 4294967296) × (entry .pairs < 4294967296) ⌝ }
+    requires { ⌜ Small entry ⌝ }
     ensures { λ r. ⌜ r ≡ 4 * (entry .singles + 2 * entry .pairs) ⌝ }
 {
     4 * (entry.singles + 2 * entry.pairs)
@@ -45,8 +50,10 @@ fn list_length(entry: Entry) -> usize
 
 // Reference 5.2: whether an entry keeps the directory rule, where the words before it end at `words` and the lists at `lists`.
 fn directory_good(trailer: Trailer, entry: Entry, words: usize, lists: usize) -> bool
-    requires { ⌜ (words < 4294967296) × (lists < 4294967296) × Small entry ⌝ }
-    ensures { λ r. ⌜ ((index : List ℕ) (i : ℕ) → TrailerOf index trailer → EntryCells index i entry → words ≡ wordsEnd index i → lists ≡ listsEnd index i → r ≡ not (badDirectory index i)) ⌝ }
+    requires words { ⌜ words < 4294967296 ⌝ }
+    requires lists { ⌜ lists < 4294967296 ⌝ }
+    requires entry { ⌜ Small entry ⌝ }
+    ensures { λ r. ⌜ DirectoryTold trailer entry words lists r ⌝ }
 {
     (entry.word_start == words)
         & (entry.list_start == lists)
@@ -103,8 +110,10 @@ fn first_bad_entry(index: &[u8], trailer: Trailer) -> Found
 
 // Reference 3.4: whether an entry's list keeps the list rule; its regions are slices of the index.
 fn list_good(index: &[u8], entry: Entry, limit: u32) -> bool
-    requires { ⌜ (entry .«list_start» + 4 * entry .singles + 8 * entry .pairs ≤ length (now index)) × (length (now index) ≤ 16777216) × (limit ≤ 16777215) ⌝ }
-    ensures { λ r. ⌜ ((i : ℕ) → EntryCells (now (index .entry)) i entry → limit ≡ highest (now (index .entry)) → r ≡ not (badList (now (index .entry)) i)) ⌝ }
+    requires room { ⌜ entry .«list_start» + 4 * entry .singles + 8 * entry .pairs ≤ length (now index) ⌝ }
+    requires long { ⌜ length (now index) ≤ indexMax ⌝ }
+    requires limit { ⌜ limit ≤ recordMax ⌝ }
+    ensures { λ r. ⌜ ListTold (now (index .entry)) entry limit r ⌝ }
 {
     let start = entry.list_start;
     let lower = start + 4 * entry.singles;
@@ -120,7 +129,8 @@ fn list_good(index: &[u8], entry: Entry, limit: u32) -> bool
 
 // The first bad list, where every entry is good.
 fn first_bad_list(index: &[u8], trailer: Trailer) -> Found
-    requires { ⌜ Framed (now index) trailer × ((i : ℕ) → i < wordCount (now index) → badEntry (now index) i ≡ false) ⌝ }
+    requires framed { ⌜ Framed (now index) trailer ⌝ }
+    requires entries { ⌜ ((i : ℕ) → i < wordCount (now index) → badEntry (now index) i ≡ false) ⌝ }
     ensures { λ r. ⌜ r ≡ badListOf (now (index .entry)) ⌝ }
 {
     let mut k = 0;
@@ -140,9 +150,9 @@ fn check_entries(index: &[u8], trailer: Trailer) -> Checked
     ensures { λ r. ⌜ r ≡ contentsOf (now (index .entry)) ⌝ }
 {
     match first_bad_entry(index, trailer) {
-        Found::At(i) => Checked::Refused(Refusal::Directory(i)),
+        Found::At(i) => Checked::Refused(Refusal::IndexEntry(i)),
         Found::Nowhere => match first_bad_list(index, trailer) {
-            Found::At(i) => Checked::Refused(Refusal::KeptList(i)),
+            Found::At(i) => Checked::Refused(Refusal::IndexList(i)),
             Found::Nowhere => Checked::Good,
         },
     }
@@ -153,18 +163,18 @@ pub fn check_index(index: &[u8]) -> Checked
     ensures { λ r. ⌜ r ≡ checkOf (now (index .entry)) ⌝ }
 {
     let length = index.len();
-    if length < 20 {
+    if length < INDEX_MIN {
         return Checked::Refused(Refusal::IndexLength(length));
     }
-    if length > 16777216 {
+    if length > INDEX_MAX {
         return Checked::Refused(Refusal::IndexLength(length));
     }
     let trailer = read_trailer(index);
     if trailer.edition != 1 {
-        return Checked::Refused(Refusal::Edition(trailer.edition));
+        return Checked::Refused(Refusal::IndexEdition(trailer.edition));
     }
     if !trailer_good(index, trailer) {
-        return Checked::Refused(Refusal::Trailer);
+        return Checked::Refused(Refusal::IndexTrailer);
     }
     check_entries(index, trailer)
 }

@@ -21,14 +21,16 @@ pub fn entry_size(edition: u32) -> usize
 
 // Where entry i starts.
 pub fn entry_place(trailer: crate::trailer::Trailer, i: usize) -> usize
-    requires { ⌜ (trailer .directory < 4294967296) × (i < 4294967296) ⌝ }
+    requires directory { ⌜ trailer .directory < 4294967296 ⌝ }
+    requires number { ⌜ i < 4294967296 ⌝ }
     ensures { λ r. ⌜ r ≡ trailer .directory + entrySize (trailer .edition) * i ⌝ }
 {
     trailer.directory + entry_size(trailer.edition) * i
 }
 
 pub fn read_entry(index: &[u8], trailer: crate::trailer::Trailer, i: usize) -> Entry
-    requires { ⌜ Framed (now index) trailer × (i < trailer .count) ⌝ }
+    requires framed { ⌜ Framed (now index) trailer ⌝ }
+    requires number { ⌜ i < trailer .count ⌝ }
     ensures { λ r. ⌜ EntryCells (now (index .entry)) i r ⌝ }
 {
     let at = entry_place(trailer, i);

@@ -2,6 +2,7 @@
 ghost use mathlib.Core.Path.{_≡_};
 ghost use Prim.Native.Nat.{_≤_};
 ghost use lib.ListN.{length};
+ghost use Rattle.limits.specs.Limits.{indexMin, wordsMax};
 ghost use Rattle.index.specs.Format.{wordCount};
 ghost use Rattle.index.specs.Sound.{Sound};
 ghost use Rattle.index.specs.Read.{TrailerOf};
@@ -9,7 +10,8 @@ ghost use Rattle.index.specs.Read.{TrailerOf};
 // How many words a sound index has.
 pub fn word_count(index: &[u8]) -> usize
     requires { ⌜ Sound (now index) ⌝ }
-    ensures { λ r. ⌜ (r ≡ wordCount (now (index .entry))) × (r ≤ 65535) ⌝ }
+    ensures is { λ r. ⌜ r ≡ wordCount (now (index .entry)) ⌝ }
+    ensures few { λ r. ⌜ r ≤ wordsMax ⌝ }
 {
     let trailer = crate::trailer::read_trailer(index);
     trailer.count
@@ -25,7 +27,7 @@ pub struct Trailer {
 }
 
 pub fn read_trailer(index: &[u8]) -> Trailer
-    requires { ⌜ 20 ≤ length (now index) ⌝ }
+    requires { ⌜ indexMin ≤ length (now index) ⌝ }
     ensures { λ r. ⌜ TrailerOf (now (index .entry)) r ⌝ }
 {
     let end = index.len();

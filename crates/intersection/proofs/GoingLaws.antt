@@ -1,13 +1,14 @@
 -- The walk of the shortest list, and the sweep that puts what of each of its intervals stands in every list.
 use mathlib.Core.Path.{_≡_, refl}
-use Prim.Native.Nat.{ℕ, _+_, _*_, _≤_, _<_}
+use Prim.Native.Nat.{ℕ, _+_, _≤_, _<_}
 use native.Mathlib.Omega.{arith}
-use mathlib.Core.Bool.{Bool, true, false}
+use mathlib.Core.Bool.{Bool, false}
 use mathlib.Core.List.{List}
 use lib.ListN.{length, getD}
+use Rattle.limits.specs.Limits.{recordMax}
 use Rattle.list.specs.declared.Place.{Place}
 use Rattle.list.specs.declared.answer.Tally.{Tally}
-use Rattle.list.specs.Interval.{top, names}
+use Rattle.list.specs.Interval.{names}
 use Rattle.list.specs.Ginix.{intersectionOf}
 use Rattle.list.specs.Kept.{start, nextPlace, lowerAt, upperAt}
 use Rattle.list.specs.Reading.{Goes}
@@ -17,11 +18,11 @@ use Rattle.index.specs.Format.{highest, listOf}
 use Rattle.index.proofs.SoundLaws.{sound-trailer}
 use Rattle.merge.specs.Request.{SoundRequest, listsOf}
 use Rattle.merge.specs.Places.{entrySingles, entryLowers, entryUppers}
-use Rattle.merge.specs.Sweep.{Sweeps}
-use Rattle.merge.proofs.ListsLaws.{entry-kept}
+use Rattle.list.specs.Answer.{HasRoom, Sweeps}
+use Rattle.merge.proofs.ListsLaws.{entry-kept, asked-entry}
 use Rattle.merge.proofs.TallyLaws.{Tallied, tallied-start, tallied-skip, tallied-end}
-use Rattle.intersection.specs.Probing.{between, CellsFit, CellsPut, inAll, Within}
-use Rattle.intersection.proofs.BetweenLaws.{between-even, swept-between, between-room, between-cells-few, between-records-few}
+use Rattle.intersection.specs.Probing.{cellsBetween, PiecesFit, PiecesPut, inAll, StandsIn}
+use Rattle.intersection.proofs.BetweenLaws.{between-fits, between-put}
 use Rattle.intersection.proofs.ProbingLaws.{every-out}
 
 -- list e is read up to a place, after i intervals; the numbers below x are swept
@@ -34,7 +35,7 @@ pub record Going (index entries : List ℕ) (e : ℕ) (writing : Bool) (out₀ o
   pub swept : Tallied (inAll index entries) writing out₀ out t x
 
 module _ {index entries : List ℕ} (asked : SoundRequest index entries) {j : ℕ} (h : j < length entries) where
-  list-top : highest index ≤ top
+  list-top : highest index ≤ recordMax
   list-top = sound-trailer index (asked .sound) .highest-bound
 
   -- what the list does not name is not in every list
@@ -43,14 +44,14 @@ module _ {index entries : List ℕ} (asked : SoundRequest index entries) {j : �
 
   pub going-start : {writing : Bool} {out : List ℕ} {t : Tally} → t .intervals ≡ 0 → t .records ≡ 0 →
       Going index entries (getD entries j 0) writing out out t start 0
-  going-start {writing} {out} {t} e f =
+  going-start e f =
       record {
         x = 1;
         k = 1;
         near = (omega arith, omega arith);
         passed = refl;
-        read = read-start (highest index) (entrySingles index (getD entries j 0)) (entryLowers index (getD entries j 0)) (entryUppers index (getD entries j 0)) (entry-kept index (asked .sound) (getD entries j 0) (asked .below j h));
-        swept = tallied-start (inAll index entries) writing out t e f;
+        read = read-start (entry-kept (asked-entry asked j h));
+        swept = tallied-start e f;
       }
 
   module _ {writing : Bool} {out₀ out : List ℕ} {t : Tally} {at : Place} {i : ℕ} (g : Going index entries (getD entries j 0) writing out₀ out t at i) where
@@ -64,17 +65,16 @@ module _ {index entries : List ℕ} (asked : SoundRequest index entries) {j : �
     U = entryUppers index (getD entries j 0)
 
     pub going-goes : i < length S + length L → Goes S L at
-    going-goes m = read-goes (highest index) S L U at (g .k) (g .read) (let p = g .passed in omega arith)
+    going-goes m = read-goes (g .read) (let p = g .passed in omega arith)
 
     -- every interval is passed
-    pub going-end : length S + length L ≤ i → (writing ≡ true → length (intersectionOf (listsOf index entries)) ≤ length out₀) →
+    pub going-end : length S + length L ≤ i → HasRoom (intersectionOf (listsOf index entries)) writing out₀ →
         Sweeps (intersectionOf (listsOf index entries)) writing out₀ out t
     unfolding intersectionOf listOf
     going-end m r =
         let n = g .near in
         let p = g .passed in
-        let none : (z : ℕ) → g .x ≤ z → z < top + 1 → inAll index entries z ≡ false = λ z f d. out-all z (read-end (highest index) S L U at (g .k) (g .read) (omega arith) z (omega arith)) in
-        tallied-end (inAll index entries) writing out₀ out t (tallied-skip (inAll index entries) writing out₀ out t (g .x) (g .swept) (top + 1) (g .swept .near .1) (omega arith) none) r
+        tallied-end (tallied-skip (g .swept) (g .swept .swept .near .1) (omega arith) (λ z f d. out-all z (read-end (g .read) (omega arith) z (omega arith)))) r
 
     -- an interval is left
     module _ (o : Goes S L at) where
@@ -85,14 +85,14 @@ module _ {index entries : List ℕ} (asked : SoundRequest index entries) {j : �
       u = upperAt S L U at
 
       bounds : (g .k ≤ l) × (l ≤ u) × (u ≤ highest index)
-      bounds = read-bounds (highest index) S L U at (g .k) (g .read) o
+      bounds = read-bounds (g .read) o
 
-      up : u ≤ top
+      up : u ≤ recordMax
       up = let b = bounds in let t = list-top in omega arith
 
-      pub going-within : Within index entries j l u
+      pub going-within : StandsIn index entries j l u
       unfolding listOf
-      going-within = record { asked = asked; list = h; high = up; covers = read-inside (highest index) S L U at (g .k) (g .read) o }
+      going-within = record { asked = asked; list = h; high = up; covers = read-inside (g .read) o }
 
       pub going-ordered : l ≤ u
       going-ordered = bounds .1
@@ -102,37 +102,26 @@ module _ {index entries : List ℕ} (asked : SoundRequest index entries) {j : �
 
       low : (z : ℕ) → g .x ≤ z → z < l → inAll index entries z ≡ false
       unfolding listOf
-      low z f d = out-all z (read-before (highest index) S L U at (g .k) (g .read) o z (let n = g .near in omega arith) d)
+      low z f d = out-all z (read-before (g .read) o z (let n = g .near in omega arith) d)
 
-      stop : u < top → inAll index entries (u + 1) ≡ false
+      stop : u < recordMax → inAll index entries (u + 1) ≡ false
       unfolding listOf
-      stop f = out-all (u + 1) (read-behind (highest index) S L U at (g .k) (g .read) o)
+      stop f = out-all (u + 1) (read-behind (g .read) o)
 
-      pub going-fits : (writing ≡ true → length (intersectionOf (listsOf index entries)) ≤ length out₀) → CellsFit writing out t (between (inAll index entries) l u)
+      pub going-fits : HasRoom (intersectionOf (listsOf index entries)) writing out₀ → PiecesFit writing out t (cellsBetween (inAll index entries) l u)
       unfolding intersectionOf
-      going-fits r =
-          let e = between-even (inAll index entries) l u in
-          record {
-            room = λ w. between-room (inAll index entries) top writing out₀ out (g .x) (2 * t .intervals) (t .records) (g .swept) l u reach (bounds .1) up low stop w (r w);
-            intervals-small =
-                let f = between-cells-few (inAll index entries) top writing out₀ out (g .x) (2 * t .intervals) (t .records) (g .swept) l u reach (bounds .1) up low stop in
-                omega arith;
-            records-small = between-records-few (inAll index entries) top writing out₀ out (g .x) (2 * t .intervals) (t .records) (g .swept) l u reach (bounds .1) up low stop;
-          }
+      going-fits r = between-fits (g .swept) l u reach (bounds .1) up low stop r
 
-      pub going-next : {out′ : List ℕ} {t′ : Tally} → CellsPut writing out out′ t (between (inAll index entries) l u) t′ →
+      pub going-next : {out′ : List ℕ} {t′ : Tally} → PiecesPut writing out out′ t (cellsBetween (inAll index entries) l u) t′ →
           Going index entries (getD entries j 0) writing out₀ out′ t′ (nextPlace S L at) (i + 1)
-      going-next {out′} {t′} q =
-          let e = between-even (inAll index entries) l u in
+      going-next q =
           let f = next-fits S L at o in
           let p = g .passed in
-          let d = q .intervals-more in
-          let a : 2 * t′ .intervals ≡ 2 * t .intervals + length (between (inAll index entries) l u) = omega arith in
           record {
             x = u + 1;
             k = u + 2;
             near = (omega arith, omega arith);
             passed = omega arith;
-            read = read-next (highest index) S L U at (g .k) (g .read) o;
-            swept = rw (a, q .records-more, q .cells) (swept-between (inAll index entries) top writing out₀ out (g .x) (2 * t .intervals) (t .records) (g .swept) l u reach (bounds .1) up low stop);
+            read = read-next (g .read) o;
+            swept = between-put (g .swept) l u reach (bounds .1) up low stop q;
           }

@@ -9,8 +9,9 @@ use lib.ListN.{length, getD, drop, set}
 use lib.Seq.{sets, length-sets}
 use Rattle.laws.proofs.Tests.{true-false, and-both, by-test, leb-cases}
 use Rattle.laws.proofs.Lists.{sets-two}
+use Rattle.limits.specs.Limits.{recordMax}
 use Rattle.list.specs.declared.answer.Tally.{Tally}
-use Rattle.list.specs.Interval.{top, names, intervals, records}
+use Rattle.list.specs.Interval.{names, intervals, records}
 use Rattle.list.specs.Stretches.{turned, stretches, consIf}
 use Rattle.list.specs.Ginix.{inEvery}
 use Rattle.list.specs.Sense.{Steady}
@@ -19,7 +20,7 @@ use Rattle.index.specs.Format.{listOf}
 use Rattle.merge.specs.Request.{listsOf}
 use Rattle.merge.specs.Put.{Fitting, Put, PutWhere, upTo}
 use Rattle.merge.proofs.ListsLaws.{lists-next, lists-end}
-use Rattle.intersection.specs.Probing.{between, CellsFit, CellsPut, inAll, Within, closes, lowerOn}
+use Rattle.intersection.specs.Probing.{cellsBetween, PiecesFit, PiecesPut, inAll, StandsIn, closes, lowerOn}
 
 -- ---- a list with the fewest intervals of those below j
 
@@ -29,11 +30,10 @@ pub record Best (index entries : List ℕ) (best fewest j : ℕ) : Type 0 where
   pub counts : fewest ≡ intervals (listOf index (getD entries best 0))
   pub least : (i : ℕ) → i < j → fewest ≤ intervals (listOf index (getD entries i 0))
 
-pub best-start : (index entries : List ℕ) (fewest : ℕ) → 1 ≤ length entries → fewest ≡ intervals (listOf index (getD entries 0 0)) → Best index entries 0 fewest 1
-best-start index entries fewest h e =
-    record { inside = h; within = h; counts = e; least = λ i g. let z : i ≡ 0 = omega arith in rw z (omega arith) }
+pub best-start : {index entries : List ℕ} {fewest : ℕ} → 1 ≤ length entries → fewest ≡ intervals (listOf index (getD entries 0 0)) → Best index entries 0 fewest 1
+best-start h e = record { inside = h; within = h; counts = e; least = λ i g. let z : i ≡ 0 = omega arith in rw z (omega arith) }
 
-module _ (index entries : List ℕ) (best fewest j count : ℕ) (b : Best index entries best fewest j) (h : j < length entries)
+module _ {index entries : List ℕ} {best fewest j count : ℕ} (b : Best index entries best fewest j) (h : j < length entries)
     (e : count ≡ intervals (listOf index (getD entries j 0))) where
   least-next : (least : ℕ) → least ≤ fewest → least ≤ count → (i : ℕ) → i < j + 1 → least ≤ intervals (listOf index (getD entries i 0))
   least-next least f g i l = leb-cases j i (λ a. let z : i ≡ j = omega arith in rw z (omega arith)) (λ a. let m = b .least i a in omega arith)
@@ -52,15 +52,12 @@ every-out index [] k y h e = absurd (omega arith)
 every-out index (i ∷ es) zero y h e = rw e
 every-out index (i ∷ es) (suc k) y h e = rw (every-out index es k y (omega arith) e) (and-false (names (listOf index i) y))
 
-pub probe-out : (index entries : List ℕ) (k x until b : ℕ) (inside : Bool) → k < length entries → x ≤ b → b ≤ top → inside ≡ false →
+pub probe-out : {index entries : List ℕ} {j x until b : ℕ} {inside : Bool} → StandsIn index entries j x b → x ≤ b → (k : ℕ) → k < length entries → inside ≡ false →
     Steady (names (listOf index (getD entries k 0))) x inside until → Steady (inAll index entries) x false (min until (b + 1))
-probe-out index entries k x until b inside h g m o s =
+probe-out {index} {entries} w g k h o s =
+    let m = w .high in
     let l = s .later in
-    record {
-      later = omega arith;
-      near = omega arith;
-      same = λ y f e. every-out index entries k y h (s .same y f (omega arith) ∙ o);
-    }
+    record { later = omega arith; near = omega arith; same = λ y f e. every-out index entries k y h (s .same y f (omega arith) ∙ o) }
 
 -- ---- the lists below k have x; up to `until` the others decide
 
@@ -70,40 +67,34 @@ pub record Looked (index entries : List ℕ) (x b until k : ℕ) : Type 0 where
   pub near : until ≤ b + 1
   pub left : (y : ℕ) → x ≤ y → y < until → inAll index entries y ≡ inEvery (listsOf index (drop k entries)) y
 
-pub looked-start : (index entries : List ℕ) (x b : ℕ) → x ≤ b → Looked index entries x b (b + 1) 0
-looked-start index entries x b h = record { within = omega arith; later = omega arith; near = omega arith; left = λ y f g. refl }
+pub looked-start : {index entries : List ℕ} {x b : ℕ} → x ≤ b → Looked index entries x b (b + 1) 0
+looked-start h = record { within = omega arith; later = omega arith; near = omega arith; left = λ y f g. refl }
 
 every-next : (index entries : List ℕ) (k y : ℕ) → k < length entries → names (listOf index (getD entries k 0)) y ≡ true →
     inEvery (listsOf index (drop k entries)) y ≡ inEvery (listsOf index (drop (k + 1) entries)) y
 unfolding inEvery
 every-next index entries k y h e = rw (lists-next index entries k h, e)
 
-pub looked-next : (index entries : List ℕ) (x b until k next : ℕ) (inside : Bool) → k < length entries → inside ≡ true → Looked index entries x b until k →
-    Steady (names (listOf index (getD entries k 0))) x inside next → Looked index entries x b (min until next) (k + 1)
-looked-next index entries x b until k next inside h o r s =
-    let a = r .later in
-    let c = r .near in
-    let d = s .later in
-    record {
-      within = omega arith;
-      later = omega arith;
-      near = omega arith;
-      left = λ y f g. r .left y f (omega arith) ∙ every-next index entries k y h (s .same y f (omega arith) ∙ o);
-    }
+module _ {index entries : List ℕ} {x b until k : ℕ} (r : Looked index entries x b until k) where
+  pub looked-next : {next : ℕ} {inside : Bool} → k < length entries → inside ≡ true → Steady (names (listOf index (getD entries k 0))) x inside next →
+      Looked index entries x b (min until next) (k + 1)
+  looked-next h o s =
+      let a = r .later in
+      let c = r .near in
+      let d = s .later in
+      record {
+        within = omega arith;
+        later = omega arith;
+        near = omega arith;
+        left = λ y f g. r .left y f (omega arith) ∙ every-next index entries k y h (s .same y f (omega arith) ∙ o);
+      }
 
-pub looked-end : (index entries : List ℕ) (x b until k : ℕ) → length entries ≤ k → b ≤ top → Looked index entries x b until k →
-    Steady (inAll index entries) x true until
-unfolding inEvery
-looked-end index entries x b until k h m r =
-    let c = r .near in
-    record {
-      later = r .later;
-      near = omega arith;
-      same = λ y f g. r .left y f g ∙ rw (lists-end index entries k h);
-    }
+  pub looked-end : length entries ≤ k → b ≤ recordMax → Steady (inAll index entries) x true until
+  unfolding inEvery
+  looked-end h m = let c = r .near in record { later = r .later; near = omega arith; same = λ y f g. r .left y f g ∙ rw (lists-end index entries k h) }
 
-pub within-later : (index entries : List ℕ) (j a b x : ℕ) → a ≤ x → Within index entries j a b → Within index entries j x b
-within-later index entries j a b x h w = record { asked = w .asked; list = w .list; high = w .high; covers = λ y f g. w .covers y (omega arith) g }
+pub within-later : {index entries : List ℕ} {j a b x : ℕ} → a ≤ x → StandsIn index entries j a b → StandsIn index entries j x b
+within-later h w = record { asked = w .asked; list = w .list; high = w .high; covers = λ y f g. w .covers y (omega arith) g }
 
 -- ---- what is left to put: putting the cells c behind a tally is putting the cells c₀ behind the one before
 
@@ -112,14 +103,14 @@ record Left (writing : Bool) (out₀ : List ℕ) (t₀ : Tally) (c₀ out : List
   records-left : t₀ .records + records c₀ ≡ t .records + records c
   cells-left : cond writing (sets out₀ (2 * t₀ .intervals) c₀) out₀ ≡ cond writing (sets out (2 * t .intervals) c) out
 
-pub cells-put-long : (writing : Bool) (out out′ : List ℕ) (t : Tally) (c : List ℕ) (r : Tally) → CellsPut writing out out′ t c r → length out′ ≡ length out
+pub cells-put-long : (writing : Bool) (out out′ : List ℕ) (t : Tally) (c : List ℕ) (r : Tally) → PiecesPut writing out out′ t c r → length out′ ≡ length out
 cells-put-long true out out′ t c r q = ap length (q .cells) ∙ length-sets out (2 * t .intervals) c
 cells-put-long false out out′ t c r q = ap length (q .cells)
 
-module _ (writing : Bool) (out₀ : List ℕ) (t₀ : Tally) (c₀ out : List ℕ) (t : Tally) where
+module _ {writing : Bool} {out₀ : List ℕ} {t₀ : Tally} {c₀ out : List ℕ} {t : Tally} where
   -- the first interval of what is left fits, where all does
-  left-fits : (l u : ℕ) (c : List ℕ) → l ≤ u → u ≤ top → Left writing out₀ t₀ c₀ out t (l ∷ u ∷ c) → CellsFit writing out₀ t₀ c₀ → Fitting writing out t (record { lower = l; upper = u })
-  left-fits l u c o m s f = record {
+  left-fits : {l u : ℕ} {c : List ℕ} → l ≤ u → u ≤ recordMax → Left writing out₀ t₀ c₀ out t (l ∷ u ∷ c) → PiecesFit writing out₀ t₀ c₀ → Fitting writing out t (record { lower = l; upper = u })
+  left-fits {l} {u} {c} o m s f = record {
     room = λ w. let g = f .room w in omega (arith, s .intervals-left, long w);
     few = let g = f .intervals-small in omega (arith, s .intervals-left);
     small = let g = f .records-small in omega (arith, s .records-left);
@@ -132,10 +123,10 @@ module _ (writing : Bool) (out₀ : List ℕ) (t₀ : Tally) (c₀ out : List �
           let e = rw w at (s .cells-left) in
           sym (length-sets out (2 * t .intervals) (l ∷ u ∷ c)) ∙ ap length (sym e) ∙ length-sets out₀ (2 * t₀ .intervals) c₀
 
-  left-put : (l u : ℕ) (c out′ : List ℕ) (t′ : Tally) → Left writing out₀ t₀ c₀ out t (l ∷ u ∷ c) → Put writing out out′ t (record { lower = l; upper = u }) t′ →
+  left-put : {l u : ℕ} {c out′ : List ℕ} {t′ : Tally} → Left writing out₀ t₀ c₀ out t (l ∷ u ∷ c) → Put writing out out′ t (record { lower = l; upper = u }) t′ →
       Left writing out₀ t₀ c₀ out′ t′ c
   unfolding records
-  left-put l u c out′ t′ s q =
+  left-put {l} {u} {c} {out′} {t′} s q =
       let i = q .intervals-more in
       record {
         intervals-left = omega (arith, s .intervals-left);
@@ -151,7 +142,7 @@ module _ (writing : Bool) (out₀ : List ℕ) (t₀ : Tally) (c₀ out : List �
           rw (e, k) (sets-two out (2 * t .intervals) l u c)
       go false e = sym e
 
-  left-end : Left writing out₀ t₀ c₀ out t [] → CellsPut writing out₀ out t₀ c₀ t
+  left-end : Left writing out₀ t₀ c₀ out t [] → PiecesPut writing out₀ out t₀ c₀ t
   unfolding records
   left-end s = record {
     intervals-more = omega (arith, s .intervals-left);
@@ -198,30 +189,29 @@ pending-end p b o l x h = rw (stretches-end p o b x h) (pending-turn o false l x
 pub record Cut (p : ℕ → Bool) (a b : ℕ) (writing : Bool) (out₀ : List ℕ) (t₀ : Tally) (out : List ℕ) (t : Tally) (o : Bool) (l x : ℕ) : Type 0 where
   pub near : (a ≤ x) × (x ≤ b + 1)
   pub begun : o ≡ true → l < x
-  left : Left writing out₀ t₀ (between p a b) out t (pending p b o l x)
+  left : Left writing out₀ t₀ (cellsBetween p a b) out t (pending p b o l x)
 
-pub cut-start : (p : ℕ → Bool) (a b : ℕ) (writing : Bool) (out : List ℕ) (t : Tally) (l : ℕ) → a ≤ b → Cut p a b writing out t out t false l a
-unfolding between
-cut-start p a b w out t l h =
-    record {
-      near = (omega arith, omega arith);
-      begun = λ e. true-false (sym e);
-      left = record { intervals-left = refl; records-left = refl; cells-left = refl };
-    }
+pub cut-start : {p : ℕ → Bool} {a b : ℕ} {writing : Bool} {out : List ℕ} {t : Tally} {l : ℕ} → a ≤ b → Cut p a b writing out t out t false l a
+unfolding cellsBetween
+cut-start h = record {
+  near = (omega arith, omega arith);
+  begun = λ e. true-false (sym e);
+  left = record { intervals-left = refl; records-left = refl; cells-left = refl };
+}
 
 module _ {p : ℕ → Bool} {a b : ℕ} {writing : Bool} {out₀ : List ℕ} {t₀ : Tally} {out : List ℕ} {t : Tally} {o : Bool} {l x : ℕ}
     (c : Cut p a b writing out₀ t₀ out t o l x) where
-  part-fits : (v : Bool) (r : List ℕ) → b ≤ top → CellsFit writing out₀ t₀ (between p a b) → pending p b o l x ≡ closed (closes o v) l x r → closes o v ≡ true →
+  part-fits : (v : Bool) (r : List ℕ) → b ≤ recordMax → PiecesFit writing out₀ t₀ (cellsBetween p a b) → pending p b o l x ≡ closed (closes o v) l x r → closes o v ≡ true →
       Fitting writing out t (upTo l x)
   part-fits v r m f e k =
       let n = c .near in
       let g = c .begun (and-both o (not v) k .0) in
-      left-fits writing out₀ t₀ (between p a b) out t l (x - 1) r (omega arith) (omega arith) (rw (e, k) at (c .left)) f
+      left-fits (omega arith) (omega arith) (rw (e, k) at (c .left)) f
 
-  pub cut-fits : {v : Bool} {u : ℕ} → b ≤ top → CellsFit writing out₀ t₀ (between p a b) → Steady p x v u → u ≤ b + 1 → closes o v ≡ true → Fitting writing out t (upTo l x)
+  pub cut-fits : {v : Bool} {u : ℕ} → b ≤ recordMax → PiecesFit writing out₀ t₀ (cellsBetween p a b) → Steady p x v u → u ≤ b + 1 → closes o v ≡ true → Fitting writing out t (upTo l x)
   cut-fits {v} {u} m f s h = part-fits v (pending p b v (lowerOn o l x) u) m f (pending-next p b o v l x u s h)
 
-  pub cut-end-fits : b ≤ top → CellsFit writing out₀ t₀ (between p a b) → b < x → closes o false ≡ true → Fitting writing out t (upTo l x)
+  pub cut-end-fits : b ≤ recordMax → PiecesFit writing out₀ t₀ (cellsBetween p a b) → b < x → closes o false ≡ true → Fitting writing out t (upTo l x)
   cut-end-fits m f h = part-fits false [] m f (pending-end p b o l x h)
 
   begun-next : (o v : Bool) (u : ℕ) → (o ≡ true → l < x) → x < u → v ≡ true → lowerOn o l x < u
@@ -229,10 +219,10 @@ module _ {p : ℕ → Bool} {a b : ℕ} {writing : Bool} {out₀ : List ℕ} {t�
   begun-next false v u f h e = h
 
   left-next : (v : Bool) (r out′ : List ℕ) (t′ : Tally) → pending p b o l x ≡ closed (closes o v) l x r → PutWhere (closes o v) writing out out′ t (upTo l x) t′ →
-      Left writing out₀ t₀ (between p a b) out′ t′ r
+      Left writing out₀ t₀ (cellsBetween p a b) out′ t′ r
   left-next v r out′ t′ e q =
       by-test (closes o v)
-      (λ k. left-put writing out₀ t₀ (between p a b) out t l (x - 1) r out′ t′ (rw (e, k) at (c .left)) (q .0 k))
+      (λ k. left-put (rw (e, k) at (c .left)) (q .0 k))
       (λ k. rw (q .1 k .0, q .1 k .1) (rw (e, k) at (c .left)))
 
   pub cut-next : {v : Bool} {u : ℕ} {out′ : List ℕ} {t′ : Tally} → Steady p x v u → u ≤ b + 1 → PutWhere (closes o v) writing out out′ t (upTo l x) t′ →
@@ -246,5 +236,5 @@ module _ {p : ℕ → Bool} {a b : ℕ} {writing : Bool} {out₀ : List ℕ} {t�
         left = left-next v (pending p b v (lowerOn o l x) u) out′ t′ (pending-next p b o v l x u s h) q;
       }
 
-  pub cut-end : {out′ : List ℕ} {t′ : Tally} → b < x → PutWhere (closes o false) writing out out′ t (upTo l x) t′ → CellsPut writing out₀ out′ t₀ (between p a b) t′
-  cut-end {out′} {t′} h q = left-end writing out₀ t₀ (between p a b) out′ t′ (left-next false [] out′ t′ (pending-end p b o l x h) q)
+  pub cut-end : {out′ : List ℕ} {t′ : Tally} → b < x → PutWhere (closes o false) writing out out′ t (upTo l x) t′ → PiecesPut writing out₀ out′ t₀ (cellsBetween p a b) t′
+  cut-end {out′} {t′} h q = left-end (left-next false [] out′ t′ (pending-end p b o l x h) q)

@@ -5,8 +5,10 @@ use mathlib.Core.Bool.{Bool, true, false, not, cond, _&&_}
 use mathlib.Core.List.{List}
 use lib.ListN.{length, getD}
 use lib.Seq.{sets}
+use Rattle.limits.specs.Limits.{recordMax}
 use Rattle.list.specs.declared.answer.Tally.{Tally}
-use Rattle.list.specs.Interval.{top, names, intervals, records}
+use Rattle.list.specs.declared.reading.Interval.{Interval}
+use Rattle.list.specs.Interval.{names, intervals, records}
 use Rattle.list.specs.Stretches.{stretches}
 use Rattle.list.specs.Ginix.{inEvery}
 use Rattle.index.specs.Format.{listOf}
@@ -18,17 +20,17 @@ pub record Shortest (index entries : List ℕ) (j : ℕ) : Type 0 where
   pub least : (i : ℕ) → i < length entries → intervals (listOf index (getD entries j 0)) ≤ intervals (listOf index (getD entries i 0))
 
 -- the proper list of the numbers from a to b at which the test holds
-unfoldable pub between : (ℕ → Bool) → ℕ → ℕ → List ℕ
-between test a b = stretches test false a (b + 1 - a)
+unfoldable pub cellsBetween : (ℕ → Bool) → ℕ → ℕ → List ℕ
+cellsBetween test a b = stretches test false a (b + 1 - a)
 
 -- the cells c can be counted, and where the list is written they have room, behind what is counted
-pub record CellsFit (writing : Bool) (out : List ℕ) (t : Tally) (c : List ℕ) : Type 0 where
+pub record PiecesFit (writing : Bool) (out : List ℕ) (t : Tally) (c : List ℕ) : Type 0 where
   pub room : writing ≡ true → 2 * t .intervals + length c ≤ length out
-  pub intervals-small : t .intervals + intervals c ≤ top
-  pub records-small : t .records + records c ≤ top
+  pub intervals-small : t .intervals + intervals c ≤ recordMax
+  pub records-small : t .records + records c ≤ recordMax
 
 -- they are counted, and written where the list is
-pub record CellsPut (writing : Bool) (out out′ : List ℕ) (t : Tally) (c : List ℕ) (r : Tally) : Type 0 where
+pub record PiecesPut (writing : Bool) (out out′ : List ℕ) (t : Tally) (c : List ℕ) (r : Tally) : Type 0 where
   pub intervals-more : r .intervals ≡ t .intervals + intervals c
   pub records-more : r .records ≡ t .records + records c
   pub cells : out′ ≡ cond writing (sets out (2 * t .intervals) c) out
@@ -37,11 +39,15 @@ pub record CellsPut (writing : Bool) (out out′ : List ℕ) (t : Tally) (c : Li
 abbrev pub inAll : List ℕ → List ℕ → ℕ → Bool
 inAll index entries = inEvery (listsOf index entries)
 
+-- what of an interval stands in every list
+abbrev pub piecesIn : List ℕ → List ℕ → Interval → List ℕ
+piecesIn index entries i = cellsBetween (inAll index entries) (i .lower) (i .upper)
+
 -- [a, b] stands in list j of the request
-pub record Within (index entries : List ℕ) (j a b : ℕ) : Type 0 where
+pub record StandsIn (index entries : List ℕ) (j a b : ℕ) : Type 0 where
   pub asked : SoundRequest index entries
   pub list : j < length entries
-  pub high : b ≤ top
+  pub high : b ≤ recordMax
   pub covers : (y : ℕ) → a ≤ y → y ≤ b → names (listOf index (getD entries j 0)) y ≡ true
 
 -- a piece that is open where x comes ends before x, unless x is in

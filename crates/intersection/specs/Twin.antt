@@ -3,9 +3,9 @@ use mathlib.Core.Path.{_≡_}
 use Prim.Native.Nat.{ℕ, _+_, _-_, _*_, _≤_, _<_}
 use mathlib.Core.List.{List}
 use lib.ListN.{length, getD, take}
+use Rattle.limits.specs.Limits.{joinMax, recordMax}
 use Rattle.list.specs.declared.Place.{Place}
-use Rattle.list.specs.Interval.{top}
-use Rattle.list.specs.Kept.{nextPlace, lowerAt, upperAt}
+use Rattle.list.specs.Kept.{start, nextPlace, lowerAt, upperAt}
 use Rattle.list.specs.Reading.{Goes}
 use Rattle.heap.specs.Heap.{countOf, IsHeap}
 use Rattle.merge.specs.Places.{entrySingles, entryLowers, entryUppers}
@@ -22,12 +22,16 @@ nextUpper index entries i at = upperAt (entrySingles index (getD entries i 0)) (
 
 -- an upper bound and whose it is, as one number: the least of them has the least upper bound
 abbrev pub keyOf : ℕ → ℕ → ℕ
-keyOf u i = u * 16 + i
+keyOf u i = u * joinMax + i
 
 -- in every list of a request an interval is next, and its lower bound is a record's number
 pub record Standing (index entries : List ℕ) (at : ℕ → Place) : Type 0 where
   pub goes : (i : ℕ) → i < length entries → Goes (entrySingles index (getD entries i 0)) (entryLowers index (getD entries i 0)) (at i)
-  pub small : (i : ℕ) → i < length entries → nextLower index entries i (at i) ≤ top
+  pub small : (i : ℕ) → i < length entries → nextLower index entries i (at i) ≤ recordMax
+
+-- so of places of their own
+abbrev pub StandingAt : List ℕ → List ℕ → List Place → Type 0
+StandingAt index entries places = Standing index entries (λ i. getD places i start)
 
 -- the upper bounds of the intervals that are next in the first `size` lists, in a heap
 pub record Frontier (index entries : List ℕ) (at : ℕ → Place) (size : ℕ) (uppers : List ℕ) : Type 0 where
@@ -38,11 +42,8 @@ pub record Frontier (index entries : List ℕ) (at : ℕ → Place) (size : ℕ)
   pub bag : (y : ℕ) → countOf y (take size uppers) ≡ countOf y keys
 
 -- a lower bound by what it lacks to a number above them all: the least of these is of the largest lower bound
-abbrev pub limit : ℕ
-limit = 16777216
-
 abbrev pub lackOf : ℕ → ℕ
-lackOf l = limit - l
+lackOf l = recordMax + 1 - l
 
 -- the lower bounds of the intervals that are next in the first `lists` lists, in a heap whose front is the largest:
 -- each is there, and whatever else is there is no larger than one of them
@@ -50,3 +51,7 @@ pub record Lowers (index entries : List ℕ) (at : ℕ → Place) (lists size : 
   pub heap : IsHeap (take size lowers)
   pub all : (i : ℕ) → i < lists → 0 < countOf (lackOf (nextLower index entries i (at i))) (take size lowers)
   pub others : (y : ℕ) → 0 < countOf y (take size lowers) → (i : ℕ) × (i < lists) × (lackOf (nextLower index entries i (at i)) ≤ y)
+
+-- those of all lists, each at its own place
+abbrev pub AllLowers : List ℕ → List ℕ → List Place → ℕ → List ℕ → Type 0
+AllLowers index entries places size lowers = Lowers index entries (λ i. getD places i start) (length entries) size lowers

@@ -3,19 +3,19 @@ ghost use mathlib.Core.Path.{_≡_};
 ghost use mathlib.Core.Bool.{true};
 ghost use Prim.Native.Nat.{_+_, _≤_, _<_};
 ghost use lib.ListN.{length, getD};
+ghost use Rattle.limits.specs.Limits.{recordMax};
 ghost use Rattle.list.specs.Ginix.{intersectionOf};
-ghost use Rattle.list.specs.Interval.{top, names};
+ghost use Rattle.list.specs.Interval.{names};
 ghost use Rattle.list.specs.Sense.{Steady};
 ghost use Rattle.index.specs.Format.{listOf};
+ghost use Rattle.directory.specs.Regions.{EntryIn};
 ghost use Rattle.merge.specs.Request.{SoundRequest, listsOf};
-ghost use Rattle.merge.specs.Places.{EntryIn};
 ghost use Rattle.merge.specs.Put.{Fitting, PutWhere, upTo};
-ghost use Rattle.merge.specs.Sweep.{Sweeps};
-ghost use Rattle.intersection.specs.Probing.{Shortest, between, CellsFit, CellsPut, inAll, Within, closes, lowerOn};
+ghost use Rattle.list.specs.Answer.{HasRoom, Sweeps};
+ghost use Rattle.intersection.specs.Probing.{Shortest, PiecesFit, PiecesPut, inAll, piecesIn, StandsIn, closes, lowerOn};
+use directory::parts::Regions;
 use directory::parts::interval_count;
-use directory::parts::lower_of;
-use directory::parts::singles_of;
-use directory::parts::upper_of;
+use directory::parts::regions_of;
 use list::PairAt;
 use list::Place;
 use list::SingleAt;
@@ -50,23 +50,26 @@ fn shortest(index: &[u8], entries: &[u32]) -> usize
 
 // What the list of an entry says of x, and how long it says so: by binary search.
 fn sense_in(index: &[u8], entry: usize, x: u32) -> Sense
-    requires { ⌜ EntryIn (now index) entry × (x ≤ top) ⌝ }
+    requires entry { ⌜ EntryIn (now index) entry ⌝ }
+    requires high { ⌜ x ≤ recordMax ⌝ }
     ensures { λ r. ⌜ Steady (names (listOf (now (index .entry)) entry)) x (r .inside) (r .until) ⌝ }
 {
-    let singles = singles_of(index, entry);
-    let lower = lower_of(index, entry);
-    let upper = upper_of(index, entry);
+    let Regions { s, l, u, end } = regions_of(index, entry);
+    let singles = &index[s..l];
+    let upper = &index[u..end];
     let start = Place {
         p: SingleAt(0),
         q: PairAt(0),
     };
     let at = reading_place(singles, upper, start, x);
-    sense_at(singles, lower, upper, at, x)
+    sense_at(singles, &index[l..u], upper, at, x)
 }
 
 // The same of list k of a request, where [x, b] is known to stand in list j: that one is not searched.
 fn sense_of(index: &[u8], entries: &[u32], j: usize, k: usize, x: u32, b: u32) -> Sense
-    requires { ⌜ Within (now index) (now entries) j x b × (x ≤ b) × (k < length (now entries)) ⌝ }
+    requires within { ⌜ StandsIn (now index) (now entries) j x b ⌝ }
+    requires order { ⌜ x ≤ b ⌝ }
+    requires list { ⌜ k < length (now entries) ⌝ }
     ensures { λ r. ⌜ Steady (names (listOf (now (index .entry)) (getD (now (entries .entry)) k 0))) x (r .inside) (r .until) ⌝ }
 {
     if k == j {
@@ -81,8 +84,10 @@ fn sense_of(index: &[u8], entries: &[u32], j: usize, k: usize, x: u32, b: u32) -
 // Probes [x, b], which stands in list j, in every list: whether x is in all of them, and up to where that stays so, within the probe.
 // The first list that x is not in decides.
 fn probe(index: &[u8], entries: &[u32], j: usize, x: u32, b: u32) -> Sense
-    requires { ⌜ Within (now index) (now entries) j x b × (x ≤ b) ⌝ }
-    ensures { λ r. ⌜ Steady (inAll (now (index .entry)) (now (entries .entry))) x (r .inside) (r .until) × (r .until ≤ b + 1) ⌝ }
+    requires within { ⌜ StandsIn (now index) (now entries) j x b ⌝ }
+    requires order { ⌜ x ≤ b ⌝ }
+    ensures steady { λ r. ⌜ Steady (inAll (now (index .entry)) (now (entries .entry))) x (r .inside) (r .until) ⌝ }
+    ensures near { λ r. ⌜ r .until ≤ b + 1 ⌝ }
 {
     let mut until = b + 1;
     let mut k = 0;
@@ -111,7 +116,8 @@ pub struct Piece {
 
 // The piece behind x, by whether x is in.
 fn next_piece(piece: Piece, x: u32, inside: bool) -> Piece
-    ensures { λ r. ⌜ (r .open ≡ inside) × (r .lower ≡ lowerOn (piece .open) (piece .lower) x) ⌝ }
+    ensures state { λ r. ⌜ r .open ≡ inside ⌝ }
+    ensures lower { λ r. ⌜ r .lower ≡ lowerOn (piece .open) (piece .lower) x ⌝ }
 {
     if piece.open {
         Piece {
@@ -135,7 +141,8 @@ fn close_piece(
     x: u32,
     inside: bool,
 ) -> Tally
-    requires { ⌜ (piece .open ≡ true → piece .lower < x) × (closes (piece .open) inside ≡ true → Fitting writing (now out) tally (upTo (piece .lower) x)) ⌝ }
+    requires begun { ⌜ (piece .open ≡ true → piece .lower < x) ⌝ }
+    requires fits { ⌜ (closes (piece .open) inside ≡ true → Fitting writing (now out) tally (upTo (piece .lower) x)) ⌝ }
     ensures { λ r. ⌜ PutWhere (closes (piece .open) inside) writing (now (out .entry)) (now (out .exit)) tally (upTo (piece .lower) x) r ⌝ }
 {
     if inside {
@@ -161,8 +168,10 @@ fn put_within(
     out: &mut [u32],
     before: Tally,
 ) -> Tally
-    requires { ⌜ Within (now index) (now entries) j (within .lower) (within .upper) × (within .lower ≤ within .upper) × CellsFit writing (now out) before (between (inAll (now index) (now entries)) (within .lower) (within .upper)) ⌝ }
-    ensures { λ r. ⌜ CellsPut writing (now (out .entry)) (now (out .exit)) before (between (inAll (now (index .entry)) (now (entries .entry))) (within .lower) (within .upper)) r ⌝ }
+    requires within { ⌜ StandsIn (now index) (now entries) j (within .lower) (within .upper) ⌝ }
+    requires order { ⌜ within .lower ≤ within .upper ⌝ }
+    requires fits { ⌜ PiecesFit writing (now out) before (piecesIn (now index) (now entries) within) ⌝ }
+    ensures { λ r. ⌜ PiecesPut writing (now (out .entry)) (now (out .exit)) before (piecesIn (now (index .entry)) (now (entries .entry)) within) r ⌝ }
 {
     let b = within.upper;
     let mut x = within.lower;
@@ -182,14 +191,16 @@ fn put_within(
 
 // Counts, and writes, the intersection of the lists of a request: the shortest is walked, and each of its intervals is probed in the others.
 pub fn sweep_probing(index: &[u8], entries: &[u32], writing: bool, out: &mut [u32]) -> Tally
-    requires { ⌜ SoundRequest (now index) (now entries) × (writing ≡ true → length (intersectionOf (listsOf (now index) (now entries))) ≤ length (now out)) ⌝ }
+    requires sound { ⌜ SoundRequest (now index) (now entries) ⌝ }
+    requires room { ⌜ HasRoom (intersectionOf (listsOf (now index) (now entries))) writing (now out) ⌝ }
     ensures { λ r. ⌜ Sweeps (intersectionOf (listsOf (now (index .entry)) (now (entries .entry)))) writing (now (out .entry)) (now (out .exit)) r ⌝ }
 {
     let j = shortest(index, entries);
     let entry = entries[j] as usize;
-    let singles = singles_of(index, entry);
-    let lower = lower_of(index, entry);
-    let upper = upper_of(index, entry);
+    let Regions { s, l, u, end } = regions_of(index, entry);
+    let singles = &index[s..l];
+    let lower = &index[l..u];
+    let upper = &index[u..end];
     let count = singles.len() / 4 + lower.len() / 4;
     let mut at = Place {
         p: SingleAt(0),

@@ -2,48 +2,50 @@
 // say where all overlap. The upper bounds stand in a min-heap, the lower bounds in a max-heap. Where a list moves on, its new lower bound is
 // larger than the one it leaves behind, which is therefore never the largest again: it stays until the max-heap is full and is filled anew.
 ghost use mathlib.Core.Path.{_≡_};
-ghost use mathlib.Core.Bool.{true};
-ghost use Prim.Native.Nat.{_≤_, _<_};
+ghost use Prim.Native.Nat.{_*_, _≤_, _<_};
 ghost use lib.Dec.{leb};
-ghost use lib.ListN.{length, getD};
+ghost use lib.ListN.{length};
+ghost use Rattle.limits.specs.Limits.{joinMax, recordMax};
 ghost use Rattle.list.specs.Ginix.{intersectionOf};
-ghost use Rattle.list.specs.Interval.{top};
 ghost use Rattle.list.specs.Kept.{start};
 ghost use Rattle.merge.specs.Request.{SoundRequest, listsOf};
 ghost use Rattle.merge.specs.Put.{Fitting, PutWhere};
-ghost use Rattle.merge.specs.Sweep.{Sweeps};
-ghost use Rattle.intersection.specs.Twin.{keyOf, Standing, Frontier, Lowers};
+ghost use Rattle.list.specs.Answer.{HasRoom, Sweeps};
+ghost use Rattle.intersection.specs.Twin.{keyOf, StandingAt, Frontier, AllLowers};
 use heap::push;
 use heap::replace_least;
+use limits::JOIN_MAX;
+use list::END;
 use list::PairAt;
 use list::Place;
 use list::SingleAt;
 use list::answer::Tally;
 use list::reading::Interval;
+use merge::keys::LISTS;
 use merge::places::all_at_start;
 use merge::places::moved_on;
 use merge::places::next_interval;
 use merge::places::used_up;
 use merge::put::put;
 
-// Above every record's number.
-const LIMIT: u32 = 16_777_216;
-
 // The most lower bounds that stand in their heap: two of each list.
-const LOWERS: usize = 32;
+const LOWERS: usize = 2 * JOIN_MAX;
 
 // An upper bound and the list that it is of.
 fn key_of(upper: u32, j: usize) -> u32
-    requires { ⌜ (upper ≤ top) × (j < 16) ⌝ }
+    requires high { ⌜ upper ≤ recordMax ⌝ }
+    requires list { ⌜ j < joinMax ⌝ }
     ensures { λ r. ⌜ r ≡ keyOf upper j ⌝ }
 {
-    upper * 16 + j as u32
+    upper * LISTS + j as u32
 }
 
 // Puts the upper bound of each list's first interval on its heap.
 fn first_uppers(index: &[u8], entries: &[u32], uppers: &mut [u32])
-    requires { ⌜ SoundRequest (now index) (now entries) × (length (now uppers) ≡ 16) ⌝ }
-    ensures { λ _. ⌜ Frontier (now (index .entry)) (now (entries .entry)) (λ i. start) (length (now (entries .entry))) (now (uppers .exit)) × (length (now (uppers .exit)) ≡ 16) ⌝ }
+    requires sound { ⌜ SoundRequest (now index) (now entries) ⌝ }
+    requires room { ⌜ length (now uppers) ≡ joinMax ⌝ }
+    ensures fills { λ _. ⌜ Frontier (now (index .entry)) (now (entries .entry)) (λ i. start) (length (now (entries .entry))) (now (uppers .exit)) ⌝ }
+    ensures keeps { λ _. ⌜ length (now (uppers .exit)) ≡ joinMax ⌝ }
 {
     let mut j = 0;
     while j < entries.len() {
@@ -60,15 +62,18 @@ fn first_uppers(index: &[u8], entries: &[u32], uppers: &mut [u32])
     }
 }
 
-// Fills the heap of lower bounds: one of each list, at its place. A heap has its least in front, so each stands by what it lacks to LIMIT.
-fn fill_lowers(index: &[u8], entries: &[u32], places: [Place; 16], lowers: &mut [u32])
-    requires { ⌜ SoundRequest (now index) (now entries) × Standing (now index) (now entries) (λ i. getD places i start) × (length (now lowers) ≡ 32) ⌝ }
-    ensures { λ _. ⌜ Lowers (now (index .entry)) (now (entries .entry)) (λ i. getD places i start) (length (now (entries .entry))) (length (now (entries .entry))) (now (lowers .exit)) × (length (now (lowers .exit)) ≡ 32) ⌝ }
+// Fills the heap of lower bounds: one of each list, at its place. A heap has its least in front, so each stands by what it lacks to END.
+fn fill_lowers(index: &[u8], entries: &[u32], places: [Place; JOIN_MAX], lowers: &mut [u32])
+    requires sound { ⌜ SoundRequest (now index) (now entries) ⌝ }
+    requires stands { ⌜ StandingAt (now index) (now entries) places ⌝ }
+    requires room { ⌜ length (now lowers) ≡ 2 * joinMax ⌝ }
+    ensures fills { λ _. ⌜ AllLowers (now (index .entry)) (now (entries .entry)) places (length (now (entries .entry))) (now (lowers .exit)) ⌝ }
+    ensures keeps { λ _. ⌜ length (now (lowers .exit)) ≡ 2 * joinMax ⌝ }
 {
     let mut j = 0;
     while j < entries.len() {
         let next = next_interval(index, entries[j] as usize, places[j]);
-        push(lowers, j, LIMIT - next.lower);
+        push(lowers, j, END - next.lower);
         j += 1;
     }
 }
@@ -77,12 +82,17 @@ fn fill_lowers(index: &[u8], entries: &[u32], places: [Place; 16], lowers: &mut 
 fn with_room(
     index: &[u8],
     entries: &[u32],
-    places: [Place; 16],
+    places: [Place; JOIN_MAX],
     lowers: &mut [u32],
     size: usize,
 ) -> usize
-    requires { ⌜ SoundRequest (now index) (now entries) × Standing (now index) (now entries) (λ i. getD places i start) × (length (now lowers) ≡ 32) × Lowers (now index) (now entries) (λ i. getD places i start) (length (now entries)) size (now lowers) ⌝ }
-    ensures { λ r. ⌜ Lowers (now (index .entry)) (now (entries .entry)) (λ i. getD places i start) (length (now (entries .entry))) r (now (lowers .exit)) × (length (now (lowers .exit)) ≡ 32) × (r < 32) ⌝ }
+    requires sound { ⌜ SoundRequest (now index) (now entries) ⌝ }
+    requires stands { ⌜ StandingAt (now index) (now entries) places ⌝ }
+    requires long { ⌜ length (now lowers) ≡ 2 * joinMax ⌝ }
+    requires filled { ⌜ AllLowers (now index) (now entries) places size (now lowers) ⌝ }
+    ensures fills { λ r. ⌜ AllLowers (now (index .entry)) (now (entries .entry)) places r (now (lowers .exit)) ⌝ }
+    ensures keeps { λ _. ⌜ length (now (lowers .exit)) ≡ 2 * joinMax ⌝ }
+    ensures room { λ r. ⌜ r < 2 * joinMax ⌝ }
 {
     if size < LOWERS {
         return size;
@@ -104,13 +114,14 @@ fn put_overlap(out: &mut [u32], writing: bool, tally: Tally, overlap: Interval) 
 
 // Counts, and writes, the intersection of the lists of a request. It ends with the first list that is used up.
 pub fn sweep_twin(index: &[u8], entries: &[u32], writing: bool, out: &mut [u32]) -> Tally
-    requires { ⌜ SoundRequest (now index) (now entries) × (writing ≡ true → length (intersectionOf (listsOf (now index) (now entries))) ≤ length (now out)) ⌝ }
+    requires sound { ⌜ SoundRequest (now index) (now entries) ⌝ }
+    requires room { ⌜ HasRoom (intersectionOf (listsOf (now index) (now entries))) writing (now out) ⌝ }
     ensures { λ r. ⌜ Sweeps (intersectionOf (listsOf (now (index .entry)) (now (entries .entry)))) writing (now (out .entry)) (now (out .exit)) r ⌝ }
 {
-    let mut uppers = [0; 16];
+    let mut uppers = [0; JOIN_MAX];
     first_uppers(index, entries, &mut uppers);
     let mut places = all_at_start();
-    let mut lowers = [0; 32];
+    let mut lowers = [0; LOWERS];
     fill_lowers(index, entries, places, &mut lowers);
     let mut size = entries.len();
     let mut tally = Tally {
@@ -119,13 +130,13 @@ pub fn sweep_twin(index: &[u8], entries: &[u32], writing: bool, out: &mut [u32])
     };
     loop {
         size = with_room(index, entries, places, &mut lowers, size);
-        let largest = LIMIT - lowers[0];
+        let largest = END - lowers[0];
         let least = uppers[0];
         let overlap = Interval {
             lower: largest,
-            upper: least / 16,
+            upper: least / LISTS,
         };
-        let j = (least % 16) as usize;
+        let j = (least % LISTS) as usize;
         let entry = entries[j] as usize;
         tally = put_overlap(out, writing, tally, overlap);
         places = moved_on(index, entry, places, j);
@@ -135,7 +146,7 @@ pub fn sweep_twin(index: &[u8], entries: &[u32], writing: bool, out: &mut [u32])
         }
         let next = next_interval(index, entry, at);
         replace_least(&mut uppers, entries.len(), key_of(next.upper, j));
-        push(&mut lowers, size, LIMIT - next.lower);
+        push(&mut lowers, size, END - next.lower);
         size += 1;
     }
 }

@@ -4,7 +4,8 @@ use Prim.Native.Nat.{ℕ, _+_, _≤_, _<_}
 use mathlib.Core.Bool.{Bool, true, false}
 use mathlib.Core.List.{List, [], _∷_}
 use lib.ListN.{length, getD, drop}
-use Rattle.list.specs.Interval.{top, isProper, names, intervals}
+use Rattle.limits.specs.Limits.{recordMax}
+use Rattle.list.specs.Interval.{isProper, names, intervals}
 use Rattle.list.specs.Ginix.{inSome, unionOf, inEvery, intersectionOf}
 use Rattle.list.proofs.NamesLaws.{proper-names-zero}
 use Rattle.list.proofs.StretchLaws.{proper-cells}
@@ -20,15 +21,15 @@ unfoldable testsOf : List (List ℕ) → List (ℕ → Bool)
 testsOf [] = []
 testsOf (c ∷ cs) = names c ∷ testsOf cs
 
-all-out : (cs : List (List ℕ)) → AllProper top cs → AllOut (testsOf cs) 0
+all-out : (cs : List (List ℕ)) → AllProper recordMax cs → AllOut (testsOf cs) 0
 unfolding testsOf
 all-out [] p = tt
-all-out (c ∷ cs) p = (proper-names-zero top c (p .0), all-out cs (p .1))
+all-out (c ∷ cs) p = (proper-names-zero recordMax c (p .0), all-out cs (p .1))
 
-tests-together : (cs : List (List ℕ)) → AllProper top cs → together (testsOf cs) top ≡ intervalSum cs
+tests-together : (cs : List (List ℕ)) → AllProper recordMax cs → together (testsOf cs) recordMax ≡ intervalSum cs
 unfolding testsOf together intervalSum
 tests-together [] p = refl
-tests-together (c ∷ cs) p = rw (← proper-cells top c (p .0), tests-together cs (p .1))
+tests-together (c ∷ cs) p = rw (← proper-cells recordMax c (p .0), tests-together cs (p .1))
 
 some-still : (cs : List (List ℕ)) (x : ℕ) → Still (testsOf cs) x → inSome cs x ≡ inSome cs (x + 1)
 unfolding testsOf inSome
@@ -40,26 +41,26 @@ unfolding testsOf inEvery
 every-still [] x s = refl
 every-still (c ∷ cs) x s = rw (s .0, every-still cs x (s .1))
 
-some-zero : (cs : List (List ℕ)) → AllProper top cs → inSome cs 0 ≡ false
+some-zero : (cs : List (List ℕ)) → AllProper recordMax cs → inSome cs 0 ≡ false
 unfolding inSome
 some-zero [] p = refl
-some-zero (c ∷ cs) p = rw (proper-names-zero top c (p .0)) (some-zero cs (p .1))
+some-zero (c ∷ cs) p = rw (proper-names-zero recordMax c (p .0)) (some-zero cs (p .1))
 
-pub union-bound : (cs : List (List ℕ)) → AllProper top cs → intervals (unionOf cs) ≤ intervalSum cs
+pub union-bound : (cs : List (List ℕ)) → AllProper recordMax cs → intervals (unionOf cs) ≤ intervalSum cs
 unfolding unionOf
 union-bound cs p =
-    rw (← tests-together cs p) (cells-bound (inSome cs) (testsOf cs) top (some-zero cs p) (all-out cs p) (λ x h s. some-still cs x s))
+    rw (← tests-together cs p) (cells-bound (inSome cs) (testsOf cs) recordMax (some-zero cs p) (all-out cs p) (λ x h s. some-still cs x s))
 
-every-zero : (c : List ℕ) (cs : List (List ℕ)) → isProper top c ≡ true → inEvery (c ∷ cs) 0 ≡ false
+every-zero : (c : List ℕ) (cs : List (List ℕ)) → isProper recordMax c ≡ true → inEvery (c ∷ cs) 0 ≡ false
 unfolding inEvery
-every-zero c cs p = rw (proper-names-zero top c p)
+every-zero c cs p = rw (proper-names-zero recordMax c p)
 
 -- of at least one list
-pub intersection-bound : (c : List ℕ) (cs : List (List ℕ)) → AllProper top (c ∷ cs) → intervals (intersectionOf (c ∷ cs)) ≤ intervalSum (c ∷ cs)
+pub intersection-bound : (c : List ℕ) (cs : List (List ℕ)) → AllProper recordMax (c ∷ cs) → intervals (intersectionOf (c ∷ cs)) ≤ intervalSum (c ∷ cs)
 unfolding intersectionOf
 intersection-bound c cs p =
     rw (← tests-together (c ∷ cs) p)
-    (cells-bound (inEvery (c ∷ cs)) (testsOf (c ∷ cs)) top (every-zero c cs (p .0)) (all-out (c ∷ cs) p) (λ x h s. every-still (c ∷ cs) x s))
+    (cells-bound (inEvery (c ∷ cs)) (testsOf (c ∷ cs)) recordMax (every-zero c cs (p .0)) (all-out (c ∷ cs) p) (λ x h s. every-still (c ∷ cs) x s))
 
 -- ---- summed list by list
 

@@ -11,7 +11,7 @@ use Rattle.laws.proofs.Tests.{or-neither, leb-cases}
 use Rattle.refusal.specs.declared.Found.{Found}
 use Rattle.refusal.specs.declared.Found.the-variants.{At, Nowhere}
 use Rattle.refusal.specs.declared.Refusal.{Refusal}
-use Rattle.refusal.specs.declared.Refusal.the-variants.{ListCount, EntryNumber}
+use Rattle.refusal.specs.declared.Refusal.the-variants.{Lists, EntryNumber}
 use Rattle.refusal.specs.First.{first}
 use Rattle.refusal.proofs.FirstLaws.{first-none}
 use Rattle.index.specs.declared.Checked.{Checked}
@@ -34,11 +34,11 @@ module _ (index entries : List ℕ) (i : ℕ) where
   number-good h = lt-leb (wordCount index) (getD entries i 0) h
 
 module _ (index entries : List ℕ) where
-  pub entries-none : length entries ≡ 0 → entriesOf index entries ≡ Refused (ListCount (length entries))
+  pub entries-none : length entries ≡ 0 → entriesOf index entries ≡ Refused (Lists (length entries))
   unfolding entriesOf badListCount
   entries-none e = rw (eq-eqb (length entries) 0 e)
 
-  pub entries-many : 16 < length entries → entriesOf index entries ≡ Refused (ListCount (length entries))
+  pub entries-many : 16 < length entries → entriesOf index entries ≡ Refused (Lists (length entries))
   unfolding entriesOf badListCount
   entries-many h = rw (ne-eqb (length entries) 0 (λ (e : length entries ≡ 0). omega arith), lt-ltb 16 (length entries) h)
 
@@ -76,7 +76,7 @@ pub request-asked : (index entries : List ℕ) → requestOf index entries ≡ G
 unfolding requestOf entriesOf badListCount badEntryNumber
 request-asked index entries e =
     let a = checked-good (checkOf index) (entriesOf index entries) e in
-    let b = cond-good (badListCount entries) (ListCount (length entries)) (entriesAfter (first (badEntryNumber index entries) (length entries))) (a .1) in
+    let b = cond-good (badListCount entries) (Lists (length entries)) (entriesAfter (first (badEntryNumber index entries) (length entries))) (a .1) in
     let d = or-neither (eqb (length entries) 0) (ltb 16 (length entries)) (b .0) in
     let f = numbers-good (first (badEntryNumber index entries) (length entries)) (b .1) in
     record {

@@ -5,9 +5,10 @@ use mathlib.Core.Bool.{Bool, cond, _||_}
 use mathlib.Core.List.{List}
 use lib.Dec.{eqb, leb, ltb}
 use lib.ListN.{length, getD}
+use Rattle.limits.specs.Limits.{joinMax}
 use Rattle.refusal.specs.declared.Found.{Found}
 use Rattle.refusal.specs.declared.Found.the-variants.{At, Nowhere}
-use Rattle.refusal.specs.declared.Refusal.the-variants.{ListCount, EntryNumber}
+use Rattle.refusal.specs.declared.Refusal.the-variants.{Lists, EntryNumber}
 use Rattle.refusal.specs.First.{first}
 use Rattle.list.specs.declared.answer.Answer.{Answer}
 use Rattle.list.specs.declared.answer.Answer.the-variants as answer
@@ -20,7 +21,7 @@ use Rattle.merge.specs.Request.{listsOf}
 
 -- Reference 9.1, row 13
 unfoldable pub badListCount : List ℕ → Bool
-badListCount entries = eqb (length entries) 0 || ltb 16 (length entries)
+badListCount entries = eqb (length entries) 0 || ltb joinMax (length entries)
 
 -- Reference 9.1, row 14: whether the entry number at place i is bad
 unfoldable pub badEntryNumber : List ℕ → List ℕ → ℕ → Bool
@@ -33,7 +34,7 @@ entriesAfter Nowhere = Good
 -- Reference 9.2: 13, then 14
 unfoldable pub entriesOf : List ℕ → List ℕ → Checked
 entriesOf index entries =
-    cond (badListCount entries) (Refused (ListCount (length entries))) (entriesAfter (first (badEntryNumber index entries) (length entries)))
+    cond (badListCount entries) (Refused (Lists (length entries))) (entriesAfter (first (badEntryNumber index entries) (length entries)))
 
 abbrev pub requestAfter : Checked → Checked → Checked
 requestAfter (Refused r) next = Refused r

@@ -1,12 +1,7 @@
 // The joins, and the frame that they share: check, count where the room may not do, write.
-ghost use mathlib.Core.Path.{_≡_};
-ghost use mathlib.Core.Bool.{true};
-ghost use Prim.Native.Nat.{_/_, _≤_};
-ghost use lib.ListN.{length};
-ghost use Rattle.list.specs.Answer.{listAnswer, listCells};
+ghost use Rattle.list.specs.Answer.{Listing, HasRoom, Sweeps};
 ghost use Rattle.list.specs.Ginix.{unionOf, intersectionOf};
 ghost use Rattle.merge.specs.Request.{SoundRequest, listsOf};
-ghost use Rattle.merge.specs.Sweep.{Sweeps};
 ghost use Rattle.join.specs.Join.{Joins};
 ghost use Rattle.join.specs.Method.{joinOf};
 use crate::Method;
@@ -23,7 +18,8 @@ use union::scan::sweep_scan;
 
 // Counts, and writes where asked, the join of a request by a method.
 fn sweep(index: &[u8], entries: &[u32], writing: bool, out: &mut [u32], method: Method) -> Tally
-    requires { ⌜ SoundRequest (now index) (now entries) × (writing ≡ true → length (joinOf method (listsOf (now index) (now entries))) ≤ length (now out)) ⌝ }
+    requires sound { ⌜ SoundRequest (now index) (now entries) ⌝ }
+    requires room { ⌜ HasRoom (joinOf method (listsOf (now index) (now entries))) writing (now out) ⌝ }
     ensures { λ r. ⌜ Sweeps (joinOf method (listsOf (now (index .entry)) (now (entries .entry)))) writing (now (out .entry)) (now (out .exit)) r ⌝ }
 {
     match method {
@@ -38,7 +34,7 @@ fn sweep(index: &[u8], entries: &[u32], writing: bool, out: &mut [u32], method: 
 // together, and where those may be too many it is counted first.
 fn join_asked(index: &[u8], entries: &[u32], out: &mut [u32], method: Method) -> Answer
     requires { ⌜ SoundRequest (now index) (now entries) ⌝ }
-    ensures { λ r. ⌜ (r ≡ listAnswer (joinOf method (listsOf (now (index .entry)) (now (entries .entry)))) (length (now (out .entry)) / 2)) × (now (out .exit) ≡ listCells (joinOf method (listsOf (now (index .entry)) (now (entries .entry)))) (length (now (out .entry)) / 2) (now (out .entry))) ⌝ }
+    ensures { λ r. ⌜ Listing (joinOf method (listsOf (now (index .entry)) (now (entries .entry)))) (now (out .entry)) (now (out .exit)) r ⌝ }
 {
     let room = out.len() / 2;
     if interval_sum(index, entries) <= room {

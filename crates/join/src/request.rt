@@ -9,6 +9,7 @@ ghost use Rattle.join.specs.Join.{badEntryNumber, entriesOf, requestOf};
 ghost use Rattle.join.specs.Bound.{intervalSum};
 use directory::parts::interval_count;
 use index::Checked;
+use limits::JOIN_MAX;
 use refusal::Found;
 use refusal::Refusal;
 
@@ -35,10 +36,10 @@ fn check_entries(index: &[u8], entries: &[u32]) -> Checked
 {
     let count = entries.len();
     if count == 0 {
-        return Checked::Refused(Refusal::ListCount(count));
+        return Checked::Refused(Refusal::Lists(count));
     }
-    if 16 < count {
-        return Checked::Refused(Refusal::ListCount(count));
+    if JOIN_MAX < count {
+        return Checked::Refused(Refusal::Lists(count));
     }
     match first_bad_number(index, entries) {
         Found::At(i) => Checked::Refused(Refusal::EntryNumber(i)),
@@ -59,7 +60,8 @@ pub fn check_request(index: &[u8], entries: &[u32]) -> Checked
 // How many intervals the lists of a request have together.
 pub fn interval_sum(index: &[u8], entries: &[u32]) -> usize
     requires { ⌜ SoundRequest (now index) (now entries) ⌝ }
-    ensures { λ r. ⌜ (r ≡ intervalSum (listsOf (now (index .entry)) (now (entries .entry)))) × (r ≤ 67108864) ⌝ }
+    ensures sum { λ r. ⌜ r ≡ intervalSum (listsOf (now (index .entry)) (now (entries .entry))) ⌝ }
+    ensures few { λ r. ⌜ r ≤ 67108864 ⌝ }
 {
     let mut sum = 0;
     let mut j = 0;

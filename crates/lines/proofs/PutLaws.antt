@@ -12,10 +12,6 @@ pub puts-then : {out mid out′ : List ℕ} {at k r : ℕ} {a b : List ℕ} → 
 puts-then {out} {mid} {out′} {at} {k} {r} {a} {b} p q =
     record { end = omega (arith, p .end, q .end, length-append a b); bytes = q .bytes ∙ rw (p .bytes, p .end) (sym (sets-append out at a b)) }
 
--- what is to be put from `at` on is what is left to put behind the first text
-pub puts-first : {out mid : List ℕ} {at k : ℕ} {a : List ℕ} (b : List ℕ) → PutText out at a mid k → sets out at (a ++ b) ≡ sets mid k b
-puts-first {out} {mid} {at} {k} {a} b p = sets-append out at a b ∙ sym (rw (p .bytes, p .end))
-
 -- one byte
 pub puts-byte : (out : List ℕ) (at x : ℕ) → PutText out at (x ∷ []) (set out at x) (at + 1)
 puts-byte out at x = record { end = refl; bytes = refl }
@@ -23,12 +19,21 @@ puts-byte out at x = record { end = refl; bytes = refl }
 pub puts-length : {out mid : List ℕ} {at k : ℕ} {a : List ℕ} → PutText out at a mid k → length mid ≡ length out
 puts-length {out} {mid} {at} {k} {a} p = ap length (p .bytes) ∙ length-sets out at a
 
--- room for two texts is room for the first, and behind it for the second
-pub room-front : (a b : List ℕ) (at n : ℕ) → at + length (a ++ b) ≤ n → at + length a ≤ n
-room-front a b at n h = omega (arith, length-append a b)
+-- what is to be put from `at` on is what is left to put from `k` on
+pub record ToPut (out : List ℕ) (at : ℕ) (text now : List ℕ) (k : ℕ) (rest : List ℕ) : Type 0 where
+  pub end : at + length text ≡ k + length rest
+  pub bytes : sets out at text ≡ sets now k rest
 
-pub room-behind : {out mid : List ℕ} {at k : ℕ} {a : List ℕ} (b : List ℕ) → PutText out at a mid k → at + length (a ++ b) ≤ length out → k + length b ≤ length mid
-room-behind {out} {mid} {at} {k} {a} b p h = omega (arith, length-append a b, p .end, puts-length p)
+pub put-next : {out text now mid rest a : List ℕ} {at k r : ℕ} (b : List ℕ) →
+    ToPut out at text now k rest → rest ≡ a ++ b → PutText now k a mid r → ToPut out at text mid r b
+put-next {out} {text} {now} {mid} {rest} {a} {at} {k} {r} b l e p =
+    record {
+      end = omega (arith, l .end, ap length e, length-append a b, p .end);
+      bytes = l .bytes ∙ ap (sets now k) e ∙ sets-append now k a b ∙ sym (rw (p .bytes, p .end));
+    }
+
+pub put-none : {out text now rest : List ℕ} {at k : ℕ} → ToPut out at text now k rest → rest ≡ [] → PutText out at text now k
+put-none {out} {text} {now} {rest} {at} {k} l e = record { end = omega (arith, l .end, ap length e); bytes = sym (l .bytes ∙ ap (sets now k) e) }
 
 -- all put from byte 0 on
 pub puts-written : {out out′ : List ℕ} {r : ℕ} (text : List ℕ) → PutText out 0 text out′ r → length text ≤ length out → PutFirst out text out′ r

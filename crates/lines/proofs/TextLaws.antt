@@ -15,6 +15,7 @@ use Rattle.list.specs.declared.answer.Answer.{Answer}
 use Rattle.list.specs.declared.answer.Answer.the-variants.{Listed, Refused}
 use Rattle.refusal.specs.declared.Refusal.{Refusal}
 use Rattle.refusal.specs.Refusal.{numberOf, valueOf}
+use Rattle.lines.specs.Room.{answerCells, lineRoom}
 use Rattle.lines.specs.Line.{numeralIn, numeral, intervalText, intervalsText, headText, tallyText, lineOf}
 
 -- a number that needs two digits or more, and its digits but the last
@@ -33,7 +34,7 @@ fewest-rest j n w =
     (omega arith, div-lt-iff-lt-mul {k = 10} (omega arith) .1 high, λ more. rw e₁ (le-div-iff-mul-le {k = 10} (omega arith) .1 low))
 
 -- the fewest digits, one digit at a time from the last
-pub digits-numeral : (f k n : ℕ) → n < 10 ^ suc f → Fewest 10 1 n k → digits 10 k n ≡ numeralIn (suc f) n
+digits-numeral : (f k n : ℕ) → n < 10 ^ suc f → Fewest 10 1 n k → digits 10 k n ≡ numeralIn (suc f) n
 unfolding numeralIn
 digits-numeral f zero n h w = absurd (omega (arith, w .0))
 digits-numeral f (suc zero) n h w =
@@ -51,7 +52,8 @@ unfolding numeral
 digits-are k n h w = digits-numeral 19 k n (omega arith) w
 
 -- the intervals from cell i on: one and the rest, or none
-pub intervals-next : (cells : List ℕ) (i : ℕ) → i + 1 < length cells → intervalsText (drop i cells) ≡ intervalText (getD cells i 0) (getD cells (i + 1) 0) ++ intervalsText (drop (i + 2) cells)
+pub intervals-next : (cells : List ℕ) (i : ℕ) → i + 1 < length cells →
+    intervalsText (drop i cells) ≡ intervalText (getD cells i 0) (getD cells (i + 1) 0) ++ intervalsText (drop (i + 2) cells)
 unfolding intervalsText
 intervals-next cells i h = rw (drop-two cells i h)
 
@@ -68,31 +70,32 @@ length-step : (k n : ℕ) (t : Bool) → length (numeralIn k (n / 10)) ≤ k →
 length-step k n true h = omega arith
 length-step k n false h = rw (length-append (numeralIn k (n / 10)) ((48 + n % 10) ∷ [])) (omega arith)
 
-pub numeralIn-short : (k n : ℕ) → length (numeralIn k n) ≤ k
+numeralIn-short : (k n : ℕ) → length (numeralIn k n) ≤ k
 unfolding numeralIn
 numeralIn-short zero n = omega arith
 numeralIn-short (suc k) n = length-step k n (ltb n 10) (numeralIn-short k (n / 10))
 
-pub numeral-short : (n : ℕ) → length (numeral n) ≤ 20
+numeral-short : (n : ℕ) → length (numeral n) ≤ 20
 unfolding numeral
 numeral-short n = numeralIn-short 20 n
 
-pub intervals-short : (cells : List ℕ) → length (intervalsText cells) ≤ 21 * length cells
+intervals-short : (cells : List ℕ) → length (intervalsText cells) ≤ 21 * length cells
 unfolding intervalsText
 intervals-short [] = omega arith
 intervals-short (l ∷ []) = omega arith
 intervals-short (l ∷ u ∷ r) = simp length-append (omega (arith, intervals-short r, numeral-short l, numeral-short u))
 
 -- the line by the answer's case
-pub listed-line : (number : ℕ) (answer : Answer) (cells : List ℕ) (tally : Tally) → answer ≡ Listed tally → lineOf number answer cells ≡ headText number 0 0 ++ tallyText tally cells ++ (10 ∷ [])
+pub listed-line : (number : ℕ) (answer : Answer) (cells : List ℕ) (tally : Tally) → answer ≡ Listed tally →
+    lineOf number answer cells ≡ headText number 0 0 ++ tallyText tally cells ++ (10 ∷ [])
 listed-line number answer cells tally e = rw e
 
-pub refused-line : (number : ℕ) (answer : Answer) (cells : List ℕ) (refusal : Refusal) (a b : ℕ) → answer ≡ Refused refusal → a ≡ numberOf refusal → b ≡ valueOf refusal →
-    lineOf number answer cells ≡ headText number a b ++ (10 ∷ [])
+pub refused-line : (number : ℕ) (answer : Answer) (cells : List ℕ) (refusal : Refusal) (a b : ℕ) →
+    answer ≡ Refused refusal → a ≡ numberOf refusal → b ≡ valueOf refusal → lineOf number answer cells ≡ headText number a b ++ (10 ∷ [])
 refused-line number answer cells refusal a b e f g = rw (e, f, g)
 
--- the line of an answer of at most 16,384 cells
-pub line-short : (number : ℕ) (answer : Answer) (cells : List ℕ) → length cells ≤ 16384 → length (lineOf number answer cells) ≤ 344169
+-- the line of an answer in the cells that are lent
+pub line-short : (number : ℕ) (answer : Answer) (cells : List ℕ) → length cells ≤ answerCells → length (lineOf number answer cells) ≤ lineRoom
 line-short number (Listed tally) cells h =
     simp length-append
     (omega (

@@ -8,12 +8,15 @@ use crate::put::put_number;
 use list::answer::Answer;
 use list::answer::Tally;
 
-// Room for every line of at most 16,384 cells: five numbers with a byte behind each, 21 bytes each, and 42 bytes for each interval, at most 20 digits to a number.
+// The cells that are lent for each answer.
+pub const ANSWER_CELLS: usize = 16_384;
+
+// Room for every line of as many cells: five numbers with a byte behind each, 21 bytes each, and 42 bytes for each interval, at most 20 digits to a number.
 pub const LINE_ROOM: usize = 344_169;
 
 // The three fields that every line has.
 fn put_head(out: &mut [u8], number: u64, refusal: u64, value: u64) -> usize
-    requires { ⌜ 0 + length (headText number refusal value) ≤ length (now out) ⌝ }
+    requires { ⌜ length (headText number refusal value) ≤ length (now out) ⌝ }
     ensures { λ r. ⌜ PutText (now (out .entry)) 0 (headText number refusal value) (now (out .exit)) r ⌝ }
 {
     let behind_number = put_number(out, 0, number);
@@ -23,7 +26,8 @@ fn put_head(out: &mut [u8], number: u64, refusal: u64, value: u64) -> usize
 
 // The fields of an answer.
 fn put_tally(out: &mut [u8], at: usize, tally: Tally, cells: &[u32]) -> usize
-    requires { ⌜ (shown (Answer.Listed tally) ≤ length (now cells)) × (at + length (tallyText tally (now cells)) ≤ length (now out)) ⌝ }
+    requires within { ⌜ shown (Answer.Listed tally) ≤ length (now cells) ⌝ }
+    requires room { ⌜ at + length (tallyText tally (now cells)) ≤ length (now out) ⌝ }
     ensures { λ r. ⌜ PutText (now (out .entry)) at (tallyText tally (now (cells .entry))) (now (out .exit)) r ⌝ }
 {
     let behind_intervals = put_field(out, at, tally.intervals as u64);
@@ -33,7 +37,8 @@ fn put_tally(out: &mut [u8], at: usize, tally: Tally, cells: &[u32]) -> usize
 
 // Writes the line of the answer to line `number`, whose intervals stand in the cells, and answers how long it is.
 pub fn write_line(number: usize, answer: Answer, cells: &[u32], out: &mut [u8]) -> usize
-    requires { ⌜ (shown answer ≤ length (now cells)) × (length (lineOf number answer (now cells)) ≤ length (now out)) ⌝ }
+    requires within { ⌜ shown answer ≤ length (now cells) ⌝ }
+    requires room { ⌜ length (lineOf number answer (now cells)) ≤ length (now out) ⌝ }
     ensures { λ r. ⌜ PutFirst (now (out .entry)) (lineOf number answer (now (cells .entry))) (now (out .exit)) r ⌝ }
 {
     match answer {

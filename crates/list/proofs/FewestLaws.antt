@@ -3,15 +3,14 @@
 use mathlib.Core.Path.{_≡_, refl, sym, ap, _∙_}
 use mathlib.Core.Logic.{⊎-elim}
 use Prim.Native.Nat.{ℕ, zero, suc, _+_, _*_, _≤_}
-use native.Mathlib.Nat.{lt-of-not-le}
-use native.Mathlib.Decide.{decLe, ℕ-discrete}
+use native.Mathlib.Decide.{ℕ-discrete}
 use native.Mathlib.Omega.{arith}
 use mathlib.Core.Bool.{Bool, true, false, _&&_, _||_, or-true}
 use mathlib.Core.List.{List, [], _∷_}
 use lib.Dec.{eqb, leb}
 use lib.ListN.{length}
 use borrow.Author.Tests.{eq-eqb, ne-eqb}
-use Rattle.laws.proofs.Tests.{true-false, or-neither}
+use Rattle.laws.proofs.Tests.{true-false, or-neither, leb-cases}
 use Rattle.list.specs.Interval.{isProper, names, intervals}
 use Rattle.list.specs.Stretches.{turned, stretches, cellsOf, consIf, recordsFrom}
 use Rattle.list.specs.Ginix.{one}
@@ -32,11 +31,8 @@ starts c x k = length (recordsFrom (startsAt c) x k)
 -- ---- a number that is named, behind one that is not, is where an interval starts
 
 starts-first : (l u w : ℕ) (r : List ℕ) → names (l ∷ u ∷ r) w ≡ false → l ≤ w + 1 → w + 1 ≤ u → eqb (w + 1) l ≡ true
-starts-first l u w r e h g = go (decLe l w)
-  where
-    go : Dec (l ≤ w) → eqb (w + 1) l ≡ true
-    go (yes d) = true-false (sym (names-in l u w r d (omega arith)) ∙ e)
-    go (no d) = let f = lt-of-not-le d in eq-eqb (w + 1) l (omega arith)
+starts-first l u w r e h g =
+    leb-cases l w (λ d. true-false (sym (names-in l u w r d (omega arith)) ∙ e)) (λ d. eq-eqb (w + 1) l (omega arith))
 
 named-starts : (c : List ℕ) (w : ℕ) → names c w ≡ false → names c (w + 1) ≡ true → startsAt c (w + 1) ≡ true
 unfolding names startsAt

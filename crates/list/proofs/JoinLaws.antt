@@ -4,7 +4,8 @@ use Prim.Native.Nat.{ℕ, _≤_, _<_}
 use native.Mathlib.Omega.{arith}
 use mathlib.Core.Bool.{true, false, and-true, or-false}
 use mathlib.Core.List.{List, [], _∷_}
-use Rattle.list.specs.Interval.{top, isProper, names}
+use Rattle.limits.specs.Limits.{recordMax}
+use Rattle.list.specs.Interval.{isProper, names}
 use Rattle.list.specs.Stretches.{cellsOf}
 use Rattle.list.specs.Ginix.{inSome, unionOf, inEvery, intersectionOf}
 use Rattle.list.proofs.NamesLaws.{proper-names-above}
@@ -27,31 +28,31 @@ unfolding inEvery
 inEvery-same n [] [] s x h g = refl
 inEvery-same n (c ∷ cs) (d ∷ ds) s x h g = rw (s .0 x h g, inEvery-same n cs ds (s .1) x h g)
 
-pub union-same : (cs ds : List (List ℕ)) → SameNames top cs ds → unionOf cs ≡ unionOf ds
+pub union-same : (cs ds : List (List ℕ)) → SameNames recordMax cs ds → unionOf cs ≡ unionOf ds
 unfolding unionOf
-union-same cs ds s = cells-same (inSome cs) (inSome ds) top (inSome-same top cs ds s)
+union-same cs ds s = cells-same (inSome cs) (inSome ds) recordMax (inSome-same recordMax cs ds s)
 
-pub intersection-same : (cs ds : List (List ℕ)) → SameNames top cs ds → intersectionOf cs ≡ intersectionOf ds
+pub intersection-same : (cs ds : List (List ℕ)) → SameNames recordMax cs ds → intersectionOf cs ≡ intersectionOf ds
 unfolding intersectionOf
-intersection-same cs ds s = cells-same (inEvery cs) (inEvery ds) top (inEvery-same top cs ds s)
+intersection-same cs ds s = cells-same (inEvery cs) (inEvery ds) recordMax (inEvery-same recordMax cs ds s)
 
 -- ---- what they name
 
-pub union-proper : (cs : List (List ℕ)) → isProper top (unionOf cs) ≡ true
+pub union-proper : (cs : List (List ℕ)) → isProper recordMax (unionOf cs) ≡ true
 unfolding unionOf
-union-proper cs = cells-proper (inSome cs) top top (omega arith)
+union-proper cs = cells-proper (inSome cs) recordMax recordMax (omega arith)
 
-pub intersection-proper : (cs : List (List ℕ)) → isProper top (intersectionOf cs) ≡ true
+pub intersection-proper : (cs : List (List ℕ)) → isProper recordMax (intersectionOf cs) ≡ true
 unfolding intersectionOf
-intersection-proper cs = cells-proper (inEvery cs) top top (omega arith)
+intersection-proper cs = cells-proper (inEvery cs) recordMax recordMax (omega arith)
 
-pub union-names : (cs : List (List ℕ)) (x : ℕ) → 1 ≤ x → x ≤ top → names (unionOf cs) x ≡ inSome cs x
+pub union-names : (cs : List (List ℕ)) (x : ℕ) → 1 ≤ x → x ≤ recordMax → names (unionOf cs) x ≡ inSome cs x
 unfolding unionOf
-union-names cs x h g = cells-names (inSome cs) top x h g
+union-names cs x h g = cells-names (inSome cs) recordMax x h g
 
-pub intersection-names : (cs : List (List ℕ)) (x : ℕ) → 1 ≤ x → x ≤ top → names (intersectionOf cs) x ≡ inEvery cs x
+pub intersection-names : (cs : List (List ℕ)) (x : ℕ) → 1 ≤ x → x ≤ recordMax → names (intersectionOf cs) x ≡ inEvery cs x
 unfolding intersectionOf
-intersection-names cs x h g = cells-names (inEvery cs) top x h g
+intersection-names cs x h g = cells-names (inEvery cs) recordMax x h g
 
 -- ---- lists within 1 to n: the join may stop at n
 
@@ -68,21 +69,21 @@ pub inEvery-above : (n x : ℕ) (c : List ℕ) (cs : List (List ℕ)) → isProp
 unfolding inEvery
 inEvery-above n x c cs p h = rw (proper-names-above n x c p h)
 
-pub union-limit : (n : ℕ) (cs : List (List ℕ)) → n ≤ top → AllProper n cs → cellsOf (inSome cs) n ≡ unionOf cs
+pub union-limit : (n : ℕ) (cs : List (List ℕ)) → n ≤ recordMax → AllProper n cs → cellsOf (inSome cs) n ≡ unionOf cs
 unfolding unionOf
-union-limit n cs h p = cells-limit (inSome cs) n top h (λ x g w. inSome-above n x cs p g)
+union-limit n cs h p = cells-limit (inSome cs) n recordMax h (λ x g w. inSome-above n x cs p g)
 
 -- one list within 1 to n is enough
-pub intersection-limit : (n : ℕ) (c : List ℕ) (cs : List (List ℕ)) → n ≤ top → isProper n c ≡ true → cellsOf (inEvery (c ∷ cs)) n ≡ intersectionOf (c ∷ cs)
+pub intersection-limit : (n : ℕ) (c : List ℕ) (cs : List (List ℕ)) → n ≤ recordMax → isProper n c ≡ true → cellsOf (inEvery (c ∷ cs)) n ≡ intersectionOf (c ∷ cs)
 unfolding intersectionOf
-intersection-limit n c cs h p = cells-limit (inEvery (c ∷ cs)) n top h (λ x g w. inEvery-above n x c cs p g)
+intersection-limit n c cs h p = cells-limit (inEvery (c ∷ cs)) n recordMax h (λ x g w. inEvery-above n x c cs p g)
 
 -- ---- one list alone
 
-pub union-one : (c : List ℕ) → isProper top c ≡ true → unionOf (c ∷ []) ≡ c
+pub union-one : (c : List ℕ) → isProper recordMax c ≡ true → unionOf (c ∷ []) ≡ c
 unfolding unionOf inSome
-union-one c p = sym (is-cells (inSome (c ∷ [])) top c p (λ x h g. sym (or-false (names c x))))
+union-one c p = sym (is-cells (inSome (c ∷ [])) recordMax c p (λ x h g. sym (or-false (names c x))))
 
-pub intersection-one : (c : List ℕ) → isProper top c ≡ true → intersectionOf (c ∷ []) ≡ c
+pub intersection-one : (c : List ℕ) → isProper recordMax c ≡ true → intersectionOf (c ∷ []) ≡ c
 unfolding intersectionOf inEvery
-intersection-one c p = sym (is-cells (inEvery (c ∷ [])) top c p (λ x h g. sym (and-true (names c x))))
+intersection-one c p = sym (is-cells (inEvery (c ∷ [])) recordMax c p (λ x h g. sym (and-true (names c x))))

@@ -1,6 +1,6 @@
 -- What is left of a kept list at a reading place, interval by interval.
-use mathlib.Core.Path.{_≡_, refl, sym, ap, _∙_}
-use Prim.Native.Nat.{ℕ, zero, suc, _+_, _-_, _≤_, _<_}
+use mathlib.Core.Path.{_≡_, _∙_}
+use Prim.Native.Nat.{ℕ, suc, _+_, _-_, _≤_, _<_}
 use native.Mathlib.Omega.{arith}
 use mathlib.Core.Bool.{true, false}
 use mathlib.Core.List.{List, [], _∷_}
@@ -42,8 +42,8 @@ pub record ReadTo (n : ℕ) (S L U : List ℕ) (at : Place) (k : ℕ) : Type 0 w
   pub proper : ProperFrom n k (leftAt S L U at)
   pub rest : (x : ℕ) → k ≤ x + 1 → names (walked S L U) x ≡ names (leftAt S L U at) x
 
-pub read-start : (n : ℕ) (S L U : List ℕ) → Kept n S L U → ReadTo n S L U start 1
-read-start n S L U k =
+pub read-start : {n : ℕ} {S L U : List ℕ} → Kept n S L U → ReadTo n S L U start 1
+read-start {n} {S} {L} {U} k =
     record {
       single = omega arith;
       pair = omega arith;
@@ -51,7 +51,7 @@ read-start n S L U k =
       rest = λ x h. rw (left-start S L U);
     }
 
-module _ (n : ℕ) (S L U : List ℕ) (at : Place) (k : ℕ) (r : ReadTo n S L U at k) where
+module _ {n : ℕ} {S L U : List ℕ} {at : Place} {k : ℕ} (r : ReadTo n S L U at k) where
   pub read-goes : at .p .0 + at .q .0 < length S + length L → Goes S L at
   read-goes h = record { single = r .single; pair = r .pair; more = h }
 

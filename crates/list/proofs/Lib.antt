@@ -17,3 +17,4 @@ pub mod ProbeLaws
 pub mod SenseLaws
 pub mod LeftLaws
 pub mod HintLaws
+pub mod ListingLaws

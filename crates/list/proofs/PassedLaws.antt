@@ -11,8 +11,9 @@ use lib.Seq.{getD-drop}
 use borrow.Author.Tests.{lt-ltb, le-ltb, le-leb, lt-leb, eq-eqb, ne-eqb}
 use Rattle.laws.proofs.Tests.{and-both, by-test, leb-cases}
 use Rattle.laws.proofs.Lists.{drop-next, drop-none}
+use Rattle.limits.specs.Limits.{recordMax}
 use Rattle.list.specs.declared.kept.Pass.{Pass}
-use Rattle.list.specs.Interval.{top, properFrom, isProper}
+use Rattle.list.specs.Interval.{properFrom, isProper}
 use Rattle.list.specs.Kept.{walkFrom, walked, areLonger, isKept}
 use Rattle.list.specs.Passed.{passed}
 use Rattle.list.proofs.ProperLaws.{proper-facts}
@@ -33,7 +34,7 @@ module _ (bound least : ℕ) (S : List ℕ) (i : ℕ) where
   unfolding passed
   passed-stop h g = rw (drop-next S i h, le-ltb (getD S i 0) bound g)
 
-  pub passed-bad : i < length S → getD S i 0 < bound → getD S i 0 < least → passed bound least i (drop i S) ≡ ended i (top + 1)
+  pub passed-bad : i < length S → getD S i 0 < bound → getD S i 0 < least → passed bound least i (drop i S) ≡ ended i (recordMax + 1)
   unfolding passed
   passed-bad h g l = rw (drop-next S i h, lt-ltb (getD S i 0) bound g, lt-ltb (getD S i 0) least l)
 
@@ -144,7 +145,7 @@ module _ (n : ℕ) (S L U : List ℕ) (bound q : ℕ) (near : bound ≤ n + 1) (
 
   pub record Broken (k p : ℕ) (r : Pass) : Type 0 where
     pub inside : r .p .0 < length S
-    pub least : r .least ≡ top + 1
+    pub least : r .least ≡ recordMax + 1
     pub rule : keptFrom n S L U k p q ≡ false
 
   moved-here : (k p : ℕ) → p ≤ length S → (p < length S → bound ≤ getD S p 0) → Moved k p (ended p k)
@@ -176,7 +177,7 @@ module _ (n : ℕ) (S L U : List ℕ) (bound q : ℕ) (near : bound ≤ n + 1) (
 
 -- ---- a turn over the pairs, and the end
 
-module _ (n : ℕ) (S L U : List ℕ) (high : n ≤ top) (long : length L ≡ length U) (k p q : ℕ) (g : p ≤ length S) where
+module _ (n : ℕ) (S L U : List ℕ) (high : n ≤ recordMax) (long : length L ≡ length U) (k p q : ℕ) (g : p ≤ length S) where
   -- r is the pass before pair q, from l to u
   module _ (l u : ℕ) (r : Pass) (h : q < length L) (el : l ≡ getD L q 0) (eu : u ≡ getD U q 0) (lu : l < u) (un : u ≤ n)
       (e : r ≡ passed l k p (drop p S))

@@ -1,13 +1,13 @@
 -- A proper list as facts, which the proofs take apart, and as the test of the definitions.
-use mathlib.Core.Path.{_≡_, refl, sym, ap, _∙_}
-use Prim.Native.Nat.{ℕ, _+_, _≤_, _<_}
+use mathlib.Core.Path.{_≡_, refl, sym}
+use Prim.Native.Nat.{ℕ, _+_, _≤_}
 use native.Mathlib.Omega.{arith}
-use mathlib.Core.Bool.{Bool, true, false, _&&_}
+use mathlib.Core.Bool.{true, _&&_}
 use mathlib.Core.List.{List, [], _∷_}
 use lib.Dec.{leb}
 use borrow.Author.Tests.{leb-true, le-leb}
 use Rattle.laws.proofs.Tests.{true-false, and-both}
-use Rattle.list.specs.Interval.{properFrom, isProper}
+use Rattle.list.specs.Interval.{properFrom}
 
 abbrev pub ProperFrom : ℕ → ℕ → List ℕ → Type 0
 ProperFrom n k [] = Unit {0}

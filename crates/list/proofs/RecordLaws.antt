@@ -1,14 +1,13 @@
 -- The numbers of a test in order: how many they are, that they ascend, and which they are.
 use mathlib.Core.Path.{_≡_, refl, sym, ap, _∙_}
 use Prim.Native.Nat.{ℕ, zero, suc, _+_, _-_, _≤_, _<_}
-use native.Mathlib.Nat.{le-antisymm, lt-of-not-le}
-use native.Mathlib.Decide.{decLe}
+use native.Mathlib.Nat.{le-antisymm}
 use native.Mathlib.Omega.{arith}
 use mathlib.Core.Bool.{Bool, true, false}
 use mathlib.Core.List.{List, [], _∷_, _++_}
 use lib.ListN.{length}
 use borrow.Author.Tests.{eq-eqb, ne-eqb}
-use Rattle.laws.proofs.Tests.{true-false}
+use Rattle.laws.proofs.Tests.{true-false, leb-cases}
 use Rattle.list.specs.Interval.{isProper, names, records}
 use Rattle.list.specs.Stretches.{turned, stretches, cellsOf, consIf, recordsFrom, recordsOf}
 use Rattle.list.specs.Among.{among}
@@ -144,15 +143,12 @@ unfolding among
 among-later p x k y true h ih = rw (ne-eqb y x (λ (e : y ≡ x). omega arith)) ih
 among-later p x k y false h ih = ih
 
-among-step : (p : ℕ → Bool) (x k y : ℕ) → x ≤ y → (x < y → among (recordsFrom p (x + 1) k) y ≡ p y) → Dec (y ≤ x) →
-    among (consIf (p x) x (recordsFrom p (x + 1) k)) y ≡ p y
-among-step p x k y h ih (yes d) = let e : y ≡ x = omega arith in rw e (among-first p x k (p x))
-among-step p x k y h ih (no d) = let g = lt-of-not-le d in among-later p x k y (p x) g (ih g)
-
 recordsFrom-among : (p : ℕ → Bool) (x k y : ℕ) → x ≤ y → y < x + k → among (recordsFrom p x k) y ≡ p y
 unfolding recordsFrom
 recordsFrom-among p x zero y h g = absurd (omega arith)
-recordsFrom-among p x (suc k) y h g = among-step p x k y h (λ f. recordsFrom-among p (x + 1) k y (omega arith) (omega arith)) (decLe y x)
+recordsFrom-among p x (suc k) y h g =
+    leb-cases y x (λ d. let e : y ≡ x = omega arith in rw e (among-first p x k (p x)))
+    (λ d. among-later p x k y (p x) d (recordsFrom-among p (x + 1) k y (omega arith) (omega arith)))
 
 pub records-among : (p : ℕ → Bool) (n x : ℕ) → 1 ≤ x → x ≤ n → among (recordsOf p n) x ≡ p x
 unfolding recordsOf
@@ -176,22 +172,14 @@ among-past x y ys h = rw (ne-eqb x y (λ (e : x ≡ y). omega arith))
 
 -- the first number is not before the other's first
 head-not-before : (n k x y : ℕ) (xs ys : List ℕ) → Ascends n k (y ∷ ys) → among (x ∷ xs) x ≡ among (y ∷ ys) x → y ≤ x
-head-not-before n k x y xs ys q e = go (decLe y x)
-  where
-    go : Dec (y ≤ x) → y ≤ x
-    go (yes h) = h
-    go (no h) =
-        let g = lt-of-not-le h in
-        let q′ : Ascends n x (y ∷ ys) = (g, q .1, q .2) in
-        true-false (sym (among-head x xs) ∙ e ∙ among-below n x x (y ∷ ys) q′ (omega arith))
+head-not-before n k x y xs ys q e =
+    leb-cases y x (λ h. h) (λ g. true-false (sym (among-head x xs) ∙ e ∙ among-below n x x (y ∷ ys) (g, q .1, q .2) (omega arith)))
 
 tail-same : (n k x y z : ℕ) (xs ys : List ℕ) → x ≡ y → Ascends n k (x ∷ xs) → Ascends n k (y ∷ ys) →
     among (x ∷ xs) z ≡ among (y ∷ ys) z → among xs z ≡ among ys z
-tail-same n k x y z xs ys exy p q e = go (decLe z x)
-  where
-    go : Dec (z ≤ x) → among xs z ≡ among ys z
-    go (yes h) = among-below n x z xs (p .2) h ∙ sym (among-below n y z ys (q .2) (omega arith))
-    go (no h) = let g = lt-of-not-le h in sym (among-past z x xs g) ∙ e ∙ among-past z y ys (omega arith)
+tail-same n k x y z xs ys exy p q e =
+    leb-cases z x (λ h. among-below n x z xs (p .2) h ∙ sym (among-below n y z ys (q .2) (omega arith)))
+    (λ g. sym (among-past z x xs g) ∙ e ∙ among-past z y ys (omega arith))
 
 ascends-step-unique : (n k x y : ℕ) (xs ys : List ℕ) → x ≡ y → Ascends n k (x ∷ xs) → Ascends n k (y ∷ ys) →
     ((z : ℕ) → among (x ∷ xs) z ≡ among (y ∷ ys) z) →
@@ -212,12 +200,8 @@ ascends-unique n k (x ∷ xs) (y ∷ ys) p q f =
 
 -- what an algorithm has to show of the numbers that it wrote
 pub is-records : (p : ℕ → Bool) (n : ℕ) (xs : List ℕ) → Ascends n 0 xs → ((x : ℕ) → 1 ≤ x → x ≤ n → among xs x ≡ p x) → xs ≡ recordsOf p n
-is-records p n xs a f = ascends-unique n 0 xs (recordsOf p n) a (records-ascend p n) (λ x. within x (decLe 1 x) (decLe x n))
-  where
-    within : (x : ℕ) → Dec (1 ≤ x) → Dec (x ≤ n) → among xs x ≡ among (recordsOf p n) x
-    within x (yes h) (yes g) = f x h g ∙ sym (records-among p n x h g)
-    within x (yes h) (no g) = let w = lt-of-not-le g in among-above n 0 x xs a w ∙ sym (records-among-above p n x w)
-    within x (no h) d =
-        let w = lt-of-not-le h in
-        let z : x ≡ 0 = omega arith in
-        rw z (among-below n 0 0 xs a (omega arith) ∙ sym (records-among-zero p n))
+is-records p n xs a f =
+    ascends-unique n 0 xs (recordsOf p n) a (records-ascend p n)
+    (λ x. leb-cases 1 x
+    (λ h. leb-cases x n (λ g. f x h g ∙ sym (records-among p n x h g)) (λ w. among-above n 0 x xs a w ∙ sym (records-among-above p n x w)))
+    (λ w. let z : x ≡ 0 = omega arith in rw z (among-below n 0 0 xs a (omega arith) ∙ sym (records-among-zero p n))))

@@ -1,6 +1,6 @@
 -- Laws of how many numbers of an ascending list lie below x: what one comparison says of it, and what it says of each number.
 use mathlib.Core.Path.{_≡_, refl}
-use Prim.Native.Nat.{ℕ, zero, suc, _+_, _≤_, _<_}
+use Prim.Native.Nat.{ℕ, zero, suc, _+_, _/_, _≤_, _<_}
 use native.Mathlib.Omega.{arith}
 use mathlib.Core.Bool.{Bool, true, false}
 use mathlib.Core.List.{List, [], _∷_}
@@ -9,7 +9,9 @@ use lib.ListN.{length, getD}
 use borrow.Author.Tests.{lt-ltb, le-ltb}
 use Rattle.laws.proofs.Tests.{leb-cases}
 use Rattle.list.specs.Ginix.{one}
-use Rattle.list.specs.Seek.{countBelow, AscendsFrom}
+use Rattle.list.specs.Cell.{numbersIn}
+use Rattle.list.specs.Seek.{countBelow, AscendsFrom, Ascends}
+use Rattle.list.proofs.CellLaws.{numbersIn-length}
 
 pub ascends-weaker : (j k : ℕ) (ys : List ℕ) → j ≤ k → AscendsFrom k ys → AscendsFrom j ys
 ascends-weaker j k [] h p = tt
@@ -53,6 +55,17 @@ count-under k x (y ∷ ys) p (suc i) h g =
     let w = one-small (ltb y x) in
     let r = count-under (y + 1) x ys (p .1) i (omega arith) g in
     omega arith
+
+-- by a number that was read in a region
+module _ (region : List ℕ) (x i v : ℕ) (up : Ascends (numbersIn region)) (h : i < length region / 4) (e : v ≡ getD (numbersIn region) i 0) where
+  pub region-over : v < x → i < countBelow x (numbersIn region)
+  region-over g = count-over 0 x (numbersIn region) up i (omega (arith, numbersIn-length region)) (omega arith)
+
+  pub region-under : x ≤ v → countBelow x (numbersIn region) ≤ i
+  region-under g = count-under 0 x (numbersIn region) up i (omega (arith, numbersIn-length region)) (omega arith)
+
+pub region-within : (region : List ℕ) (x : ℕ) → countBelow x (numbersIn region) ≤ length region / 4
+region-within region x = omega (arith, numbersIn-length region, count-length x (numbersIn region))
 
 -- and back: what the count says of the number at place i
 pub count-passed : (k x : ℕ) (ys : List ℕ) → AscendsFrom k ys → (i : ℕ) → i < countBelow x ys → getD ys i 0 < x

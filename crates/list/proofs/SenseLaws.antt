@@ -1,7 +1,7 @@
 -- What a kept list says from x on, at the place of x: a single at x, a pair that has begun, or nothing before the next of either side.
 use mathlib.Core.Path.{_≡_, refl, sym, _∙_}
 use mathlib.Core.Logic.{_⊎_, inl, inr}
-use Prim.Native.Nat.{ℕ, zero, suc, _+_, _≤_, _<_, min}
+use Prim.Native.Nat.{ℕ, zero, suc, _+_, _/_, _≤_, _<_, min}
 use native.Mathlib.Omega.{arith}
 use mathlib.Core.Bool.{true, false, _&&_, and-false, or-true}
 use mathlib.Core.List.{List, [], _∷_}
@@ -9,11 +9,14 @@ use lib.Dec.{eqb, leb}
 use lib.ListN.{length, getD}
 use borrow.Author.Tests.{lt-ltb, le-ltb, le-leb, lt-leb, eq-eqb, ne-eqb}
 use Rattle.laws.proofs.Tests.{leb-cases}
-use Rattle.list.specs.Interval.{top, names}
+use Rattle.limits.specs.Limits.{recordMax}
+use Rattle.list.specs.Interval.{names}
 use Rattle.list.specs.Among.{among}
+use Rattle.list.specs.Cell.{numbersIn}
 use Rattle.list.specs.Kept.{walked}
 use Rattle.list.specs.Seek.{countBelow, Ascends}
 use Rattle.list.specs.Sense.{Steady, numberOrEnd}
+use Rattle.list.proofs.CellLaws.{numbersIn-length}
 use Rattle.list.proofs.SeekLaws.{count-length, count-under, count-passed, count-ahead}
 use Rattle.list.proofs.WalkLaws.{pairs, walked-names}
 use Rattle.list.proofs.KeptLaws.{Kept}
@@ -59,21 +62,28 @@ names-none (l ∷ L) (u ∷ U) y f = rw (outside l u y (f 0 (omega arith))) (nam
 pub number-is : (xs : List ℕ) (i : ℕ) → i < length xs → numberOrEnd xs i ≡ getD xs i 0
 number-is xs i h = rw (lt-ltb i (length xs) h)
 
-pub end-is : (xs : List ℕ) (i : ℕ) → length xs ≤ i → numberOrEnd xs i ≡ top + 1
+pub end-is : (xs : List ℕ) (i : ℕ) → length xs ≤ i → numberOrEnd xs i ≡ recordMax + 1
 end-is xs i h = rw (le-ltb i (length xs) h)
 
+-- of a region
+pub number-in : (region : List ℕ) (i : ℕ) → i < length region / 4 → numberOrEnd (numbersIn region) i ≡ getD (numbersIn region) i 0
+number-in region i h = number-is (numbersIn region) i (omega (arith, numbersIn-length region))
+
+pub end-in : (region : List ℕ) (i : ℕ) → length region / 4 ≤ i → numberOrEnd (numbersIn region) i ≡ recordMax + 1
+end-in region i h = end-is (numbersIn region) i (omega (arith, numbersIn-length region))
+
 -- a number that a record may have is not the one behind the last
-pub number-inside : (xs : List ℕ) (i x : ℕ) → numberOrEnd xs i ≤ x → x ≤ top → i < length xs
+pub number-inside : (xs : List ℕ) (i x : ℕ) → numberOrEnd xs i ≤ x → x ≤ recordMax → i < length xs
 number-inside xs i x h m = leb-cases (length xs) i (λ g. absurd (let e = end-is xs i g in omega arith)) (λ g. g)
 
 -- so where r is what is next and not past x, it stands in the region
-pub number-found : (xs : List ℕ) (i x r : ℕ) → r ≡ numberOrEnd xs i → r ≤ x → x ≤ top → (i < length xs) × (getD xs i 0 ≤ x)
+pub number-found : (xs : List ℕ) (i x r : ℕ) → r ≡ numberOrEnd xs i → r ≤ x → x ≤ recordMax → (i < length xs) × (getD xs i 0 ≤ x)
 number-found xs i x r e h m =
     let g = number-inside xs i x (omega arith) m in
     let v = number-is xs i g in
     (g, omega arith)
 
-end-near : (xs : List ℕ) (i : ℕ) → ((j : ℕ) → j < length xs → getD xs j 0 ≤ top) → numberOrEnd xs i ≤ top + 1
+end-near : (xs : List ℕ) (i : ℕ) → ((j : ℕ) → j < length xs → getD xs j 0 ≤ recordMax) → numberOrEnd xs i ≤ recordMax + 1
 end-near xs i f =
     leb-cases (length xs) i (λ h. let e = end-is xs i h in omega arith) (λ h. let e = number-is xs i h in let g = f i h in omega arith)
 
@@ -100,7 +110,7 @@ module _ (S L U : List ℕ) (n x : ℕ) (k : Kept n S L U) where
       inl (omega arith))
       (λ a. inr (let d = count-passed 0 x U (k .upper-ascend) i a in omega arith)))
 
-  pub sense-single : n ≤ top → countBelow x S < length S → getD S (countBelow x S) 0 ≤ x → Steady (names (walked S L U)) x true (x + 1)
+  pub sense-single : n ≤ recordMax → countBelow x S < length S → getD S (countBelow x S) 0 ≤ x → Steady (names (walked S L U)) x true (x + 1)
   sense-single m h g =
       let a = count-ahead 0 x S (k .singles-ascend) (countBelow x S) h (omega arith) in
       let b = k .single-at (countBelow x S) h in
@@ -110,7 +120,7 @@ module _ (S L U : List ℕ) (n x : ℕ) (k : Kept n S L U) where
         same = λ y l u. walked-names S L U (k .long) y ∙ rw (among-at S y (countBelow x S) h (omega arith));
       }
 
-  pub sense-pair : n ≤ top → countBelow x U < length L → getD L (countBelow x U) 0 ≤ x → Steady (names (walked S L U)) x true (getD U (countBelow x U) 0 + 1)
+  pub sense-pair : n ≤ recordMax → countBelow x U < length L → getD L (countBelow x U) 0 ≤ x → Steady (names (walked S L U)) x true (getD U (countBelow x U) 0 + 1)
   sense-pair m h g =
       let long = k .long in
       let a = count-ahead 0 x U (k .upper-ascend) (countBelow x U) (omega arith) (omega arith) in
@@ -122,7 +132,7 @@ module _ (S L U : List ℕ) (n x : ℕ) (k : Kept n S L U) where
       }
 
   -- s and l are what is next on each side
-  pub sense-none : (s l : ℕ) → s ≡ numberOrEnd S (countBelow x S) → l ≡ numberOrEnd L (countBelow x U) → n ≤ top → x < s → x < l →
+  pub sense-none : (s l : ℕ) → s ≡ numberOrEnd S (countBelow x S) → l ≡ numberOrEnd L (countBelow x U) → n ≤ recordMax → x < s → x < l →
       Steady (names (walked S L U)) x false (min s l)
   sense-none s l es el m hs hl =
       record {

@@ -1,13 +1,12 @@
 -- The proper list of a test: it is proper, names just the numbers of the test, and is the only such list.
 use mathlib.Core.Path.{_≡_, refl, sym, ap, _∙_}
 use Prim.Native.Nat.{ℕ, zero, suc, _+_, _-_, _*_, _≤_, _<_}
-use native.Mathlib.Nat.{le-antisymm, lt-of-not-le, add-zero, sub-zero}
-use native.Mathlib.Decide.{decLe}
+use native.Mathlib.Nat.{le-antisymm, add-zero, sub-zero}
 use native.Mathlib.Omega.{arith}
 use mathlib.Core.Bool.{Bool, true, false}
 use mathlib.Core.List.{List, [], _∷_, _++_}
 use lib.ListN.{length}
-use Rattle.laws.proofs.Tests.{true-false}
+use Rattle.laws.proofs.Tests.{true-false, leb-cases}
 use Rattle.list.specs.Interval.{isProper, names, intervals}
 use Rattle.list.specs.Stretches.{turned, stretches, cellsOf, consIf}
 use Rattle.list.proofs.ProperLaws.{ProperFrom, proper-facts, facts-proper}
@@ -76,19 +75,12 @@ names-later p l x k y false true h g ih = ih x (omega arith)
 names-later p l x k y true false h g ih = names-past l (x - 1) y (stretches p false (x + 1) k) (omega arith) ∙ ih l (omega arith)
 names-later p l x k y true true h g ih = ih l (omega arith)
 
-names-step : (p : ℕ → Bool) (l x k y : ℕ) (b : Bool) → l < x → x ≤ y →
-    (x < y → (h : ℕ) → h < x + 1 → names (consIf (p x) h (stretches p (p x) (x + 1) k)) y ≡ p y) → Dec (y ≤ x) →
-    names (consIf b l (turned b (p x) x (stretches p (p x) (x + 1) k))) y ≡ p y
-names-step p l x k y b h g ih (yes d) =
-    let e : y ≡ x = omega arith in
-    rw e (names-first p l x k b (p x) h)
-names-step p l x k y b h g ih (no d) = let f = lt-of-not-le d in names-later p l x k y b (p x) h f (ih f)
-
 stretches-names : (p : ℕ → Bool) (l x k y : ℕ) (b : Bool) → l < x → x ≤ y → y < x + k → names (consIf b l (stretches p b x k)) y ≡ p y
 unfolding stretches
 stretches-names p l x zero y b h g f = absurd (omega arith)
 stretches-names p l x (suc k) y b h g f =
-    names-step p l x k y b h g (λ d i j. stretches-names p i (x + 1) k y (p x) j (omega arith) (omega arith)) (decLe y x)
+    leb-cases y x (λ d. let e : y ≡ x = omega arith in rw e (names-first p l x k b (p x) h))
+    (λ d. names-later p l x k y b (p x) h d (λ i j. stretches-names p i (x + 1) k y (p x) j (omega arith) (omega arith)))
 
 pub cells-names : (p : ℕ → Bool) (n x : ℕ) → 1 ≤ x → x ≤ n → names (cellsOf p n) x ≡ p x
 unfolding cellsOf
@@ -120,30 +112,21 @@ cells-agree p q n e x h g = sym (cells-names p n x h g) ∙ ap (λ (c : List ℕ
 
 -- of two lists that name the same, the first interval neither starts nor ends before the other's
 first-start : (n k l u : ℕ) (r d : List ℕ) → l ≤ u → ProperFrom n k d → names (l ∷ u ∷ r) l ≡ names d l → k ≤ l
-first-start n k l u r d h q e = go (decLe k l)
-  where
-    go : Dec (k ≤ l) → k ≤ l
-    go (yes w) = w
-    go (no w) = true-false (sym (names-in l u l r (omega arith) h) ∙ e ∙ names-below n k l d q (lt-of-not-le w))
+first-start n k l u r d h q e =
+    leb-cases k l (λ w. w) (λ w. true-false (sym (names-in l u l r (omega arith) h) ∙ e ∙ names-below n k l d q w))
 
 first-end : (n k l u l′ u′ : ℕ) (r r′ : List ℕ) → l ≡ l′ → ProperFrom n k (l′ ∷ u′ ∷ r′) →
     ((x : ℕ) → names (l ∷ u ∷ r) x ≡ names (l′ ∷ u′ ∷ r′) x) → u ≤ u′
-first-end n k l u l′ u′ r r′ e q f = go (decLe u u′)
-  where
-    go : Dec (u ≤ u′) → u ≤ u′
-    go (yes w) = w
-    go (no w) =
-        let g = lt-of-not-le w in
-        true-false (sym (names-in l u (u′ + 1) r (omega arith) (omega arith)) ∙ f (u′ + 1) ∙ names-gap n k l′ u′ (u′ + 1) r′ q (omega arith) (omega arith))
+first-end n k l u l′ u′ r r′ e q f =
+    leb-cases u u′ (λ w. w)
+    (λ w. true-false (sym (names-in l u (u′ + 1) r (omega arith) (omega arith)) ∙ f (u′ + 1) ∙ names-gap n k l′ u′ (u′ + 1) r′ q (omega arith) (omega arith)))
 
 -- what follows the first interval names the same too
 rest-same : (n k l u l′ u′ x : ℕ) (r r′ : List ℕ) → u ≡ u′ → ProperFrom n k (l ∷ u ∷ r) → ProperFrom n k (l′ ∷ u′ ∷ r′) →
     names (l ∷ u ∷ r) x ≡ names (l′ ∷ u′ ∷ r′) x → names r x ≡ names r′ x
-rest-same n k l u l′ u′ x r r′ eu p q e = go (decLe x u)
-  where
-    go : Dec (x ≤ u) → names r x ≡ names r′ x
-    go (yes w) = names-below n (u + 2) x r (p .3) (omega arith) ∙ sym (names-below n (u′ + 2) x r′ (q .3) (omega arith))
-    go (no w) = let g = lt-of-not-le w in sym (names-past l u x r g) ∙ e ∙ names-past l′ u′ x r′ (omega arith)
+rest-same n k l u l′ u′ x r r′ eu p q e =
+    leb-cases x u (λ w. names-below n (u + 2) x r (p .3) (omega arith) ∙ sym (names-below n (u′ + 2) x r′ (q .3) (omega arith)))
+    (λ w. sym (names-past l u x r w) ∙ e ∙ names-past l′ u′ x r′ (omega arith))
 
 unique-step : (n k l u l′ u′ : ℕ) (r r′ : List ℕ) → l ≡ l′ → u ≡ u′ → ProperFrom n k (l ∷ u ∷ r) → ProperFrom n k (l′ ∷ u′ ∷ r′) →
     ((x : ℕ) → names (l ∷ u ∷ r) x ≡ names (l′ ∷ u′ ∷ r′) x) →
@@ -172,15 +155,11 @@ proper-unique n c d e g f = unique-from n 1 c d (proper-facts n 1 c e) (proper-f
 
 -- what an algorithm has to show of the cells that it wrote
 pub is-cells : (p : ℕ → Bool) (n : ℕ) (c : List ℕ) → isProper n c ≡ true → ((x : ℕ) → 1 ≤ x → x ≤ n → names c x ≡ p x) → c ≡ cellsOf p n
-is-cells p n c e f = proper-unique n c (cellsOf p n) e (cells-proper p n n (omega arith)) (λ x. within x (decLe 1 x) (decLe x n))
-  where
-    within : (x : ℕ) → Dec (1 ≤ x) → Dec (x ≤ n) → names c x ≡ names (cellsOf p n) x
-    within x (yes h) (yes g) = f x h g ∙ sym (cells-names p n x h g)
-    within x (yes h) (no g) = let w = lt-of-not-le g in proper-names-above n x c e w ∙ sym (cells-names-above p n x w)
-    within x (no h) d =
-        let w = lt-of-not-le h in
-        let z : x ≡ 0 = omega arith in
-        rw z (proper-names-zero n c e ∙ sym (cells-names-zero p n))
+is-cells p n c e f =
+    proper-unique n c (cellsOf p n) e (cells-proper p n n (omega arith))
+    (λ x. leb-cases 1 x
+    (λ h. leb-cases x n (λ g. f x h g ∙ sym (cells-names p n x h g)) (λ w. proper-names-above n x c e w ∙ sym (cells-names-above p n x w)))
+    (λ w. let z : x ≡ 0 = omega arith in rw z (proper-names-zero n c e ∙ sym (cells-names-zero p n))))
 
 -- a proper list is the list of what it names
 pub proper-cells : (n : ℕ) (c : List ℕ) → isProper n c ≡ true → c ≡ cellsOf (names c) n
@@ -188,11 +167,9 @@ proper-cells n c e = is-cells (names c) n c e (λ x h g. refl)
 
 -- a limit above which nothing is in may be taken higher
 pub cells-limit : (p : ℕ → Bool) (n m : ℕ) → n ≤ m → ((x : ℕ) → n < x → x ≤ m → p x ≡ false) → cellsOf p n ≡ cellsOf p m
-cells-limit p n m h f = is-cells p m (cellsOf p n) (cells-proper p n m h) (λ x g w. within x g w (decLe x n))
-  where
-    within : (x : ℕ) → 1 ≤ x → x ≤ m → Dec (x ≤ n) → names (cellsOf p n) x ≡ p x
-    within x g w (yes d) = cells-names p n x g d
-    within x g w (no d) = let a = lt-of-not-le d in cells-names-above p n x a ∙ sym (f x a w)
+cells-limit p n m h f =
+    is-cells p m (cellsOf p n) (cells-proper p n m h)
+    (λ x g w. leb-cases x n (λ d. cells-names p n x g d) (λ d. cells-names-above p n x d ∙ sym (f x d w)))
 
 -- ---- the cell that a number brings
 

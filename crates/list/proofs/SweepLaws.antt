@@ -1,16 +1,16 @@
 -- A sweep over the numbers from 1 to n that counts, or writes, the list of a test interval by interval: proved once, for any test.
 use mathlib.Core.Path.{_≡_, refl, sym, ap, _∙_}
-use Prim.Native.Nat.{ℕ, zero, suc, _+_, _-_, _*_, _/_, _≤_, _<_}
+use Prim.Native.Nat.{ℕ, zero, suc, _+_, _-_, _≤_, _<_}
 use native.Mathlib.Omega.{arith}
 use native.Mathlib.Nat.{zero-add}
 use mathlib.Core.Bool.{Bool, true, false, cond}
 use mathlib.Core.List.{List, [], _∷_, _++_, append-nil, append-assoc}
 use lib.ListN.{length, drop, set, length-append}
 use lib.Seq.{sets, length-sets}
-use Rattle.laws.proofs.Tests.{true-false, leb-cases}
+use Rattle.laws.proofs.Tests.{leb-cases}
 use Rattle.laws.proofs.Lists.{sets-two, sets-front, sets-append}
-use Rattle.list.specs.Interval.{intervals, records}
-use Rattle.list.specs.Stretches.{turned, stretches, cellsOf, recordsFrom, recordsOf}
+use Rattle.list.specs.Interval.{records}
+use Rattle.list.specs.Stretches.{stretches, cellsOf, recordsFrom, recordsOf}
 use Rattle.list.proofs.StretchLaws.{cells-start, cells-length, stretches-on, stretches-end}
 use Rattle.list.proofs.RecordLaws.{recordsFrom-parts, recordsFrom-length, records-count}
 
@@ -83,7 +83,7 @@ members-none p x y h g q = omega (arith, members-on p x y h g, none-in p x (y - 
 
 -- ---- one step
 
-module _ (p : ℕ → Bool) (n : ℕ) (writing : Bool) (out₀ out : List ℕ) (x k recs : ℕ) (s : Swept p n writing out₀ out false x k recs) where
+module _ {p : ℕ → Bool} {n : ℕ} {writing : Bool} {out₀ out : List ℕ} {x k recs : ℕ} (s : Swept p n writing out₀ out false x k recs) where
   out-still : (y : ℕ) → x ≤ y → y ≤ n + 1 → ((z : ℕ) → x ≤ z → z < y → p z ≡ false) → stretches p false x (n + 1 - x) ≡ stretches p false y (n + 1 - y)
   out-still y h g q = leb-cases y x (λ a. let e : x ≡ y = omega arith in rw e) (λ a. stretches-on p false false n x y a g q)
 
@@ -144,7 +144,7 @@ module _ (p : ℕ → Bool) (n : ℕ) (writing : Bool) (out₀ out : List ℕ) (
 
 -- ---- the end
 
-module _ (p : ℕ → Bool) (n : ℕ) (writing : Bool) (out₀ out : List ℕ) (k recs : ℕ) (s : Swept p n writing out₀ out false (n + 1) k recs) where
+module _ {p : ℕ → Bool} {n : ℕ} {writing : Bool} {out₀ out : List ℕ} {k recs : ℕ} (s : Swept p n writing out₀ out false (n + 1) k recs) where
   pub swept-cells : cellsOf p n ≡ s .done
   swept-cells = s .left ∙ ap (λ (r : List ℕ). s .done ++ r) (stretches-end p false n (n + 1) (omega arith)) ∙ append-nil (s .done)
 

@@ -3,7 +3,8 @@ use Prim.Native.Nat.{ℕ, _+_}
 use mathlib.Core.Bool.{Bool, true, false, _&&_, _||_}
 use mathlib.Core.List.{List, [], _∷_}
 use lib.Dec.{leb, ltb}
-use Rattle.list.specs.Interval.{top, names}
+use Rattle.limits.specs.Limits.{recordMax}
+use Rattle.list.specs.Interval.{names}
 use Rattle.list.specs.Stretches.{cellsOf}
 
 -- Reference 3.3: the union
@@ -13,7 +14,7 @@ inSome (c ∷ cs) x = names c x || inSome cs x
 
 -- Reference 3.3: its list
 unfoldable pub unionOf : List (List ℕ) → List ℕ
-unionOf cs = cellsOf (inSome cs) top
+unionOf cs = cellsOf (inSome cs) recordMax
 
 -- Reference 3.3: the intersection; a request of no list is refused, so that what every one of no lists names is never asked for
 unfoldable pub inEvery : List (List ℕ) → ℕ → Bool
@@ -22,7 +23,7 @@ inEvery (c ∷ cs) x = names c x && inEvery cs x
 
 -- Reference 3.3: its list
 unfoldable pub intersectionOf : List (List ℕ) → List ℕ
-intersectionOf cs = cellsOf (inEvery cs) top
+intersectionOf cs = cellsOf (inEvery cs) recordMax
 
 -- 1 where the test holds, else 0
 abbrev pub one : Bool → ℕ

@@ -5,10 +5,6 @@ use mathlib.Core.List.{List, [], _∷_}
 use lib.Dec.{leb}
 use lib.ListN.{length}
 
--- Reference 1: the highest record number
-abbrev pub top : ℕ
-top = 16777215
-
 -- Reference 3.1: whether the cells c are a proper list whose first l is at least k and whose last u is at most n
 unfoldable pub properFrom : ℕ → ℕ → List ℕ → Bool
 properFrom n k [] = true

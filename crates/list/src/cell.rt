@@ -6,7 +6,8 @@ ghost use Rattle.list.specs.Cell.{cellAt, numbersIn};
 
 // A byte as a number of 32 bits: where it is called, nothing is left to show.
 fn wide(x: u8) -> u32
-    ensures { λ r. ⌜ (r ≡ x) × (r ≤ 255) ⌝ }
+    ensures is { λ r. ⌜ r ≡ x ⌝ }
+    ensures small { λ r. ⌜ r ≤ 255 ⌝ }
 {
     x as u32
 }

@@ -2,7 +2,7 @@
 ghost use mathlib.Core.Path.{_≡_};
 ghost use Prim.Native.Nat.{_+_, _≤_};
 ghost use lib.ListN.{length, drop};
-ghost use Rattle.list.specs.Interval.{top};
+ghost use Rattle.limits.specs.Limits.{recordMax};
 ghost use Rattle.list.specs.Cell.{numbersIn};
 ghost use Rattle.list.specs.Kept.{isKept};
 ghost use Rattle.list.specs.Passed.{passed};
@@ -19,7 +19,7 @@ pub struct Pass {
 
 // Passes the singles below the bound, each of which has to be at least the one before plus 2: behind one that is not, nothing may begin.
 fn pass_singles(singles: &[u8], from: SingleAt, bound: u32, least0: u32) -> Pass
-    requires { ⌜ bound ≤ top + 1 ⌝ }
+    requires { ⌜ bound ≤ recordMax + 1 ⌝ }
     ensures { λ r. ⌜ r ≡ passed bound least0 (from .0) (drop (from .0) (numbersIn (now (singles .entry)))) ⌝ }
 {
     let count = singles.len() / 4;
@@ -41,7 +41,8 @@ fn pass_singles(singles: &[u8], from: SingleAt, bound: u32, least0: u32) -> Pass
 
 // Whether the three regions are a list within 1 to n that keeps the list rule: by the pairs, with the singles before each passed on the way.
 pub fn is_kept(singles: &[u8], lower: &[u8], upper: &[u8], n: u32) -> bool
-    requires { ⌜ (length (now lower) ≡ length (now upper)) × (n ≤ top) ⌝ }
+    requires paired { ⌜ length (now lower) ≡ length (now upper) ⌝ }
+    requires limit { ⌜ n ≤ recordMax ⌝ }
     ensures { λ r. ⌜ r ≡ isKept n (numbersIn (now (singles .entry))) (numbersIn (now (lower .entry))) (numbersIn (now (upper .entry))) ⌝ }
 {
     let count = lower.len() / 4;

@@ -1,4 +1,5 @@
 // Interval lists: their theory, and the reader of one list as an index keeps it.
+use limits::RECORD_MAX;
 
 pub mod answer;
 pub mod cell;
@@ -10,11 +11,8 @@ pub mod reading;
 pub mod seek;
 pub mod sense;
 
-// The largest record number.
-pub const TOP: u32 = 16_777_215;
-
 // Above every record number.
-pub const END: u32 = 16_777_216;
+pub const END: u32 = RECORD_MAX + 1;
 
 // Reference 3.4: p and q, the two positions of a walk, as types of their own, so that neither is taken for the other.
 pub struct SingleAt(pub usize);

@@ -1,7 +1,7 @@
 // Probing a kept list.
 ghost use mathlib.Core.Path.{_≡_};
 ghost use Prim.Native.Nat.{_≤_};
-ghost use Rattle.list.specs.Interval.{top};
+ghost use Rattle.limits.specs.Limits.{recordMax};
 ghost use Rattle.list.specs.Reading.{KeptIn, listIn};
 ghost use Rattle.list.specs.Ginix.{belowCount, overlapCount};
 use crate::PairAt;
@@ -15,7 +15,9 @@ pub struct Probe {
 
 // Reference 3.3: the two counts, each as that of the singles and that of the pairs, by what ends before a and what begins by b.
 pub fn probe_list(singles: &[u8], lower: &[u8], upper: &[u8], a: u32, b: u32) -> Probe
-    requires { ⌜ KeptIn top (now singles) (now lower) (now upper) × (a ≤ b) × (b ≤ top) ⌝ }
+    requires kept { ⌜ KeptIn recordMax (now singles) (now lower) (now upper) ⌝ }
+    requires ordered { ⌜ a ≤ b ⌝ }
+    requires within { ⌜ b ≤ recordMax ⌝ }
     ensures below { λ r. ⌜ r .below ≡ belowCount a (listIn (now (singles .entry)) (now (lower .entry)) (now (upper .entry))) ⌝ }
     ensures overlapping { λ r. ⌜ r .overlapping ≡ overlapCount a b (listIn (now (singles .entry)) (now (lower .entry)) (now (upper .entry))) ⌝ }
 {

@@ -53,7 +53,8 @@ pub fn next_place(singles: &[u8], lower: &[u8], at: Place) -> Place
 
 // The next interval.
 pub fn interval_at(singles: &[u8], lower: &[u8], upper: &[u8], at: Place) -> Interval
-    requires { ⌜ Goes (numbersIn (now singles)) (numbersIn (now lower)) at × (length (now lower) ≡ length (now upper)) ⌝ }
+    requires goes { ⌜ Goes (numbersIn (now singles)) (numbersIn (now lower)) at ⌝ }
+    requires paired { ⌜ length (now lower) ≡ length (now upper) ⌝ }
     ensures lower { λ r. ⌜ r .lower ≡ lowerAt (numbersIn (now (singles .entry))) (numbersIn (now (lower .entry))) at ⌝ }
     ensures upper { λ r. ⌜ r .upper ≡ upperAt (numbersIn (now (singles .entry))) (numbersIn (now (lower .entry))) (numbersIn (now (upper .entry))) at ⌝ }
 {
@@ -72,7 +73,8 @@ pub fn interval_at(singles: &[u8], lower: &[u8], upper: &[u8], at: Place) -> Int
 
 // The place behind all that ends before x, sought from a place nearby.
 pub fn reading_place(singles: &[u8], upper: &[u8], hint: Place, x: u32) -> Place
-    requires { ⌜ Ascends (numbersIn (now singles)) × Ascends (numbersIn (now upper)) ⌝ }
+    requires singles { ⌜ Ascends (numbersIn (now singles)) ⌝ }
+    requires upper { ⌜ Ascends (numbersIn (now upper)) ⌝ }
     ensures { λ r. ⌜ r ≡ readingPlace x (numbersIn (now (singles .entry))) (numbersIn (now (upper .entry))) ⌝ }
 {
     let p = hint.p;

@@ -1,22 +1,19 @@
 // How many numbers of an ascending region lie below x.
 ghost use mathlib.Core.Path.{_≡_};
-ghost use Prim.Native.Nat.{_+_, _/_, _≤_, min};
+ghost use Prim.Native.Nat.{_/_, _≤_};
 ghost use lib.ListN.{length};
 ghost use Rattle.list.specs.Cell.{numbersIn};
 ghost use Rattle.list.specs.Seek.{countBelow, Ascends};
 use crate::cell::number_at;
 
-fn smaller(a: usize, b: usize) -> usize
-    ensures { λ r. ⌜ r ≡ min a b ⌝ }
-{
-    if a < b { a } else { b }
-}
-
 // The count, which lies from lo0 to hi0, by halves.
 fn halve(region: &[u8], lo0: usize, hi0: usize, x: u32) -> usize
-    requires { ⌜ Ascends (numbersIn (now region)) × (hi0 ≤ length (now region) / 4) ⌝ }
-    requires { ⌜ (lo0 ≤ countBelow x (numbersIn (now region))) × (countBelow x (numbersIn (now region)) ≤ hi0) ⌝ }
-    ensures { λ r. ⌜ r ≡ countBelow x (numbersIn (now (region .entry))) ⌝ }
+    requires ascends { ⌜ Ascends (numbersIn (now region)) ⌝ }
+    requires within { ⌜ hi0 ≤ length (now region) / 4 ⌝ }
+    requires low { ⌜ lo0 ≤ countBelow x (numbersIn (now region)) ⌝ }
+    requires high { ⌜ countBelow x (numbersIn (now region)) ≤ hi0 ⌝ }
+    ensures is { λ r. ⌜ r ≡ countBelow x (numbersIn (now (region .entry))) ⌝ }
+    ensures within { λ r. ⌜ r ≤ length (now (region .entry)) / 4 ⌝ }
 {
     let mut lo = lo0;
     let mut hi = hi0;
@@ -33,8 +30,10 @@ fn halve(region: &[u8], lo0: usize, hi0: usize, x: u32) -> usize
 
 // The count from a place that is not past it: by steps that double, then by halves.
 pub fn count_below(region: &[u8], from: usize, x: u32) -> usize
-    requires { ⌜ Ascends (numbersIn (now region)) × (from ≤ countBelow x (numbersIn (now region))) ⌝ }
-    ensures { λ r. ⌜ r ≡ countBelow x (numbersIn (now (region .entry))) ⌝ }
+    requires ascends { ⌜ Ascends (numbersIn (now region)) ⌝ }
+    requires low { ⌜ from ≤ countBelow x (numbersIn (now region)) ⌝ }
+    ensures is { λ r. ⌜ r ≡ countBelow x (numbersIn (now (region .entry))) ⌝ }
+    ensures within { λ r. ⌜ r ≤ length (now (region .entry)) / 4 ⌝ }
 {
     let n = region.len() / 4;
     let mut lo = from;
@@ -45,8 +44,12 @@ pub fn count_below(region: &[u8], from: usize, x: u32) -> usize
             return halve(region, lo, hi, x);
         }
         lo = hi + 1;
-        hi = lo + smaller(step, n - lo);
-        step = 2 * smaller(step, n);
+        if n - lo < step {
+            hi = n;
+        } else {
+            hi = lo + step;
+            step = 2 * step;
+        }
     }
     halve(region, lo, hi, x)
 }
@@ -71,7 +74,8 @@ fn not_past(region: &[u8], hint: usize, x: u32) -> usize
 // The count from any hint.
 pub fn seek(region: &[u8], hint: usize, x: u32) -> usize
     requires { ⌜ Ascends (numbersIn (now region)) ⌝ }
-    ensures { λ r. ⌜ r ≡ countBelow x (numbersIn (now (region .entry))) ⌝ }
+    ensures is { λ r. ⌜ r ≡ countBelow x (numbersIn (now (region .entry))) ⌝ }
+    ensures within { λ r. ⌜ r ≤ length (now (region .entry)) / 4 ⌝ }
 {
     count_below(region, not_past(region, hint, x), x)
 }

@@ -1,7 +1,8 @@
 // Whether a number is in a kept list, and up to which number that stays so.
 ghost use mathlib.Core.Path.{_≡_};
 ghost use Prim.Native.Nat.{_≤_, min};
-ghost use Rattle.list.specs.Interval.{top, names};
+ghost use Rattle.limits.specs.Limits.{recordMax};
+ghost use Rattle.list.specs.Interval.{names};
 ghost use Rattle.list.specs.Cell.{numbersIn};
 ghost use Rattle.list.specs.Reading.{KeptIn, listIn, readingPlace};
 ghost use Rattle.list.specs.Sense.{Steady, numberOrEnd};
@@ -34,7 +35,9 @@ pub fn smaller(a: u32, b: u32) -> u32
 
 // What the list says of x, at the place of x, and how long it says so.
 pub fn sense_at(singles: &[u8], lower: &[u8], upper: &[u8], at: Place, x: u32) -> Sense
-    requires { ⌜ KeptIn top (now singles) (now lower) (now upper) × (at ≡ readingPlace x (numbersIn (now singles)) (numbersIn (now upper))) × (x ≤ top) ⌝ }
+    requires kept { ⌜ KeptIn recordMax (now singles) (now lower) (now upper) ⌝ }
+    requires place { ⌜ at ≡ readingPlace x (numbersIn (now singles)) (numbersIn (now upper)) ⌝ }
+    requires within { ⌜ x ≤ recordMax ⌝ }
     ensures { λ r. ⌜ Steady (names (listIn (now (singles .entry)) (now (lower .entry)) (now (upper .entry)))) x (r .inside) (r .until) ⌝ }
 {
     let p = at.p;

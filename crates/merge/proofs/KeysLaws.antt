@@ -16,15 +16,15 @@ use Rattle.merge.specs.Keys.{sumOf, isKey, Keys, Refilled}
 
 -- ---- sums
 
-pub sum-none : (f : ℕ → ℕ) → sumOf f 0 ≡ 0
+sum-none : (f : ℕ → ℕ) → sumOf f 0 ≡ 0
 unfolding sumOf
 sum-none f = refl
 
-pub sum-more : (f : ℕ → ℕ) (n : ℕ) → sumOf f (n + 1) ≡ f n + sumOf f n
+sum-more : (f : ℕ → ℕ) (n : ℕ) → sumOf f (n + 1) ≡ f n + sumOf f n
 unfolding sumOf
 sum-more f n = rw (add-one n)
 
-pub sum-same : (f g : ℕ → ℕ) (n : ℕ) → ((i : ℕ) → i < n → f i ≡ g i) → sumOf f n ≡ sumOf g n
+sum-same : (f g : ℕ → ℕ) (n : ℕ) → ((i : ℕ) → i < n → f i ≡ g i) → sumOf f n ≡ sumOf g n
 unfolding sumOf
 sum-same f g zero h = refl
 sum-same f g (suc n) h = rw (h n (omega arith), sum-same f g n (λ i k. h i (omega arith)))
@@ -63,10 +63,10 @@ sum-most f (suc n) h = omega (arith, h n, sum-most f n h)
 -- ---- keys
 
 -- the only key of a list
-pub key-one : (j m : ℕ) (ms : List ℕ) → one (isKey (m * 16 + j) j (m ∷ ms)) ≡ 1
+key-one : (j m : ℕ) (ms : List ℕ) → one (isKey (m * 16 + j) j (m ∷ ms)) ≡ 1
 key-one j m ms = rw (eq-eqb (m * 16 + j) (m * 16 + j) refl)
 
-pub key-mark : (y j : ℕ) (ms : List ℕ) → 0 < one (isKey y j ms) → (m : ℕ) × (r : List ℕ) × (ms ≡ m ∷ r) × (y ≡ m * 16 + j)
+key-mark : (y j : ℕ) (ms : List ℕ) → 0 < one (isKey y j ms) → (m : ℕ) × (r : List ℕ) × (ms ≡ m ∷ r) × (y ≡ m * 16 + j)
 key-mark y j [] h = absurd (omega arith)
 key-mark y j (m ∷ r) h = by-test (eqb y (m * 16 + j)) (λ e. (m, r, refl, eqb-true y (m * 16 + j) e)) (λ e. absurd (let k = rw e at h in omega arith))
 
@@ -77,7 +77,7 @@ pub record Front (n y : ℕ) (due : ℕ → List ℕ) : Type 0 where
   pub mark : due (y % 16) ≡ (y / 16) ∷ rest
   pub least : (i m : ℕ) (r : List ℕ) → i < n → due i ≡ m ∷ r → y / 16 ≤ m
 
-module _ (n size : ℕ) (cells : List ℕ) (due : ℕ → List ℕ) (few : n ≤ 16) (k : Keys n size cells due) where
+module _ {n size : ℕ} {cells : List ℕ} {due : ℕ → List ℕ} (few : n ≤ 16) (k : Keys n size cells due) where
   counted : (i m : ℕ) (r : List ℕ) → i < n → due i ≡ m ∷ r → 0 < countOf (m * 16 + i) (take size cells)
   counted i m r h e =
       let y = m * 16 + i in
@@ -107,28 +107,29 @@ module _ (n size : ℕ) (cells : List ℕ) (due : ℕ → List ℕ) (few : n ≤
       go (m ∷ r) q = absurd (let c = rw e at (counted i m r h q) in omega (arith, count-none (m * 16 + i) cells))
 
   -- the list at the front goes on
-  pub keys-refill : (size′ : ℕ) (cells′ : List ℕ) (due′ : ℕ → List ℕ) (j : ℕ) → Front n (getD cells 0 0) due → j ≡ getD cells 0 0 % 16
-      → Refilled j (due′ j) size cells size′ cells′
-      → ((i : ℕ) → i < n → (i ≡ j → ⊥) → due i ≡ due′ i)
+  pub keys-refill : {size′ : ℕ} {cells′ : List ℕ} {due′ : ℕ → List ℕ} → Front n (getD cells 0 0) due
+      → Refilled (getD cells 0 0 % 16) (due′ (getD cells 0 0 % 16)) size cells size′ cells′
+      → ((i : ℕ) → (i ≡ getD cells 0 0 % 16 → ⊥) → due i ≡ due′ i)
       → Keys n size′ cells′ due′
-  keys-refill size′ cells′ due′ j f ej r same = record {
+  keys-refill {size′} {cells′} {due′} f r same = record {
     heap = r .heap;
     bag = λ y.
-        let y₀ = getD cells 0 0 in
-        let lj = f .list in
-        let c = sum-change (λ i. one (isKey y i (due i))) (λ i. one (isKey y i (due′ i))) n j (omega arith) (λ i h ne. ap (λ (ms : List ℕ). one (isKey y i ms)) (same i h ne)) in
-        let own : one (isKey y j (due j)) ≡ one (eqb y y₀) = ap (λ (ms : List ℕ). one (isKey y j ms)) (ap due ej ∙ f .mark) ∙ ap (λ (z : ℕ). one (eqb y z)) (omega arith) in
+        let j = getD cells 0 0 % 16 in
+        let c = sum-change (λ i. one (isKey y i (due i))) (λ i. one (isKey y i (due′ i))) n j (f .list)
+        (λ i h ne. ap (λ (ms : List ℕ). one (isKey y i ms)) (same i ne)) in
+        let own : one (isKey y j (due j)) ≡ one (eqb y (getD cells 0 0)) =
+        ap (λ (ms : List ℕ). one (isKey y j ms)) (f .mark) ∙ ap (λ (z : ℕ). one (eqb y z)) (omega arith) in
         omega (arith, r .bag y, k .bag y);
   }
 
 -- ---- filling
 
-pub fill-start : (cells : List ℕ) (due : ℕ → List ℕ) → Keys 0 0 cells due
-fill-start cells due = record { heap = heap-none cells; bag = λ y. count-none y cells ∙ sym (sum-none (λ j. one (isKey y j (due j)))) }
+pub fill-start : {cells : List ℕ} {due : ℕ → List ℕ} → Keys 0 0 cells due
+fill-start {cells} {due} = record { heap = heap-none cells; bag = λ y. count-none y cells ∙ sym (sum-none (λ j. one (isKey y j (due j)))) }
 
-pub fill-step : (n x : ℕ) (cells cells′ : List ℕ) (due : ℕ → List ℕ) (m : ℕ) (ms : List ℕ) → Keys n n cells due → due n ≡ m ∷ ms → x ≡ m * 16 + n
+pub fill-step : {n x m : ℕ} {cells cells′ ms : List ℕ} {due : ℕ → List ℕ} → Keys n n cells due → due n ≡ m ∷ ms → x ≡ m * 16 + n
     → Pushed n x cells cells′ → Keys (n + 1) (n + 1) cells′ due
-fill-step n x cells cells′ due m ms k e ex p = record {
+fill-step {n} {x} {due = due} k e ex p = record {
   heap = p .heap;
   bag = λ y.
       let own : one (isKey y n (due n)) ≡ one (eqb y x) = ap (λ (q : List ℕ). one (isKey y n q)) e ∙ ap (λ (z : ℕ). one (eqb y z)) (sym ex) in
@@ -137,18 +138,8 @@ fill-step n x cells cells′ due m ms k e ex p = record {
 
 -- ---- one key for another
 
-pub refilled-by : (j m x size : ℕ) (ms old new : List ℕ) → x ≡ m * 16 + j → Replaced size x old new → Refilled j (m ∷ ms) size old size new
-refilled-by j m x size ms old new e r = record {
-  room = r .room;
-  fewer = omega arith;
-  heap = r .heap;
-  bag = λ y. rw (← e) (r .bag y);
-}
+pub refilled-by : {j m x size : ℕ} {ms old new : List ℕ} → x ≡ m * 16 + j → Replaced size x old new → Refilled j (m ∷ ms) size old size new
+refilled-by e r = record { room = r .room; fewer = omega arith; heap = r .heap; bag = λ y. rw (← e) (r .bag y) }
 
-pub refilled-none : (j size : ℕ) (old new : List ℕ) → Dropped size old new → Refilled j [] size old (size - 1) new
-refilled-none j size old new r = record {
-  room = r .room;
-  fewer = omega arith;
-  heap = r .heap;
-  bag = λ y. omega (arith, r .bag y);
-}
+pub refilled-none : {j size : ℕ} {old new : List ℕ} → Dropped size old new → Refilled j [] size old (size - 1) new
+refilled-none r = record { room = r .room; fewer = omega arith; heap = r .heap; bag = λ y. omega (arith, r .bag y) }

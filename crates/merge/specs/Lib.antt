@@ -2,4 +2,3 @@ pub mod Request
 pub mod Places
 pub mod Put
 pub mod Keys
-pub mod Sweep

@@ -1,13 +1,14 @@
 -- The lists of a join by their regions, and when one is used up at its reading place.
-use Prim.Native.Nat.{ℕ, _+_, _<_}
+use Prim.Native.Nat.{ℕ, _+_, _≤_}
 use mathlib.Core.Bool.{Bool}
 use mathlib.Core.List.{List}
 use lib.Dec.{leb}
 use lib.ListN.{length}
 use Rattle.list.specs.declared.Place.{Place}
 use Rattle.list.specs.Cell.{numbersIn}
-use Rattle.index.specs.Format.{wordCount, singlesOf, lowerOf, upperOf}
-use Rattle.index.specs.Sound.{Sound}
+use Rattle.list.specs.Kept.{nextPlace, lowerAt, upperAt}
+use Rattle.list.specs.Reading.{Goes}
+use Rattle.index.specs.Format.{singlesOf, lowerOf, upperOf}
 
 -- the numbers of the three regions of entry i
 abbrev pub entrySingles : List ℕ → ℕ → List ℕ
@@ -19,9 +20,23 @@ entryLowers index i = numbersIn (lowerOf index i)
 abbrev pub entryUppers : List ℕ → ℕ → List ℕ
 entryUppers index i = numbersIn (upperOf index i)
 
--- an entry of a sound index
-abbrev pub EntryIn : List ℕ → ℕ → Type 0
-EntryIn index i = Sound index × (i < wordCount index)
+-- a place of the list of entry i
+pub record PlaceIn (index : List ℕ) (i : ℕ) (at : Place) : Type 0 where
+  pub single : at .p .0 ≤ length (entrySingles index i)
+  pub pair : at .q .0 ≤ length (entryLowers index i)
+
+-- an interval is next there, its bounds, and the place behind it
+abbrev pub GoesIn : List ℕ → ℕ → Place → Type 0
+GoesIn index i at = Goes (entrySingles index i) (entryLowers index i) at
+
+abbrev pub nextLowerIn : List ℕ → ℕ → Place → ℕ
+nextLowerIn index i at = lowerAt (entrySingles index i) (entryLowers index i) at
+
+abbrev pub nextUpperIn : List ℕ → ℕ → Place → ℕ
+nextUpperIn index i at = upperAt (entrySingles index i) (entryLowers index i) (entryUppers index i) at
+
+abbrev pub placeBehind : List ℕ → ℕ → Place → Place
+placeBehind index i at = nextPlace (entrySingles index i) (entryLowers index i) at
 
 -- the list of entry i is used up at a place
 abbrev pub usedUp : List ℕ → ℕ → Place → Bool

@@ -4,17 +4,17 @@ use mathlib.Core.Path.{_≡_}
 use mathlib.Core.Bool.{Bool, true, false, cond}
 use mathlib.Core.List.{List}
 use lib.ListN.{length, set}
+use Rattle.limits.specs.Limits.{recordMax}
 use Rattle.list.specs.declared.answer.Tally.{Tally}
 use Rattle.list.specs.declared.reading.Interval.{Interval}
-use Rattle.list.specs.Interval.{top}
 
 -- an interval can be counted, and where the list is written it has room
 pub record Fitting (writing : Bool) (out : List ℕ) (t : Tally) (i : Interval) : Type 0 where
   pub room : writing ≡ true → 2 * t .intervals + 2 ≤ length out
-  pub few : t .intervals ≤ top
-  pub small : t .records ≤ top
+  pub few : t .intervals ≤ recordMax
+  pub small : t .records ≤ recordMax
   pub order : i .lower ≤ i .upper
-  pub high : i .upper ≤ top
+  pub high : i .upper ≤ recordMax
 
 -- it is counted, and written where the list is
 pub record Put (writing : Bool) (out out′ : List ℕ) (t : Tally) (i : Interval) (r : Tally) : Type 0 where

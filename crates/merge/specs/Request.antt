@@ -2,6 +2,7 @@
 use Prim.Native.Nat.{ℕ, _≤_, _<_}
 use mathlib.Core.List.{List, [], _∷_}
 use lib.ListN.{length, getD}
+use Rattle.limits.specs.Limits.{joinMax}
 use Rattle.index.specs.Format.{wordCount, listOf}
 use Rattle.index.specs.Sound.{Sound}
 
@@ -9,7 +10,7 @@ use Rattle.index.specs.Sound.{Sound}
 pub record SoundRequest (index entries : List ℕ) : Type 0 where
   pub sound : Sound index
   pub some : 1 ≤ length entries
-  pub few : length entries ≤ 16
+  pub few : length entries ≤ joinMax
   pub below : (j : ℕ) → j < length entries → getD entries j 0 < wordCount index
 
 -- Reference 8.5: the lists of the entries asked for

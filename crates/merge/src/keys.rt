@@ -3,35 +3,46 @@
 ghost use mathlib.Core.Path.{_≡_};
 ghost use mathlib.Core.List.{[], _∷_};
 ghost use Prim.Native.Nat.{_+_, _*_, _≤_, _<_};
-ghost use lib.ListN.{length, take, replicate};
-ghost use Rattle.list.specs.Kept.{start, lowerAt, upperAt};
-ghost use Rattle.list.specs.Reading.{Goes};
+ghost use lib.ListN.{length, take};
+ghost use Rattle.limits.specs.Limits.{joinMax};
+ghost use Rattle.directory.specs.Regions.{EntryIn};
 ghost use Rattle.heap.specs.Heap.{IsHeap};
 ghost use Rattle.merge.specs.Request.{SoundRequest};
-ghost use Rattle.merge.specs.Keys.{lowerMark, upperMark, Keys, Refilled, lowerDue, dueAt};
-ghost use Rattle.merge.specs.Places.{entrySingles, entryLowers, entryUppers, EntryIn};
+ghost use Rattle.merge.specs.Keys.{lowerMark, upperMark, Refilled, lowerDue, FirstKeys};
+ghost use Rattle.merge.specs.Places.{PlaceIn, GoesIn, nextLowerIn, nextUpperIn};
 use crate::places::next_interval;
 use crate::places::used_up;
 use heap::drop_least;
 use heap::push;
 use heap::replace_least;
+use limits::JOIN_MAX;
 use list::PairAt;
 use list::Place;
 use list::SingleAt;
 
+// The last digit of a key is its list.
+pub const LISTS: u32 = JOIN_MAX as u32;
+
+// What 1 of a bound is worth in a key.
+pub const BOUND: u32 = 2 * LISTS;
+
 // The key of the lower bound that is next in list j.
 fn lower_key(index: &[u8], entry: usize, at: Place, j: usize) -> u32
-    requires { ⌜ EntryIn (now index) entry × Goes (entrySingles (now index) entry) (entryLowers (now index) entry) at × (j < 16) ⌝ }
-    ensures { λ r. ⌜ r ≡ lowerMark (lowerAt (entrySingles (now (index .entry)) entry) (entryLowers (now (index .entry)) entry) at) * 16 + j ⌝ }
+    requires entry { ⌜ EntryIn (now index) entry ⌝ }
+    requires goes { ⌜ GoesIn (now index) entry at ⌝ }
+    requires list { ⌜ j < joinMax ⌝ }
+    ensures { λ r. ⌜ r ≡ lowerMark (nextLowerIn (now (index .entry)) entry at) * joinMax + j ⌝ }
 {
     let next = next_interval(index, entry, at);
-    next.lower * 32 + j as u32
+    next.lower * BOUND + j as u32
 }
 
 // The keys of all lists of a request, each at its start.
 pub fn fill(index: &[u8], entries: &[u32], keys: &mut [u32])
-    requires { ⌜ SoundRequest (now index) (now entries) × (length (now keys) ≡ 16) ⌝ }
-    ensures { λ _. ⌜ (length (now (keys .exit)) ≡ 16) × Keys (length (now (entries .entry))) (length (now (entries .entry))) (now (keys .exit)) (dueAt (now (index .entry)) (now (entries .entry)) (replicate 16 start)) ⌝ }
+    requires sound { ⌜ SoundRequest (now index) (now entries) ⌝ }
+    requires room { ⌜ length (now keys) ≡ joinMax ⌝ }
+    ensures keeps { λ _. ⌜ length (now (keys .exit)) ≡ joinMax ⌝ }
+    ensures fills { λ _. ⌜ FirstKeys (now (index .entry)) (now (entries .entry)) (now (keys .exit)) ⌝ }
 {
     let mut j = 0;
     while j < entries.len() {
@@ -54,7 +65,12 @@ pub fn refill(
     keys: &mut [u32],
     size: usize,
 ) -> usize
-    requires { ⌜ EntryIn (now index) entry × (at .p .0 ≤ length (entrySingles (now index) entry)) × (at .q .0 ≤ length (entryLowers (now index) entry)) × (j < 16) × (0 < size) × (size ≤ length (now keys)) × IsHeap (take size (now keys)) ⌝ }
+    requires entry { ⌜ EntryIn (now index) entry ⌝ }
+    requires place { ⌜ PlaceIn (now index) entry at ⌝ }
+    requires list { ⌜ j < joinMax ⌝ }
+    requires some { ⌜ 0 < size ⌝ }
+    requires within { ⌜ size ≤ length (now keys) ⌝ }
+    requires ordered { ⌜ IsHeap (take size (now keys)) ⌝ }
     ensures { λ r. ⌜ Refilled j (lowerDue (now (index .entry)) entry at) size (now (keys .entry)) r (now (keys .exit)) ⌝ }
 {
     if used_up(index, entry, at) {
@@ -68,10 +84,15 @@ pub fn refill(
 
 // The upper bound of list j's next interval comes in the place of the least key, its lower one.
 pub fn to_upper(index: &[u8], entry: usize, at: Place, j: usize, keys: &mut [u32], size: usize)
-    requires { ⌜ EntryIn (now index) entry × Goes (entrySingles (now index) entry) (entryLowers (now index) entry) at × (j < 16) × (0 < size) × (size ≤ length (now keys)) × IsHeap (take size (now keys)) ⌝ }
-    ensures { λ _. ⌜ Refilled j (upperMark (upperAt (entrySingles (now (index .entry)) entry) (entryLowers (now (index .entry)) entry) (entryUppers (now (index .entry)) entry) at) ∷ []) size (now (keys .entry)) size (now (keys .exit)) ⌝ }
+    requires entry { ⌜ EntryIn (now index) entry ⌝ }
+    requires goes { ⌜ GoesIn (now index) entry at ⌝ }
+    requires list { ⌜ j < joinMax ⌝ }
+    requires some { ⌜ 0 < size ⌝ }
+    requires within { ⌜ size ≤ length (now keys) ⌝ }
+    requires ordered { ⌜ IsHeap (take size (now keys)) ⌝ }
+    ensures { λ _. ⌜ Refilled j (upperMark (nextUpperIn (now (index .entry)) entry at) ∷ []) size (now (keys .entry)) size (now (keys .exit)) ⌝ }
 {
     let next = next_interval(index, entry, at);
-    let key = (next.upper + 1) * 32 + 16 + j as u32;
+    let key = (next.upper + 1) * BOUND + LISTS + j as u32;
     replace_least(keys, size, key);
 }

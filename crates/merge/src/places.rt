@@ -1,15 +1,17 @@
 // Reading places, one for each list of a join.
 ghost use mathlib.Core.Path.{_≡_};
-ghost use Prim.Native.Nat.{_≤_, _<_};
+ghost use Prim.Native.Nat.{_<_};
 ghost use lib.ListN.{length, getD, set, replicate};
+ghost use Rattle.limits.specs.Limits.{joinMax};
 ghost use Rattle.list.specs.Cell.{numbersIn};
-ghost use Rattle.list.specs.Kept.{start, nextPlace, lowerAt, upperAt};
+ghost use Rattle.list.specs.Kept.{start, nextPlace};
 ghost use Rattle.list.specs.Reading.{Goes};
-ghost use Rattle.merge.specs.Places.{entrySingles, entryLowers, entryUppers, EntryIn, usedUp};
+ghost use Rattle.directory.specs.Regions.{EntryIn};
+ghost use Rattle.merge.specs.Places.{PlaceIn, GoesIn, nextLowerIn, nextUpperIn, placeBehind, usedUp};
+use directory::parts::Regions;
 use directory::parts::interval_count;
-use directory::parts::lower_of;
-use directory::parts::singles_of;
-use directory::parts::upper_of;
+use directory::parts::regions_of;
+use limits::JOIN_MAX;
 use list::PairAt;
 use list::Place;
 use list::SingleAt;
@@ -18,13 +20,13 @@ use list::reading::interval_at;
 use list::reading::next_place;
 
 // Every place at the start of its list.
-pub fn all_at_start() -> [Place; 16]
-    ensures { λ r. ⌜ r ≡ replicate 16 start ⌝ }
+pub fn all_at_start() -> [Place; JOIN_MAX]
+    ensures { λ r. ⌜ r ≡ replicate joinMax start ⌝ }
 {
     [Place {
         p: SingleAt(0),
         q: PairAt(0),
-    }; 16]
+    }; JOIN_MAX]
 }
 
 // The thin step: reading place j of a lent slice moves on in its list.
@@ -36,8 +38,13 @@ pub fn step(places: &mut [Place], j: usize, singles: &[u8], lower: &[u8])
 }
 
 // By value, for callers that lend nothing: the array is lent to `step` and handed back.
-pub fn stepped(places: [Place; 16], j: usize, singles: &[u8], lower: &[u8]) -> [Place; 16]
-    requires { ⌜ (j < 16) × Goes (numbersIn (now singles)) (numbersIn (now lower)) (getD places j start) ⌝ }
+pub fn stepped(
+    places: [Place; JOIN_MAX],
+    j: usize,
+    singles: &[u8],
+    lower: &[u8],
+) -> [Place; JOIN_MAX]
+    requires { ⌜ (j < joinMax) × Goes (numbersIn (now singles)) (numbersIn (now lower)) (getD places j start) ⌝ }
     ensures { λ r. ⌜ r ≡ set places j (nextPlace (numbersIn (now (singles .entry))) (numbersIn (now (lower .entry))) (getD places j start)) ⌝ }
 {
     let mut all = places;
@@ -46,29 +53,36 @@ pub fn stepped(places: [Place; 16], j: usize, singles: &[u8], lower: &[u8]) -> [
 }
 
 // The same, the list being that of an entry.
-pub fn moved_on(index: &[u8], entry: usize, places: [Place; 16], j: usize) -> [Place; 16]
-    requires { ⌜ EntryIn (now index) entry × (j < 16) × Goes (entrySingles (now index) entry) (entryLowers (now index) entry) (getD places j start) ⌝ }
-    ensures { λ r. ⌜ r ≡ set places j (nextPlace (entrySingles (now (index .entry)) entry) (entryLowers (now (index .entry)) entry) (getD places j start)) ⌝ }
+pub fn moved_on(
+    index: &[u8],
+    entry: usize,
+    places: [Place; JOIN_MAX],
+    j: usize,
+) -> [Place; JOIN_MAX]
+    requires entry { ⌜ EntryIn (now index) entry ⌝ }
+    requires list { ⌜ j < joinMax ⌝ }
+    requires goes { ⌜ GoesIn (now index) entry (getD places j start) ⌝ }
+    ensures { λ r. ⌜ r ≡ set places j (placeBehind (now (index .entry)) entry (getD places j start)) ⌝ }
 {
-    stepped(places, j, singles_of(index, entry), lower_of(index, entry))
+    let Regions { s, l, u, end: _ } = regions_of(index, entry);
+    stepped(places, j, &index[s..l], &index[l..u])
 }
 
 // The interval of an entry's list that is next at a place.
 pub fn next_interval(index: &[u8], entry: usize, at: Place) -> Interval
-    requires { ⌜ EntryIn (now index) entry × Goes (entrySingles (now index) entry) (entryLowers (now index) entry) at ⌝ }
-    ensures { λ r. ⌜ (r .lower ≡ lowerAt (entrySingles (now (index .entry)) entry) (entryLowers (now (index .entry)) entry) at) × (r .upper ≡ upperAt (entrySingles (now (index .entry)) entry) (entryLowers (now (index .entry)) entry) (entryUppers (now (index .entry)) entry) at) ⌝ }
+    requires entry { ⌜ EntryIn (now index) entry ⌝ }
+    requires goes { ⌜ GoesIn (now index) entry at ⌝ }
+    ensures lower { λ r. ⌜ r .lower ≡ nextLowerIn (now (index .entry)) entry at ⌝ }
+    ensures upper { λ r. ⌜ r .upper ≡ nextUpperIn (now (index .entry)) entry at ⌝ }
 {
-    interval_at(
-        singles_of(index, entry),
-        lower_of(index, entry),
-        upper_of(index, entry),
-        at,
-    )
+    let Regions { s, l, u, end } = regions_of(index, entry);
+    interval_at(&index[s..l], &index[l..u], &index[u..end], at)
 }
 
 // Whether an entry's list is used up at a place of it.
 pub fn used_up(index: &[u8], entry: usize, at: Place) -> bool
-    requires { ⌜ EntryIn (now index) entry × (at .p .0 ≤ length (entrySingles (now index) entry)) × (at .q .0 ≤ length (entryLowers (now index) entry)) ⌝ }
+    requires entry { ⌜ EntryIn (now index) entry ⌝ }
+    requires place { ⌜ PlaceIn (now index) entry at ⌝ }
     ensures { λ r. ⌜ r ≡ usedUp (now (index .entry)) entry at ⌝ }
 {
     let p = at.p;

@@ -1,68 +1,44 @@
 -- The two calls for an entry's word agree, whatever the index and the number.
-use Prim.Native.Nat.{ℕ, _+_, _≤_, _<_}
-use mathlib.Core.Path.{_≡_, refl, sym, _∙_}
-use mathlib.Core.List.{[]}
+use Prim.Native.Nat.{ℕ, _<_}
+use mathlib.Core.Path.{_≡_, refl}
 use native.Mathlib.Omega.{arith}
-use lib.ListN.{length}
 use Rattle.refusal.specs.declared.Refusal.{Refusal}
-use Rattle.refusal.specs.declared.Refusal.the-variants.{
-  IndexLength,
-  Edition,
-  Trailer,
-  Directory,
-  KeptList,
-  QuestionLength,
-  QuestionByte,
-  LongWord,
-  Grammar,
-  WordLimit,
-  BracketLimit,
-  Room,
-  ListCount,
-  EntryNumber,
-  Number,
-  Interval,
-  BuildWord,
-  BuildCount,
-  BuildLimit,
-  ProbeRange,
-  Missing,
-}
+use Rattle.refusal.specs.declared.Refusal.the-variants as refusal
 use Rattle.refusal.specs.Refusal.{numberOf}
 use Rattle.index.specs.declared.Checked.{Checked}
 use Rattle.index.specs.declared.Checked.the-variants.{Good, Refused}
 use Rattle.index.specs.Format.{wordStart, wordLength, wordOf}
-use Rattle.index.specs.Part.{Slice, partOf}
+use Rattle.index.specs.Part.{Slice}
 use Rattle.directory.specs.Entry.{entryCheck, entryWord}
 use Rattle.index.proofs.SoundLaws.{part-length, sound-word-room}
 use Rattle.directory.proofs.AnswerLaws.{entry-good, start-answered, start-refused, length-answered, length-refused}
-use Rattle.naburain.specs.declared.WordResult.{WordResult}
+use Rattle.naburain.specs.declared.PartResult.{PartResult}
 use Rattle.naburain.specs.Result.{wordResult}
 use Rattle.naburain.specs.Agree.{Reported}
 
 -- 0 is the number of no refusal, so that a caller tells an answer by it
 pub number-above-zero : (r : Refusal) → 0 < numberOf r
-number-above-zero (IndexLength n) = omega arith
-number-above-zero (Edition e) = omega arith
-number-above-zero Trailer = omega arith
-number-above-zero (Directory i) = omega arith
-number-above-zero (KeptList i) = omega arith
-number-above-zero (QuestionLength n) = omega arith
-number-above-zero (QuestionByte i) = omega arith
-number-above-zero (LongWord i) = omega arith
-number-above-zero (Grammar i) = omega arith
-number-above-zero (WordLimit i) = omega arith
-number-above-zero (BracketLimit i) = omega arith
-number-above-zero (Room n) = omega arith
-number-above-zero (ListCount n) = omega arith
-number-above-zero (EntryNumber i) = omega arith
-number-above-zero (Number i) = omega arith
-number-above-zero (Interval i) = omega arith
-number-above-zero (BuildWord i) = omega arith
-number-above-zero (BuildCount i) = omega arith
-number-above-zero (BuildLimit i) = omega arith
-number-above-zero ProbeRange = omega arith
-number-above-zero Missing = omega arith
+number-above-zero (refusal.IndexLength n) = omega arith
+number-above-zero (refusal.IndexEdition e) = omega arith
+number-above-zero refusal.IndexTrailer = omega arith
+number-above-zero (refusal.IndexEntry i) = omega arith
+number-above-zero (refusal.IndexList i) = omega arith
+number-above-zero (refusal.QuestionLength n) = omega arith
+number-above-zero (refusal.QuestionByte i) = omega arith
+number-above-zero (refusal.QuestionWord i) = omega arith
+number-above-zero (refusal.Grammar i) = omega arith
+number-above-zero (refusal.Words i) = omega arith
+number-above-zero (refusal.Brackets i) = omega arith
+number-above-zero (refusal.Room n) = omega arith
+number-above-zero (refusal.Lists n) = omega arith
+number-above-zero (refusal.EntryNumber i) = omega arith
+number-above-zero (refusal.Number i) = omega arith
+number-above-zero (refusal.Interval i) = omega arith
+number-above-zero (refusal.BuildWord i) = omega arith
+number-above-zero (refusal.BuildCount i) = omega arith
+number-above-zero (refusal.BuildSize i) = omega arith
+number-above-zero refusal.ProbeRange = omega arith
+number-above-zero refusal.NoWord = omega arith
 
 -- by what the index and the number are refused by, if anything
 agree-at : (index : Slice) (i : ℕ) (k : Checked) → entryCheck (index .bytes) i ≡ k →
@@ -72,7 +48,7 @@ agree-at index i Good e =
     let s = start-answered (index .bytes) i e in
     let n = length-answered (index .bytes) i e in
     let g = entry-good (index .bytes) i e in
-    let room = sound-word-room (index .bytes) (g .0) i (g .1) in
+    let room = sound-word-room (index .bytes) (g .sound) i (g .below) in
     record {
       part = rw (s, n);
       within = room;
@@ -93,7 +69,7 @@ agree-at index i (Refused x) e =
     }
 
 -- any return that the contract of the one call allows, and any that the other's does
-pub word-parts-agree : (index : Slice) (i : ℕ) (r : Slice) (w : WordResult) →
+pub word-parts-agree : (index : Slice) (i : ℕ) (r : Slice) (w : PartResult) →
     r ≡ entryWord index i → w ≡ wordResult (entryCheck (index .bytes) i) (wordStart (index .bytes) i) (wordLength (index .bytes) i) →
     Reported index i r w
 word-parts-agree index i r w p q = rw (p, q) (agree-at index i (entryCheck (index .bytes) i) refl)

@@ -9,36 +9,36 @@ use Rattle.join.specs.Join.{Joins}
 use Rattle.question.specs.Grammar.{fromLeft}
 use Rattle.query.specs.Ask.{Asks}
 use Rattle.build.specs.Build.{Builds}
-use Rattle.naburain.specs.declared.WriteResult.{WriteResult}
-use Rattle.naburain.specs.declared.AnswerResult.{AnswerResult}
+use Rattle.naburain.specs.declared.WrittenResult.{WrittenResult}
+use Rattle.naburain.specs.declared.AnsweredResult.{AnsweredResult}
 use Rattle.naburain.specs.Result.{writeResult, answerResult}
 
 -- Reference 8.7
-pub record IntervalsExported (numbers out out′ : List ℕ) (r : WriteResult) : Type 0 where
+pub record IntervalsExported (numbers out out′ : List ℕ) (r : WrittenResult) : Type 0 where
   pub written : Written
   pub promise : ToIntervals numbers out out′ written
   pub result : r ≡ writeResult written
 
 -- Reference 8.8
-pub record NumbersExported (cells out out′ : List ℕ) (r : WriteResult) : Type 0 where
+pub record NumbersExported (cells out out′ : List ℕ) (r : WrittenResult) : Type 0 where
   pub written : Written
   pub promise : ToNumbers cells out out′ written
   pub result : r ≡ writeResult written
 
 -- Reference 8.5
-pub record JoinExported (method : List (List ℕ) → List ℕ) (index entries out out′ : List ℕ) (r : AnswerResult) : Type 0 where
+pub record JoinExported (method : List (List ℕ) → List ℕ) (index entries out out′ : List ℕ) (r : AnsweredResult) : Type 0 where
   pub answer : Answer
   pub promise : Joins method index entries out out′ answer
   pub result : r ≡ answerResult answer
 
 -- Reference 8.6
-pub record AskExported (index question out out′ : List ℕ) (r : AnswerResult) : Type 0 where
+pub record AskExported (index question out out′ : List ℕ) (r : AnsweredResult) : Type 0 where
   pub answer : Answer
   pub promise : Asks fromLeft index question out out′ answer
   pub result : r ≡ answerResult answer
 
 -- Reference 8.9
-pub record BuildExported (n : ℕ) (words counts numbers out out′ : List ℕ) (r : WriteResult) : Type 0 where
+pub record BuildExported (n : ℕ) (words counts numbers out out′ : List ℕ) (r : WrittenResult) : Type 0 where
   pub written : Written
   pub promise : Builds n words counts numbers out out′ written
   pub result : r ≡ writeResult written

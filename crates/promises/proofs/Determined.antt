@@ -9,7 +9,7 @@ use Rattle.index.specs.Check.{checkOf}
 use Rattle.directory.specs.Entry.{lookupOf, entryCheck, entryWord, probeOf}
 use Rattle.join.specs.Join.{Joins}
 use Rattle.question.specs.Grammar.{Rule, fromLeft}
-use Rattle.question.specs.Reading.{readingOf}
+use Rattle.question.specs.Reading.{verdictOf}
 use Rattle.query.specs.Ask.{Answers, Asks}
 use Rattle.build.specs.Build.{Builds}
 use Rattle.naburain.specs.Result.{checkResult, lookupResult, wordResult, probeResult, writeResult, answerResult}
@@ -38,8 +38,8 @@ word-determined index i = one-value (entryWord index i)
 pub probe-determined : (index : List ℕ) (i a b : ℕ) → OneReturn (λ r. r ≡ probeOf index i a b)
 probe-determined index i a b = one-value (probeOf index i a b)
 
-pub reading-determined : (question : List ℕ) → OneReturn (λ r. r ≡ readingOf question)
-reading-determined question = one-value (readingOf question)
+pub reading-determined : (question : List ℕ) → OneReturn (λ r. r ≡ verdictOf question)
+reading-determined question = one-value (verdictOf question)
 
 -- ---- calls that write
 

@@ -14,56 +14,18 @@ use Rattle.list.specs.declared.answer.Answer.{Answer}
 use Rattle.list.specs.declared.answer.Answer.the-variants as answer
 use Rattle.directory.specs.declared.Probed.{Probed}
 use Rattle.directory.specs.declared.Probed.the-variants.{Counted, NoCount}
-use Rattle.promises.specs.Wrong.{
-  Writer,
-  Promise,
-  Meets,
-  Is,
-  Fails,
-  FailsToBe,
-  Accepts,
-  Refusing,
-  RefusingAll,
-  Fixed,
-  Silent,
-  FirstOnly,
-  Inventing,
-  InventingAll,
-  Misreporting,
-  intervalsIn,
-  recordsIn,
-  neededOf,
-  neededIn,
-  writtenIn,
-  neededBy,
-  belowIn,
-  overlappingIn,
-}
-use Rattle.promises.specs.Made.{
-  leaving,
-  returning,
-  withIntervals,
-  withRecords,
-  withRoom,
-  withNeeded,
-  withWritten,
-  withNeededBy,
-  WrongWays,
-  WrongFirst,
-  WrongCounts,
-  WrongWritten,
-  withBelow,
-  withOverlapping,
-  WrongRefusal,
-  WrongProbe,
-}
+use Rattle.promises.specs.Wrong.{Writer, Promise, Meets, Equals, Fails, FailsToBe, Accepts, Refusing, RefusingAll, Fixed, Silent, FirstOnly}
+use Rattle.promises.specs.Wrong.{Inventing, InventingAll, Misreporting, intervalsIn, recordsIn, neededOf, neededIn, writtenIn, neededBy}
+use Rattle.promises.specs.Wrong.{belowIn, overlappingIn}
+use Rattle.promises.specs.Made.{leaving, returning, withIntervals, withRecords, withRoom, withNeeded, withWritten, withNeededBy, WrongWays}
+use Rattle.promises.specs.Made.{WrongFirst, WrongCounts, WrongWritten, withBelow, withOverlapping, WrongRefusal, WrongProbe}
 
 -- ---- what `Meets` and `Fails` say: some implementation meets a promise, and then not all fail it
 
 pub not-all-fail : {A R : Type 0} (promise : Promise A R) (f : Writer A R) → Meets promise f → Fails promise (λ g. Unit {0}) → ⊥
 not-all-fail promise f m none-meets = none-meets f tt m
 
-pub value-is : {A R : Type 0} (value : A → R) → Is value value
+pub value-is : {A R : Type 0} (value : A → R) → Equals value value
 value-is value a = refl
 
 pub not-all-fail-to-be : {A R : Type 0} (value : A → R) → FailsToBe value (λ g. Unit {0}) → ⊥

@@ -5,55 +5,35 @@ use native.Mathlib.Omega.{arith}
 use mathlib.Core.List.{List, [], _∷_, _++_}
 use lib.ListN.{length, getD}
 use Rattle.refusal.specs.declared.Refusal.{Refusal}
-use Rattle.refusal.specs.declared.Refusal.the-variants.{
-  IndexLength,
-  Edition,
-  Trailer,
-  Directory,
-  KeptList,
-  QuestionLength,
-  QuestionByte,
-  LongWord,
-  Grammar,
-  WordLimit,
-  BracketLimit,
-  Room,
-  ListCount,
-  EntryNumber,
-  Number,
-  Interval,
-  BuildWord,
-  BuildCount,
-  BuildLimit,
-  ProbeRange,
-  Missing,
-}
+use Rattle.refusal.specs.declared.Refusal.the-variants.{IndexLength, IndexEdition, IndexTrailer, IndexEntry, IndexList, QuestionLength, QuestionByte}
+use Rattle.refusal.specs.declared.Refusal.the-variants.{QuestionWord, Grammar, Words, Brackets, Room, Lists, EntryNumber, Number, Interval, BuildWord}
+use Rattle.refusal.specs.declared.Refusal.the-variants.{BuildCount, BuildSize, ProbeRange, NoWord}
 use Rattle.refusal.specs.Refusal.{numberOf, valueOf}
 use Rattle.promises.proofs.Rows.{_&_}
-use Rattle.promises.specs.Numbers.{Numbered, carries, zeroed, refusals, numbersIn, RowRight, RowsRight, made, AllNumbered}
+use Rattle.promises.specs.Numbers.{Numbered, carries, zeroed, refusals, rowNumbers, RowRight, RowsRight, made, AllNumbered}
 
-given-back : (r : Refusal) → made (getD refusals (numberOf r - 1) (zeroed 0 Missing)) (valueOf r) ≡ r
+given-back : (r : Refusal) → made (getD refusals (numberOf r - 1) (zeroed 0 NoWord)) (valueOf r) ≡ r
 given-back (IndexLength v) = refl
-given-back (Edition v) = refl
-given-back Trailer = refl
-given-back (Directory v) = refl
-given-back (KeptList v) = refl
+given-back (IndexEdition v) = refl
+given-back IndexTrailer = refl
+given-back (IndexEntry v) = refl
+given-back (IndexList v) = refl
 given-back (QuestionLength v) = refl
 given-back (QuestionByte v) = refl
-given-back (LongWord v) = refl
+given-back (QuestionWord v) = refl
 given-back (Grammar v) = refl
-given-back (WordLimit v) = refl
-given-back (BracketLimit v) = refl
+given-back (Words v) = refl
+given-back (Brackets v) = refl
 given-back (Room v) = refl
-given-back (ListCount v) = refl
+given-back (Lists v) = refl
 given-back (EntryNumber v) = refl
 given-back (Number v) = refl
 given-back (Interval v) = refl
 given-back (BuildWord v) = refl
 given-back (BuildCount v) = refl
-given-back (BuildLimit v) = refl
+given-back (BuildSize v) = refl
 given-back ProbeRange = refl
-given-back Missing = refl
+given-back NoWord = refl
 
 rows-right : RowsRight refusals
 rows-right =
@@ -92,13 +72,13 @@ refusals-numbered = record {
 -- two refusals with one number and one value are one
 pub numbers-tell : (rows : List Numbered) → AllNumbered rows → (r s : Refusal) → numberOf r ≡ numberOf s → valueOf r ≡ valueOf s → r ≡ s
 numbers-tell rows all r s e f =
-    sym (all .complete r) ∙ ap (λ n. made (getD rows (n - 1) (zeroed 0 Missing)) (valueOf r)) e
-    ∙ ap (λ v. made (getD rows (numberOf s - 1) (zeroed 0 Missing)) v) f ∙ all .complete s
+    sym (all .complete r) ∙ ap (λ n. made (getD rows (n - 1) (zeroed 0 NoWord)) (valueOf r)) e
+    ∙ ap (λ v. made (getD rows (numberOf s - 1) (zeroed 0 NoWord)) v) f ∙ all .complete s
 
 pub refusals-tell : (r s : Refusal) → numberOf r ≡ numberOf s → valueOf r ≡ valueOf s → r ≡ s
 refusals-tell = numbers-tell refusals refusals-numbered
 
-pub numbers-many : (rows : List Numbered) → AllNumbered rows → length (numbersIn rows) ≡ 21
+pub numbers-many : (rows : List Numbered) → AllNumbered rows → length (rowNumbers rows) ≡ 21
 numbers-many rows all = ap length (all .ordered)
 
 -- ---- a row with another number or another value is wrong, and so are rows with one such
@@ -106,10 +86,10 @@ numbers-many rows all = ap length (all .ordered)
 pub number-wrong : RowRight (carries 7 QuestionLength) → ⊥
 number-wrong p = let e : _≡_ {A = ℕ} 6 7 = p 300 .0 in omega arith
 
-pub value-wrong : RowRight (carries 21 (λ v. Missing)) → ⊥
+pub value-wrong : RowRight (carries 21 (λ v. NoWord)) → ⊥
 value-wrong p = let e : _≡_ {A = ℕ} 0 1 = p 1 .1 in omega arith
 
-pub zero-number-wrong : RowRight (zeroed 20 Missing) → ⊥
+pub zero-number-wrong : RowRight (zeroed 20 NoWord) → ⊥
 zero-number-wrong p = let e : _≡_ {A = ℕ} 21 20 = p .0 in omega arith
 
 pub zero-value-wrong : RowRight (zeroed 6 (QuestionLength 300)) → ⊥

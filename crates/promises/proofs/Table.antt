@@ -14,23 +14,11 @@ use Rattle.list.specs.Cell.{numbersIn}
 use Rattle.list.specs.Kept.{walkFrom, walked}
 use Rattle.list.specs.declared.answer.Answer.{Answer}
 use Rattle.list.proofs.JoinLaws.{AllProper, union-limit, intersection-limit}
-use Rattle.index.specs.Format.{
-  entryPlace,
-  wordStart,
-  wordLength,
-  listStart,
-  singleCount,
-  pairCount,
-  wordOf,
-  singlesOf,
-  lowerOf,
-  upperOf,
-  listOf,
-}
+use Rattle.index.specs.Format.{entryPlace, wordStart, wordLength, listStart, singleCount, pairCount, wordOf, singlesOf, lowerOf, upperOf, listOf}
 use Rattle.directory.specs.Has.{hasWithin, has}
 use Rattle.question.specs.Token.{run, gather, tokensAt, tokens}
 use Rattle.question.specs.Grammar.{fromLeft, question, operand, links, whole}
-use Rattle.question.specs.Meaning.{fits}
+use Rattle.question.specs.Meaning.{satisfies}
 use Rattle.question.specs.Reading.{isForeign, refusalOf, parsed}
 use Rattle.query.specs.Ask.{satisfying, treeAnswer, treeCells, askAnswer, askCells, Asks}
 use Rattle.promises.specs.Example.{example}
@@ -56,7 +44,7 @@ pub intersection-is : (l : List ℕ) (lists : List (List ℕ)) (c : List ℕ) �
 intersection-is l lists c p e = sym (intersection-limit 9 l lists (omega arith) p) ∙ e
 
 pub table-right : AllRight table
-unfolding firstFrom first isWordByte same isAnd isOr isNot operatorOf properFrom isProper names records stretches cellsOf inSome inEvery belowCount overlapCount numbersIn walkFrom walked entryPlace wordStart wordLength listStart singleCount pairCount wordOf singlesOf lowerOf upperOf listOf hasWithin has run gather tokensAt tokens fromLeft question operand links whole fits isForeign refusalOf parsed satisfying
+unfolding firstFrom first isWordByte same isAnd isOr isNot operatorOf properFrom isProper names records stretches cellsOf inSome inEvery belowCount overlapCount numbersIn walkFrom walked entryPlace wordStart wordLength listStart singleCount pairCount wordOf singlesOf lowerOf upperOf listOf hasWithin has run gather tokensAt tokens fromLeft question operand links whole satisfies isForeign refusalOf parsed satisfying
 table-right =
     asks-example _ _ _ _ refl refl
     & asks-example _ _ _ _ refl refl

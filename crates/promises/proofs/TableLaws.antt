@@ -5,13 +5,13 @@ use mathlib.Core.Path.{_≡_, refl, sym, ap, _∙_}
 use mathlib.Core.List.{List, [], _∷_, _++_}
 use lib.ListN.{length, getD}
 use Rattle.laws.proofs.Tests.{true-false}
-use Rattle.refusal.specs.declared.Refusal.the-variants.{Grammar, Missing}
+use Rattle.refusal.specs.declared.Refusal.the-variants.{Grammar, NoWord}
 use Rattle.refusal.specs.Refusal.{valueOf}
 use Rattle.list.specs.declared.answer.Answer.{Answer}
 use Rattle.list.specs.declared.answer.Answer.the-variants.{Listed, Refused}
 use Rattle.question.specs.Grammar.{fromLeft}
 use Rattle.promises.specs.Example.{boats, harbour, maps, tide, tables, pier, and′, or′, not′, example}
-use Rattle.promises.specs.Table.{Row, line, union, intersection, probe, lent, Right, AllRight, listed, table}
+use Rattle.promises.specs.Table.{Row, line, union, intersection, probe, lent, Right, AllRight, tallied, table}
 use Rattle.promises.specs.Wrong.{answerRefused, recordsIn}
 use Rattle.promises.proofs.Determined.{asks-determined}
 use Rattle.promises.proofs.Table.{table-right}
@@ -55,31 +55,31 @@ not-answer {question} {r} {s} {c} {d} right differ p = differ (line-one question
 not-cells : {question : List ℕ} {r s : Answer} {c d : List ℕ} → Right (line question r c) → (c ≡ d → ⊥) → Right (line question s d) → ⊥
 not-cells {question} {r} {s} {c} {d} right differ p = differ (line-one question r s c d right p .1)
 
-other-records : {i j : ℕ} (k l : ℕ) → (k ≡ l → ⊥) → listed i k ≡ listed j l → ⊥
+other-records : {i j : ℕ} (k l : ℕ) → (k ≡ l → ⊥) → tallied i k ≡ tallied j l → ⊥
 other-records k l differ e = differ (some-is k l (ap recordsIn e))
 
 -- a record too many
-pub p1-records : Right (line (boats ++ or′ ++ tide) (listed 2 6) (2 ∷ 4 ∷ 8 ∷ 9 ∷ [])) → ⊥
+pub p1-records : Right (line (boats ++ or′ ++ tide) (tallied 2 6) (2 ∷ 4 ∷ 8 ∷ 9 ∷ [])) → ⊥
 p1-records = not-answer (row-right table 0 (omega arith) table-right) (other-records 5 6 (λ e. omega arith))
 
 -- the second word's last record lost
-pub p1-cells : Right (line (boats ++ or′ ++ tide) (listed 2 5) (2 ∷ 4 ∷ 8 ∷ 8 ∷ [])) → ⊥
+pub p1-cells : Right (line (boats ++ or′ ++ tide) (tallied 2 5) (2 ∷ 4 ∷ 8 ∷ 8 ∷ [])) → ⊥
 p1-cells = not-cells (row-right table 0 (omega arith) table-right) (differ-at 3 (2 ∷ 4 ∷ 8 ∷ 9 ∷ []) (2 ∷ 4 ∷ 8 ∷ 8 ∷ []) (λ e. omega arith))
 
 -- intervals that touch left apart
-pub p2-apart : Right (line (boats ++ or′ ++ maps) (listed 2 8) (2 ∷ 4 ∷ 5 ∷ 9 ∷ [])) → ⊥
+pub p2-apart : Right (line (boats ++ or′ ++ maps) (tallied 2 8) (2 ∷ 4 ∷ 5 ∷ 9 ∷ [])) → ⊥
 p2-apart = not-cells (row-right table 1 (omega arith) table-right) (differ-at 1 (2 ∷ 9 ∷ 0 ∷ 0 ∷ []) (2 ∷ 4 ∷ 5 ∷ 9 ∷ []) (λ e. omega arith))
 
 -- `and` read as `or`
-pub p3-either : Right (line (harbour ++ and′ ++ maps ++ not′ ++ tide) (listed 2 5) (1 ∷ 2 ∷ 5 ∷ 7 ∷ [])) → ⊥
+pub p3-either : Right (line (harbour ++ and′ ++ maps ++ not′ ++ tide) (tallied 2 5) (1 ∷ 2 ∷ 5 ∷ 7 ∷ [])) → ⊥
 p3-either = not-answer (row-right table 2 (omega arith) table-right) (other-records 2 5 (λ e. omega arith))
 
 -- `and` before `or`
-pub p4-ranked : Right (line (boats ++ or′ ++ harbour ++ and′ ++ maps) (listed 2 6) (2 ∷ 4 ∷ 6 ∷ 8 ∷ [])) → ⊥
+pub p4-ranked : Right (line (boats ++ or′ ++ harbour ++ and′ ++ maps) (tallied 2 6) (2 ∷ 4 ∷ 6 ∷ 8 ∷ [])) → ⊥
 p4-ranked = not-answer (row-right table 3 (omega arith) table-right) (other-records 2 6 (λ e. omega arith))
 
 -- brackets passed over
-pub p5-flat : Right (line (boats ++ or′ ++ 40 ∷ (harbour ++ and′ ++ maps ++ 41 ∷ [])) (listed 1 2) (6 ∷ 7 ∷ 0 ∷ 0 ∷ [])) → ⊥
+pub p5-flat : Right (line (boats ++ or′ ++ 40 ∷ (harbour ++ and′ ++ maps ++ 41 ∷ [])) (tallied 1 2) (6 ∷ 7 ∷ 0 ∷ 0 ∷ [])) → ⊥
 p5-flat = not-answer (row-right table 4 (omega arith) table-right) (other-records 6 2 (λ e. omega arith))
 
 -- the place before the word that may not stand there
@@ -91,7 +91,7 @@ p6-place = not-answer (row-right table 5 (omega arith) table-right) (λ e. let z
     value (Refused r) = valueOf r
 
 -- a word that no record has, refused
-pub p7-refused : Right (line pier (Refused Missing) lent) → ⊥
+pub p7-refused : Right (line pier (Refused NoWord) lent) → ⊥
 p7-refused = not-answer (row-right table 6 (omega arith) table-right) (λ e. true-false (sym (ap answerRefused e)))
 
 -- intervals that touch left apart

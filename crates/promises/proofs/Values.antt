@@ -3,59 +3,43 @@ use mathlib.Core.Path.{_≡_, refl}
 use mathlib.Core.Bool.{true, false}
 use mathlib.Core.List.{[], _∷_, _++_}
 use mathlib.Core.Option.{none, some}
-use Rattle.refusal.specs.declared.Refusal.the-variants.{Grammar, Room, Number, ProbeRange, Missing}
+use Rattle.refusal.specs.declared.Refusal.the-variants.{Grammar, Room, Number, ProbeRange, NoWord}
 use Rattle.word.specs.Word.{isWordByte, same, isAnd, isOr, isNot, operatorOf}
 use Rattle.list.specs.declared.Written.the-variants as written
 use Rattle.list.specs.declared.answer.Answer.the-variants as answer
 use Rattle.index.specs.declared.Checked.the-variants as checked
 use Rattle.directory.specs.declared.Lookup.the-variants.{Entry, NoEntry}
 use Rattle.directory.specs.declared.Probed.the-variants.{NoCount}
-use Rattle.question.specs.declared.reader.Reading.the-variants as reading
+use Rattle.question.specs.declared.reader.Verdict.the-variants as reading
 use Rattle.question.specs.Token.{run, gather, tokensAt, tokens}
 use Rattle.question.specs.Limits.{tokenWords}
 use Rattle.promises.specs.Example.{boats, tide, or′}
-use Rattle.promises.specs.Table.{listed}
-use Rattle.promises.specs.Wrong.{
-  writtenRefused,
-  answerRefused,
-  checkRefused,
-  lookupRefused,
-  wordRefused,
-  probeRefused,
-  readingRefused,
-  firstEntry,
-  firstWord,
-  firstBuilt,
-  intervalsIn,
-  recordsIn,
-  neededIn,
-  writtenIn,
-  neededBy,
-  belowIn,
-  overlappingIn,
-}
+use Rattle.promises.specs.Table.{tallied}
+use Rattle.promises.specs.Wrong.{writtenRefused, answerRefused, checkRefused, lookupRefused, wordRefused, probeRefused, verdictRefused}
+use Rattle.promises.specs.Wrong.{firstEntry, firstWord, firstBuilt, intervalsIn, recordsIn, neededIn, writtenIn, neededBy, belowIn}
+use Rattle.promises.specs.Wrong.{overlappingIn}
 use Rattle.promises.specs.Made.{withIntervals, withRecords, withNeeded, withWritten, withNeededBy, withBelow, withOverlapping}
 use Rattle.promises.proofs.WrongReturns.{counted}
 
 -- nothing written, listed or counted is an answer too, and so is entry 0
 pub answers-told :
     (writtenRefused (written.Wrote 0) ≡ false)
-    × (answerRefused (listed 0 0) ≡ false)
+    × (answerRefused (tallied 0 0) ≡ false)
     × (checkRefused checked.Good ≡ false)
     × (lookupRefused (Entry 0) ≡ false)
     × (wordRefused boats ≡ false)
     × (probeRefused (counted 0 0) ≡ false)
-    × (readingRefused (reading.Accepted 1) ≡ false)
+    × (verdictRefused (reading.Accepted 1) ≡ false)
 answers-told = (refl, refl, refl, refl, refl, refl, refl)
 
 pub refusals-told :
     (writtenRefused (written.Refused (Room 0)) ≡ true)
     × (answerRefused (answer.Refused (Room 0)) ≡ true)
-    × (checkRefused (checked.Refused Missing) ≡ true)
-    × (lookupRefused (NoEntry Missing) ≡ true)
+    × (checkRefused (checked.Refused NoWord) ≡ true)
+    × (lookupRefused (NoEntry NoWord) ≡ true)
     × (wordRefused [] ≡ true)
     × (probeRefused (NoCount ProbeRange) ≡ true)
-    × (readingRefused (reading.Refused (Grammar 0)) ≡ true)
+    × (verdictRefused (reading.Refused (Grammar 0)) ≡ true)
 refusals-told = (refl, refl, refl, refl, refl, refl, refl)
 
 -- `boats or tide`, ` boats`, `(boats) or tide`, `((boats or tide))`, `or boats`, and a question with no word
@@ -78,9 +62,9 @@ unfolding isWordByte run
 first-builts = refl
 
 pub counts-told :
-    (intervalsIn (listed 2 5) ≡ some 2)
-    × (recordsIn (listed 2 5) ≡ some 5)
-    × (neededIn (listed 2 5) ≡ none)
+    (intervalsIn (tallied 2 5) ≡ some 2)
+    × (recordsIn (tallied 2 5) ≡ some 5)
+    × (neededIn (tallied 2 5) ≡ none)
     × (intervalsIn (answer.Refused (Room 7)) ≡ none)
     × (recordsIn (answer.Refused (Room 7)) ≡ none)
     × (neededIn (answer.Refused (Room 7)) ≡ some 7)
@@ -104,9 +88,9 @@ probes-told = (refl, refl, refl, refl)
 
 -- one number alone is another, and a refusal stays what it is, but for the room that 12 reports
 pub others-kept :
-    (withIntervals 7 (listed 2 5) ≡ listed 7 5)
-    × (withRecords 7 (listed 2 5) ≡ listed 2 7)
-    × (withNeeded 7 (listed 2 5) ≡ listed 2 5)
+    (withIntervals 7 (tallied 2 5) ≡ tallied 7 5)
+    × (withRecords 7 (tallied 2 5) ≡ tallied 2 7)
+    × (withNeeded 7 (tallied 2 5) ≡ tallied 2 5)
     × (withIntervals 7 (answer.Refused (Room 2)) ≡ answer.Refused (Room 2))
     × (withRecords 7 (answer.Refused (Room 2)) ≡ answer.Refused (Room 2))
     × (withNeeded 7 (answer.Refused (Room 2)) ≡ answer.Refused (Room 7))

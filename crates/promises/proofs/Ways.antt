@@ -5,48 +5,14 @@ use mathlib.Core.Path.{_≡_, refl, sym, ap, _∙_}
 use mathlib.Core.List.{List, _++_}
 use Rattle.list.specs.Ginix.{unionOf, intersectionOf}
 use Rattle.index.specs.Check.{checkOf}
-use Rattle.question.specs.Reading.{readingOf}
+use Rattle.question.specs.Reading.{verdictOf}
 use Rattle.promises.specs.Example.{boats, tide, or′, example}
-use Rattle.promises.specs.Table.{lent, listed, table}
-use Rattle.promises.specs.Wrong.{
-  Meets,
-  Misreporting,
-  toIntervals,
-  toNumbers,
-  joins,
-  asks,
-  builds,
-  lookup,
-  entry,
-  word,
-  probe,
-  writtenRefused,
-  answerRefused,
-  checkRefused,
-  lookupRefused,
-  partRefused,
-  probeRefused,
-  readingRefused,
-  firstEntry,
-  firstWord,
-  firstBuilt,
-  intervalsIn,
-}
-use Rattle.promises.specs.Made.{
-  rightIntervals,
-  rightNumbers,
-  rightJoin,
-  rightAsk,
-  rightBuild,
-  returning,
-  withIntervals,
-  WrongWays,
-  WrongFirst,
-  WrongCounts,
-  WrongWritten,
-  WrongRefusal,
-  WrongProbe,
-}
+use Rattle.promises.specs.Table.{lent, tallied, table}
+use Rattle.promises.specs.Wrong.{Meets, Misreporting, toIntervals, toNumbers, joins, asks, builds, lookup, entry, word, probe, writtenRefused}
+use Rattle.promises.specs.Wrong.{answerRefused, checkRefused, lookupRefused, partRefused, probeRefused, verdictRefused, firstEntry, firstWord}
+use Rattle.promises.specs.Wrong.{firstBuilt, intervalsIn}
+use Rattle.promises.specs.Made.{rightIntervals, rightNumbers, rightJoin, rightAsk, rightBuild, returning, withIntervals, WrongWays, WrongFirst}
+use Rattle.promises.specs.Made.{WrongCounts, WrongWritten, WrongRefusal, WrongProbe}
 use Rattle.promises.proofs.Made.{misreporting-kind, some-is, wrong-ways, wrong-first, wrong-counts, wrong-written, wrong-refusal, wrong-probe}
 use Rattle.promises.proofs.Table.{table-right}
 use Rattle.promises.proofs.TableLaws.{row-right}
@@ -129,7 +95,7 @@ ask-misreports =
     misreporting-kind rightAsk ask-met intervalsIn (λ a out. withIntervals 7) (example, boats ++ or′ ++ tide) lent
     (λ e. let z : _≡_ {A = ℕ} 7 2 = some-is 7 2 (sym (ap (λ r. intervalsIn (withIntervals 7 r)) answered) ∙ e ∙ ap intervalsIn answered) in omega arith)
   where
-    answered : rightAsk (example, boats ++ or′ ++ tide) lent .0 ≡ listed 2 5
+    answered : rightAsk (example, boats ++ or′ ++ tide) lent .0 ≡ tallied 2 5
     answered = sym (row-right table 0 (omega arith) table-right .answer)
 
 -- ---- a build
@@ -166,5 +132,5 @@ probe-way = wrong-refusal probe probeRefused returns.probe-refusing
 pub probe-counts : WrongProbe probe
 probe-counts = wrong-probe probe returns.probe-inventing-below returns.probe-inventing-overlapping
 
-pub reading-way : WrongRefusal readingOf readingRefused
-reading-way = wrong-refusal readingOf readingRefused returns.reading-refusing
+pub reading-way : WrongRefusal verdictOf verdictRefused
+reading-way = wrong-refusal verdictOf verdictRefused returns.reading-refusing

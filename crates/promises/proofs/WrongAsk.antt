@@ -13,44 +13,19 @@ use Rattle.list.specs.Cell.{numbersIn}
 use Rattle.list.specs.Kept.{walkFrom, walked}
 use Rattle.list.specs.declared.answer.Answer.{Answer}
 use Rattle.list.specs.declared.answer.Answer.the-variants.{Refused}
-use Rattle.index.specs.Format.{
-  entryPlace,
-  wordStart,
-  wordLength,
-  listStart,
-  singleCount,
-  pairCount,
-  wordOf,
-  singlesOf,
-  lowerOf,
-  upperOf,
-  listOf,
-}
+use Rattle.index.specs.Format.{entryPlace, wordStart, wordLength, listStart, singleCount, pairCount, wordOf, singlesOf, lowerOf, upperOf, listOf}
 use Rattle.directory.specs.Has.{hasWithin, has}
 use Rattle.question.specs.Token.{run, gather, tokensAt, tokens}
 use Rattle.question.specs.Grammar.{fromLeft, question, operand, links, whole}
-use Rattle.question.specs.Meaning.{fits}
+use Rattle.question.specs.Meaning.{satisfies}
 use Rattle.question.specs.Reading.{isForeign, refusalOf, parsed}
 use Rattle.question.specs.Limits.{tokenWords}
 use Rattle.query.specs.Ask.{satisfying, Asks}
 use Rattle.promises.specs.Example.{boats, maps, tide, or′, example}
 use Rattle.promises.specs.Outcome.{OneOutcome}
-use Rattle.promises.specs.Table.{lent, listed}
-use Rattle.promises.specs.Wrong.{
-  Fails,
-  asks,
-  Refusing,
-  Fixed,
-  Silent,
-  FirstOnly,
-  Inventing,
-  Misreporting,
-  answerRefused,
-  firstWord,
-  intervalsIn,
-  recordsIn,
-  neededIn,
-}
+use Rattle.promises.specs.Table.{lent, tallied}
+use Rattle.promises.specs.Wrong.{Fails, asks, Refusing, Fixed, Silent, FirstOnly, Inventing, Misreporting, answerRefused, firstWord}
+use Rattle.promises.specs.Wrong.{intervalsIn, recordsIn, neededIn}
 use Rattle.promises.proofs.Determined.{asks-determined}
 use Rattle.promises.proofs.Table.{asks-example}
 use Rattle.promises.proofs.WrongLaws.{refusing-fails, fixed-fails, silent-fails, first-fails, inventing-fails, misreporting-fails, differ-at}
@@ -64,14 +39,14 @@ boats-or-maps = boats ++ or′ ++ maps
 -- what each comes to, with four cells lent and with none
 abbrev Outcomes : Type 0
 Outcomes =
-    Asks fromLeft example boats-or-tide lent (2 ∷ 4 ∷ 8 ∷ 9 ∷ []) (listed 2 5)
-    × Asks fromLeft example boats-or-maps lent (2 ∷ 9 ∷ 0 ∷ 0 ∷ []) (listed 1 8)
-    × Asks fromLeft example boats lent (2 ∷ 4 ∷ 8 ∷ 8 ∷ []) (listed 2 4)
+    Asks fromLeft example boats-or-tide lent (2 ∷ 4 ∷ 8 ∷ 9 ∷ []) (tallied 2 5)
+    × Asks fromLeft example boats-or-maps lent (2 ∷ 9 ∷ 0 ∷ 0 ∷ []) (tallied 1 8)
+    × Asks fromLeft example boats lent (2 ∷ 4 ∷ 8 ∷ 8 ∷ []) (tallied 2 4)
     × Asks fromLeft example boats-or-tide [] [] (Refused (Room 2))
     × Asks fromLeft example boats-or-maps [] [] (Refused (Room 1))
 
 outcomes : Outcomes
-unfolding firstFrom first isWordByte same isAnd isOr isNot operatorOf names records stretches cellsOf numbersIn walkFrom walked entryPlace wordStart wordLength listStart singleCount pairCount wordOf singlesOf lowerOf upperOf listOf hasWithin has run gather tokensAt tokens fromLeft question operand links whole fits isForeign refusalOf parsed satisfying
+unfolding firstFrom first isWordByte same isAnd isOr isNot operatorOf names records stretches cellsOf numbersIn walkFrom walked entryPlace wordStart wordLength listStart singleCount pairCount wordOf singlesOf lowerOf upperOf listOf hasWithin has run gather tokensAt tokens fromLeft question operand links whole satisfies isForeign refusalOf parsed satisfying
 outcomes = (
   asks-example _ _ _ _ refl refl,
   asks-example _ _ _ _ refl refl,

@@ -15,23 +15,11 @@ use Rattle.list.specs.declared.Written.{Written}
 use Rattle.list.specs.declared.Written.the-variants.{Wrote, Refused}
 use Rattle.refusal.specs.declared.Refusal.the-variants.{Room}
 use Rattle.build.specs.Lent.{wordsFrom, lentWords, restFrom, restOf, wordTotal, badLent, sumTo, badCount, badRest, beginsList, badListed, listsFrom}
-use Rattle.build.specs.Layout.{cellsBytes, cellSingles, lowersIn, uppersIn, keptBytes, listsBytes, wordsBytes, directoryBytes, indexOf}
+use Rattle.layout.specs.Layout.{cellsBytes, cellSingles, lowersIn, uppersIn, keptBytes, listsBytes, wordsBytes, directoryBytes, indexOf}
 use Rattle.build.specs.Build.{lentOf, indexFrom, buildOf, bytesAfter}
 use Rattle.promises.specs.Outcome.{OneOutcome}
-use Rattle.promises.specs.Wrong.{
-  Fails,
-  builds,
-  Refusing,
-  Fixed,
-  Silent,
-  FirstOnly,
-  Inventing,
-  Misreporting,
-  writtenRefused,
-  firstBuilt,
-  writtenIn,
-  neededBy,
-}
+use Rattle.promises.specs.Wrong.{Fails, builds, Refusing, Fixed, Silent, FirstOnly, Inventing, Misreporting, writtenRefused, firstBuilt}
+use Rattle.promises.specs.Wrong.{writtenIn, neededBy}
 use Rattle.promises.proofs.Determined.{builds-determined}
 use Rattle.promises.proofs.WrongLaws.{refusing-fails, fixed-fails, silent-fails, first-fails, inventing-fails, misreporting-fails, differ-at}
 

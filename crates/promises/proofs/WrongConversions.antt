@@ -6,11 +6,12 @@ use mathlib.Core.Bool.{true}
 use mathlib.Core.List.{List, [], _∷_}
 use mathlib.Core.Option.{Option}
 use lib.ListN.{length}
+use Rattle.limits.specs.Limits.{recordMax}
 use Rattle.refusal.specs.declared.Found.the-variants.{Nowhere}
 use Rattle.refusal.specs.declared.Refusal.the-variants.{Number, Interval}
 use Rattle.refusal.specs.First.{firstFrom, first}
 use Rattle.list.specs.declared.Written.{Written}
-use Rattle.list.specs.Interval.{top, properFrom, isProper, intervals, records}
+use Rattle.list.specs.Interval.{properFrom, isProper, intervals, records}
 use Rattle.list.specs.Stretches.{recordsFrom}
 use Rattle.convert.specs.Convert.{badNumber, badInterval, answerOf, leftOf, badNumberOf, intervalsOf, ToIntervals, badIntervalOf, numbersOf, ToNumbers}
 use Rattle.convert.proofs.RunLaws.{runsFrom, runs, runs-cells}
@@ -23,17 +24,17 @@ to-intervals-known : (xs out : List ℕ) → badNumberOf xs ≡ Nowhere →
     ToIntervals xs out (leftOf Nowhere (intervals (runs xs)) (length out / 2) (runs xs) out) (answerOf Number Nowhere (intervals (runs xs)) (length out / 2))
 to-intervals-known xs out good =
     let room = length out / 2 in
-    let is = runs-cells top xs good in
+    let is = runs-cells recordMax xs good in
     record {
       answer = ap (λ c. answerOf Number Nowhere (intervals c) room) is ∙ ap (λ g. answerOf Number g (intervals (intervalsOf xs)) room) (sym good);
       cells = ap (λ c. leftOf Nowhere (intervals c) room c out) is ∙ ap (λ g. leftOf g (intervals (intervalsOf xs)) room (intervalsOf xs) out) (sym good);
     }
 
-to-numbers-known : (c out : List ℕ) → badIntervalOf c ≡ Nowhere → isProper top c ≡ true →
+to-numbers-known : (c out : List ℕ) → badIntervalOf c ≡ Nowhere → isProper recordMax c ≡ true →
     ToNumbers c out (leftOf Nowhere (records c) (length out) (spans c) out) (answerOf Interval Nowhere (records c) (length out))
 to-numbers-known c out good proper =
     let room = length out in
-    let is = spans-records top c proper in
+    let is = spans-records recordMax c proper in
     record {
       answer = ap (λ g. answerOf Interval g (records c) room) (sym good);
       cells = ap (λ x. leftOf Nowhere (records c) room x out) is ∙ ap (λ g. leftOf g (records c) room (numbersOf c) out) (sym good);

@@ -18,34 +18,12 @@ use Rattle.list.specs.declared.answer.Answer.the-variants.{Refused}
 use Rattle.index.specs.declared.Checked.the-variants.{Good}
 use Rattle.index.specs.Format.{entryPlace, listStart, singleCount, pairCount, singlesOf, lowerOf, upperOf, listOf}
 use Rattle.merge.specs.Request.{listsOf}
-use Rattle.join.specs.Join.{
-  badListCount,
-  badEntryNumber,
-  entriesOf,
-  requestAfter,
-  requestOf,
-  joinAnswer,
-  joinCells,
-  Joins,
-}
+use Rattle.join.specs.Join.{badListCount, badEntryNumber, entriesOf, requestAfter, requestOf, joinAnswer, joinCells, Joins}
 use Rattle.promises.specs.Example.{example}
 use Rattle.promises.specs.Outcome.{OneOutcome}
-use Rattle.promises.specs.Table.{lent, listed}
-use Rattle.promises.specs.Wrong.{
-  Fails,
-  joins,
-  Refusing,
-  Fixed,
-  Silent,
-  FirstOnly,
-  Inventing,
-  Misreporting,
-  answerRefused,
-  firstEntry,
-  intervalsIn,
-  recordsIn,
-  neededIn,
-}
+use Rattle.promises.specs.Table.{lent, tallied}
+use Rattle.promises.specs.Wrong.{Fails, joins, Refusing, Fixed, Silent, FirstOnly, Inventing, Misreporting, answerRefused, firstEntry}
+use Rattle.promises.specs.Wrong.{intervalsIn, recordsIn, neededIn}
 use Rattle.promises.proofs.Determined.{joins-determined}
 use Rattle.promises.proofs.ExampleLaws.{example-good}
 use Rattle.promises.proofs.Table.{union-is, intersection-is}
@@ -70,18 +48,18 @@ one method a out = joins-determined method (a .0) (a .1) out
 
 abbrev UnionOutcomes : Type 0
 UnionOutcomes =
-    Joins unionOf example (0 ∷ 3 ∷ []) lent (2 ∷ 4 ∷ 8 ∷ 9 ∷ []) (listed 2 5)
-    × Joins unionOf example (0 ∷ 2 ∷ []) lent (2 ∷ 9 ∷ 0 ∷ 0 ∷ []) (listed 1 8)
-    × Joins unionOf example (0 ∷ []) lent (2 ∷ 4 ∷ 8 ∷ 8 ∷ []) (listed 2 4)
+    Joins unionOf example (0 ∷ 3 ∷ []) lent (2 ∷ 4 ∷ 8 ∷ 9 ∷ []) (tallied 2 5)
+    × Joins unionOf example (0 ∷ 2 ∷ []) lent (2 ∷ 9 ∷ 0 ∷ 0 ∷ []) (tallied 1 8)
+    × Joins unionOf example (0 ∷ []) lent (2 ∷ 4 ∷ 8 ∷ 8 ∷ []) (tallied 2 4)
     × Joins unionOf example (0 ∷ 3 ∷ []) [] [] (Refused (Room 2))
     × Joins unionOf example (0 ∷ 2 ∷ []) [] [] (Refused (Room 1))
 
 union-outcomes : UnionOutcomes
 unfolding firstFrom first properFrom isProper names records stretches cellsOf inSome numbersIn walkFrom walked entryPlace listStart singleCount pairCount singlesOf lowerOf upperOf listOf badListCount badEntryNumber entriesOf listsOf
 union-outcomes = (
-  joins-example unionOf (0 ∷ 3 ∷ []) lent (2 ∷ 4 ∷ 8 ∷ 9 ∷ []) refl (union-is (listsOf example (0 ∷ 3 ∷ [])) (2 ∷ 4 ∷ 8 ∷ 9 ∷ []) (refl, (refl, tt)) refl) (2 ∷ 4 ∷ 8 ∷ 9 ∷ []) (listed 2 5) refl refl,
-  joins-example unionOf (0 ∷ 2 ∷ []) lent (2 ∷ 9 ∷ []) refl (union-is (listsOf example (0 ∷ 2 ∷ [])) (2 ∷ 9 ∷ []) (refl, (refl, tt)) refl) (2 ∷ 9 ∷ 0 ∷ 0 ∷ []) (listed 1 8) refl refl,
-  joins-example unionOf (0 ∷ []) lent (2 ∷ 4 ∷ 8 ∷ 8 ∷ []) refl (union-is (listsOf example (0 ∷ [])) (2 ∷ 4 ∷ 8 ∷ 8 ∷ []) (refl, tt) refl) (2 ∷ 4 ∷ 8 ∷ 8 ∷ []) (listed 2 4) refl refl,
+  joins-example unionOf (0 ∷ 3 ∷ []) lent (2 ∷ 4 ∷ 8 ∷ 9 ∷ []) refl (union-is (listsOf example (0 ∷ 3 ∷ [])) (2 ∷ 4 ∷ 8 ∷ 9 ∷ []) (refl, (refl, tt)) refl) (2 ∷ 4 ∷ 8 ∷ 9 ∷ []) (tallied 2 5) refl refl,
+  joins-example unionOf (0 ∷ 2 ∷ []) lent (2 ∷ 9 ∷ []) refl (union-is (listsOf example (0 ∷ 2 ∷ [])) (2 ∷ 9 ∷ []) (refl, (refl, tt)) refl) (2 ∷ 9 ∷ 0 ∷ 0 ∷ []) (tallied 1 8) refl refl,
+  joins-example unionOf (0 ∷ []) lent (2 ∷ 4 ∷ 8 ∷ 8 ∷ []) refl (union-is (listsOf example (0 ∷ [])) (2 ∷ 4 ∷ 8 ∷ 8 ∷ []) (refl, tt) refl) (2 ∷ 4 ∷ 8 ∷ 8 ∷ []) (tallied 2 4) refl refl,
   joins-example unionOf (0 ∷ 3 ∷ []) [] (2 ∷ 4 ∷ 8 ∷ 9 ∷ []) refl (union-is (listsOf example (0 ∷ 3 ∷ [])) (2 ∷ 4 ∷ 8 ∷ 9 ∷ []) (refl, (refl, tt)) refl) [] (Refused (Room 2)) refl refl,
   joins-example unionOf (0 ∷ 2 ∷ []) [] (2 ∷ 9 ∷ []) refl (union-is (listsOf example (0 ∷ 2 ∷ [])) (2 ∷ 9 ∷ []) (refl, (refl, tt)) refl) [] (Refused (Room 1)) refl refl,
 )
@@ -115,18 +93,18 @@ union-inventing-room = inventing-fails (one unionOf) neededIn (example, 0 ∷ 3 
 
 abbrev IntersectionOutcomes : Type 0
 IntersectionOutcomes =
-    Joins intersectionOf example (0 ∷ 3 ∷ []) lent (3 ∷ 3 ∷ 8 ∷ 8 ∷ []) (listed 2 2)
-    × Joins intersectionOf example (1 ∷ 3 ∷ []) lent (3 ∷ 3 ∷ 0 ∷ 0 ∷ []) (listed 1 1)
-    × Joins intersectionOf example (0 ∷ []) lent (2 ∷ 4 ∷ 8 ∷ 8 ∷ []) (listed 2 4)
+    Joins intersectionOf example (0 ∷ 3 ∷ []) lent (3 ∷ 3 ∷ 8 ∷ 8 ∷ []) (tallied 2 2)
+    × Joins intersectionOf example (1 ∷ 3 ∷ []) lent (3 ∷ 3 ∷ 0 ∷ 0 ∷ []) (tallied 1 1)
+    × Joins intersectionOf example (0 ∷ []) lent (2 ∷ 4 ∷ 8 ∷ 8 ∷ []) (tallied 2 4)
     × Joins intersectionOf example (0 ∷ 3 ∷ []) [] [] (Refused (Room 2))
     × Joins intersectionOf example (1 ∷ 3 ∷ []) [] [] (Refused (Room 1))
 
 intersection-outcomes : IntersectionOutcomes
 unfolding firstFrom first properFrom isProper names records stretches cellsOf inEvery numbersIn walkFrom walked entryPlace listStart singleCount pairCount singlesOf lowerOf upperOf listOf badListCount badEntryNumber entriesOf listsOf
 intersection-outcomes = (
-  joins-example intersectionOf (0 ∷ 3 ∷ []) lent (3 ∷ 3 ∷ 8 ∷ 8 ∷ []) refl (intersection-is (listOf example 0) (listsOf example (3 ∷ [])) (3 ∷ 3 ∷ 8 ∷ 8 ∷ []) refl refl) (3 ∷ 3 ∷ 8 ∷ 8 ∷ []) (listed 2 2) refl refl,
-  joins-example intersectionOf (1 ∷ 3 ∷ []) lent (3 ∷ 3 ∷ []) refl (intersection-is (listOf example 1) (listsOf example (3 ∷ [])) (3 ∷ 3 ∷ []) refl refl) (3 ∷ 3 ∷ 0 ∷ 0 ∷ []) (listed 1 1) refl refl,
-  joins-example intersectionOf (0 ∷ []) lent (2 ∷ 4 ∷ 8 ∷ 8 ∷ []) refl (intersection-is (listOf example 0) (listsOf example []) (2 ∷ 4 ∷ 8 ∷ 8 ∷ []) refl refl) (2 ∷ 4 ∷ 8 ∷ 8 ∷ []) (listed 2 4) refl refl,
+  joins-example intersectionOf (0 ∷ 3 ∷ []) lent (3 ∷ 3 ∷ 8 ∷ 8 ∷ []) refl (intersection-is (listOf example 0) (listsOf example (3 ∷ [])) (3 ∷ 3 ∷ 8 ∷ 8 ∷ []) refl refl) (3 ∷ 3 ∷ 8 ∷ 8 ∷ []) (tallied 2 2) refl refl,
+  joins-example intersectionOf (1 ∷ 3 ∷ []) lent (3 ∷ 3 ∷ []) refl (intersection-is (listOf example 1) (listsOf example (3 ∷ [])) (3 ∷ 3 ∷ []) refl refl) (3 ∷ 3 ∷ 0 ∷ 0 ∷ []) (tallied 1 1) refl refl,
+  joins-example intersectionOf (0 ∷ []) lent (2 ∷ 4 ∷ 8 ∷ 8 ∷ []) refl (intersection-is (listOf example 0) (listsOf example []) (2 ∷ 4 ∷ 8 ∷ 8 ∷ []) refl refl) (2 ∷ 4 ∷ 8 ∷ 8 ∷ []) (tallied 2 4) refl refl,
   joins-example intersectionOf (0 ∷ 3 ∷ []) [] (3 ∷ 3 ∷ 8 ∷ 8 ∷ []) refl (intersection-is (listOf example 0) (listsOf example (3 ∷ [])) (3 ∷ 3 ∷ 8 ∷ 8 ∷ []) refl refl) [] (Refused (Room 2)) refl refl,
   joins-example intersectionOf (1 ∷ 3 ∷ []) [] (3 ∷ 3 ∷ []) refl (intersection-is (listOf example 1) (listsOf example (3 ∷ [])) (3 ∷ 3 ∷ []) refl refl) [] (Refused (Room 1)) refl refl,
 )

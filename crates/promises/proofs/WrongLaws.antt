@@ -7,22 +7,8 @@ use mathlib.Core.Option.{Option, some}
 use lib.ListN.{getD}
 use Rattle.laws.proofs.Tests.{true-false}
 use Rattle.promises.specs.Outcome.{OneOutcome}
-use Rattle.promises.specs.Wrong.{
-  Writer,
-  Promise,
-  Meets,
-  Fails,
-  FailsToBe,
-  Accepts,
-  Refusing,
-  RefusingAll,
-  Fixed,
-  Silent,
-  FirstOnly,
-  Inventing,
-  InventingAll,
-  Misreporting,
-}
+use Rattle.promises.specs.Wrong.{Writer, Promise, Meets, Fails, FailsToBe, Accepts, Refusing, RefusingAll, Fixed, Silent, FirstOnly, Inventing}
+use Rattle.promises.specs.Wrong.{InventingAll, Misreporting}
 
 module _ {A R : Type 0} {promise : Promise A R} (one : (a : A) (out : List ℕ) → OneOutcome (promise a out)) where
   -- an implementation that meets the promise has the outcome that is allowed

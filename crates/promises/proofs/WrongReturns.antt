@@ -16,25 +16,10 @@ use Rattle.directory.specs.declared.Probed.{Probed}
 use Rattle.directory.specs.declared.Probed.the-variants.{Counted}
 use Rattle.question.specs.Token.{run, gather, tokensAt, tokens}
 use Rattle.question.specs.Grammar.{fromLeft, question, operand, links, whole}
-use Rattle.question.specs.Reading.{isForeign, refusalOf, parsed, readingOf}
+use Rattle.question.specs.Reading.{isForeign, refusalOf, parsed, verdictOf}
 use Rattle.promises.specs.Example.{boats, example}
-use Rattle.promises.specs.Wrong.{
-  FailsToBe,
-  RefusingAll,
-  InventingAll,
-  lookup,
-  entry,
-  word,
-  probe,
-  checkRefused,
-  lookupRefused,
-  wordRefused,
-  partRefused,
-  probeRefused,
-  readingRefused,
-  belowIn,
-  overlappingIn,
-}
+use Rattle.promises.specs.Wrong.{FailsToBe, RefusingAll, InventingAll, lookup, entry, word, probe, checkRefused, lookupRefused, wordRefused}
+use Rattle.promises.specs.Wrong.{partRefused, probeRefused, verdictRefused, belowIn, overlappingIn}
 use Rattle.promises.proofs.ExampleLaws.{example-good}
 use Rattle.promises.proofs.WrongLaws.{refusing-all-fails, inventing-all-fails}
 
@@ -88,6 +73,6 @@ pub probe-inventing-overlapping : FailsToBe probe (InventingAll overlappingIn)
 probe-inventing-overlapping =
     inventing-all-fails probe overlappingIn (example, 0, 1, 9) (example, 0, 5, 9) 2 1 (ap overlappingIn (counts .0)) (ap overlappingIn (counts .1)) (λ e. omega arith)
 
-pub reading-refusing : FailsToBe readingOf (RefusingAll readingRefused)
-unfolding isWordByte same isAnd isOr isNot operatorOf firstFrom first run gather tokensAt tokens fromLeft question operand links whole isForeign refusalOf parsed readingOf
-reading-refusing = refusing-all-fails readingOf readingRefused boats refl
+pub reading-refusing : FailsToBe verdictOf (RefusingAll verdictRefused)
+unfolding isWordByte same isAnd isOr isNot operatorOf firstFrom first run gather tokensAt tokens fromLeft question operand links whole isForeign refusalOf parsed verdictOf
+reading-refusing = refusing-all-fails verdictOf verdictRefused boats refl

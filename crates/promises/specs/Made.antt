@@ -24,7 +24,7 @@ use Rattle.question.specs.Grammar.{fromLeft}
 use Rattle.question.specs.Reading.{parsed}
 use Rattle.query.specs.Ask.{askAnswer, askCells}
 use Rattle.build.specs.Build.{buildOf, indexFrom, bytesAfter}
-use Rattle.promises.specs.Wrong.{Writer, Promise, Meets, Is}
+use Rattle.promises.specs.Wrong.{Writer, Promise, Meets, Equals}
 
 -- ---- right ones: Reference 8.5 to 8.9
 
@@ -126,8 +126,8 @@ withOverlapping n (Counted p) = Counted (record { below = p .below; overlapping 
 withOverlapping n (NoCount r) = NoCount r
 
 abbrev pub WrongRefusal : {A R : Type 0} → (A → R) → (R → Bool) → Type 0
-WrongRefusal {A} {R} value refused = (refusal : A → R) → ((a : A) → refused (refusal a) ≡ true) → Is value refusal → ⊥
+WrongRefusal {A} {R} value refused = (refusal : A → R) → ((a : A) → refused (refusal a) ≡ true) → Equals value refusal → ⊥
 
 pub record WrongProbe {A : Type 0} (value : A → Probed) : Type 0 where
-  pub below : (n : ℕ) → Is value (λ a. withBelow n (value a)) → ⊥
-  pub overlapping : (n : ℕ) → Is value (λ a. withOverlapping n (value a)) → ⊥
+  pub below : (n : ℕ) → Equals value (λ a. withBelow n (value a)) → ⊥
+  pub overlapping : (n : ℕ) → Equals value (λ a. withOverlapping n (value a)) → ⊥

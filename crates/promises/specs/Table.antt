@@ -30,20 +30,20 @@ abbrev pub AllRight : List Row → Type 0
 AllRight [] = Unit {0}
 AllRight (r ∷ rs) = Right r × AllRight rs
 
-abbrev pub listed : ℕ → ℕ → Answer
-listed intervals records = Listed (record { intervals = intervals; records = records })
+abbrev pub tallied : ℕ → ℕ → Answer
+tallied intervals records = Listed (record { intervals = intervals; records = records })
 
 -- Reference 12: P1 to P7 are the example's questions; P8 and P9 unions of lists that touch and that do not; P10 and P11 intersections, of which one is empty;
 -- P12 is a probe
 abbrev pub table : List Row
 table =
-    line (boats ++ or′ ++ tide) (listed 2 5) (2 ∷ 4 ∷ 8 ∷ 9 ∷ [])
-    ∷ line (boats ++ or′ ++ maps) (listed 1 8) (2 ∷ 9 ∷ 0 ∷ 0 ∷ [])
-    ∷ line (harbour ++ and′ ++ maps ++ not′ ++ tide) (listed 1 2) (6 ∷ 7 ∷ 0 ∷ 0 ∷ [])
-    ∷ line (boats ++ or′ ++ harbour ++ and′ ++ maps) (listed 1 2) (6 ∷ 7 ∷ 0 ∷ 0 ∷ [])
-    ∷ line (boats ++ or′ ++ 40 ∷ (harbour ++ and′ ++ maps ++ 41 ∷ [])) (listed 2 6) (2 ∷ 4 ∷ 6 ∷ 8 ∷ [])
+    line (boats ++ or′ ++ tide) (tallied 2 5) (2 ∷ 4 ∷ 8 ∷ 9 ∷ [])
+    ∷ line (boats ++ or′ ++ maps) (tallied 1 8) (2 ∷ 9 ∷ 0 ∷ 0 ∷ [])
+    ∷ line (harbour ++ and′ ++ maps ++ not′ ++ tide) (tallied 1 2) (6 ∷ 7 ∷ 0 ∷ 0 ∷ [])
+    ∷ line (boats ++ or′ ++ harbour ++ and′ ++ maps) (tallied 1 2) (6 ∷ 7 ∷ 0 ∷ 0 ∷ [])
+    ∷ line (boats ++ or′ ++ 40 ∷ (harbour ++ and′ ++ maps ++ 41 ∷ [])) (tallied 2 6) (2 ∷ 4 ∷ 6 ∷ 8 ∷ [])
     ∷ line (tide ++ 32 ∷ tables) (Refused (Grammar 5)) lent
-    ∷ line pier (listed 0 0) lent
+    ∷ line pier (tallied 0 0) lent
     ∷ union ((1 ∷ 3 ∷ []) ∷ (4 ∷ 5 ∷ []) ∷ []) (1 ∷ 5 ∷ [])
     ∷ union ((1 ∷ 3 ∷ []) ∷ (5 ∷ 6 ∷ []) ∷ []) (1 ∷ 3 ∷ 5 ∷ 6 ∷ [])
     ∷ intersection ((1 ∷ 3 ∷ []) ∷ (3 ∷ 5 ∷ []) ∷ []) (3 ∷ 3 ∷ [])

@@ -22,8 +22,8 @@ use Rattle.directory.specs.declared.Probed.the-variants.{Counted, NoCount}
 use Rattle.index.specs.Part.{Slice}
 use Rattle.directory.specs.Entry.{lookupOf, entryCheck, entryWord, probeOf}
 use Rattle.join.specs.Join.{Joins}
-use Rattle.question.specs.declared.reader.Reading.{Reading}
-use Rattle.question.specs.declared.reader.Reading.the-variants as reading
+use Rattle.question.specs.declared.reader.Verdict.{Verdict}
+use Rattle.question.specs.declared.reader.Verdict.the-variants as reading
 use Rattle.question.specs.Token.{run, tokens}
 use Rattle.question.specs.Limits.{tokenWords}
 use Rattle.question.specs.Grammar.{fromLeft}
@@ -44,15 +44,15 @@ abbrev pub Meets : {A R : Type 0} → Promise A R → Writer A R → Type 0
 Meets {A} promise f = (a : A) (out : List ℕ) → promise a out (f a out .1) (f a out .0)
 
 -- Reference 7: of a call that writes nothing, which meets its promise where it returns what the definition says
-abbrev pub Is : {A R : Type 0} → (A → R) → (A → R) → Type 0
-Is {A} value f = (a : A) → f a ≡ value a
+abbrev pub Equals : {A R : Type 0} → (A → R) → (A → R) → Type 0
+Equals {A} value f = (a : A) → f a ≡ value a
 
 -- Reference 11: no implementation of a kind meets the promise
 abbrev pub Fails : {A R : Type 0} → Promise A R → (Writer A R → Type 0) → Type 0
 Fails {A} {R} promise wrong = (f : Writer A R) → wrong f → Meets promise f → ⊥
 
 abbrev pub FailsToBe : {A R : Type 0} → (A → R) → ((A → R) → Type 0) → Type 0
-FailsToBe {A} {R} value wrong = (f : A → R) → wrong f → Is value f → ⊥
+FailsToBe {A} {R} value wrong = (f : A → R) → wrong f → Equals value f → ⊥
 
 -- ---- the promises, each from its arguments: Reference 8
 
@@ -158,9 +158,9 @@ abbrev pub probeRefused : Probed → Bool
 probeRefused (Counted p) = false
 probeRefused (NoCount r) = true
 
-abbrev pub readingRefused : Reading → Bool
-readingRefused (reading.Accepted k) = false
-readingRefused (reading.Refused r) = true
+abbrev pub verdictRefused : Verdict → Bool
+verdictRefused (reading.Accepted k) = false
+verdictRefused (reading.Refused r) = true
 
 -- ---- the first alone: Reference 11
 

@@ -1,94 +1,81 @@
--- Laws of the whole call: an accepted question made ready, its answer by what the driver tallied, and the refusals before it; and that the promise
--- leaves one outcome only.
-use Prim.Native.Nat.{ℕ, _+_, _-_, _*_, _/_, _≤_, _<_}
+-- Laws of the whole call: an accepted question made ready, its answer by what the driver tallied, and the refusals before it.
+use Prim.Native.Nat.{ℕ, _+_, _-_, _*_}
 use native.Mathlib.Nat.{sub-zero}
 use native.Mathlib.Omega.{arith}
 use mathlib.Core.Path.{_≡_, sym, ap, _∙_}
-use mathlib.Core.Bool.{Bool, true, false}
-use mathlib.Core.List.{List, _++_}
-use lib.ListN.{length, take, drop}
-use borrow.Author.Tests.{le-leb, lt-leb}
+use mathlib.Core.Bool.{Bool}
+use mathlib.Core.List.{List}
+use lib.ListN.{length, take}
 use Rattle.refusal.specs.declared.Refusal.{Refusal}
-use Rattle.refusal.specs.declared.Refusal.the-variants.{Room}
 use Rattle.list.specs.declared.answer.Tally.{Tally}
 use Rattle.list.specs.declared.answer.Answer.{Answer}
 use Rattle.list.specs.declared.answer.Answer.the-variants as answer
-use Rattle.list.specs.Interval.{intervals}
 use Rattle.list.specs.Stretches.{cellsOf}
-use Rattle.list.specs.Answer.{tallyOf}
+use Rattle.list.specs.Answer.{Listing, Sweeps}
 use Rattle.list.proofs.StretchLaws.{cells-same}
 use Rattle.index.specs.declared.Checked.the-variants.{Good, Refused}
 use Rattle.index.specs.Format.{highest}
 use Rattle.index.specs.Sound.{Sound}
 use Rattle.directory.specs.Has.{has}
 use Rattle.index.specs.Check.{checkOf}
-use Rattle.question.specs.declared.reader.Reading.the-variants as reading
 use Rattle.question.specs.Token.{tokens}
 use Rattle.question.specs.Grammar.{Tree, Rule, fromLeft}
-use Rattle.question.specs.Meaning.{fits}
-use Rattle.question.specs.Reading.{Parsed, parses, refuses, parsed, readingOf}
-use Rattle.question.specs.Reading as read
-use Rattle.question.proofs.ParsedLaws.{asked-accepts}
+use Rattle.question.specs.Meaning.{satisfies}
+use Rattle.question.specs.Reading.{parses, refuses, parsed}
+use Rattle.question.proofs.ParsedLaws.{asked-accepts, accepted-within}
 use Rattle.query.specs.Ask.{satisfying, Answers, Asks}
-use Rattle.codes.specs.Code.{codesOf}
-use Rattle.codes.specs.Coded.{Coded}
-use Rattle.slots.specs.Find.{Slots}
-use Rattle.query.specs.Drive.{TreeOf, testOf, Tallied}
-use Rattle.query.specs.Prepared.{Prepared, Listing}
-use Rattle.query.proofs.DriveLaws.{tree-words}
-use Rattle.query.proofs.QuestionBound.{slots-bound}
-use Rattle.query.proofs.SatisfyLaws.{satisfying-even}
-use Rattle.slots.proofs.WholeLaws.{asked-fits}
+use Rattle.codes.specs.Code.{codesOf, wordCodes}
+use Rattle.codes.proofs.CodeLaws.{codes-words}
+use Rattle.slots.specs.Slots.{slotHas}
+use Rattle.slots.specs.declared.compile.Compiled.{Compiled}
+use Rattle.slots.specs.Compile.{Compiles}
+use Rattle.query.specs.Drive.{TreeOf, testOf, AskedBy}
+use Rattle.query.specs.Prepared.{Prepared}
+use Rattle.query.proofs.QuestionBound.{question-bound}
+use Rattle.slots.proofs.WholeLaws.{slot-satisfies, compiled-slots}
 
 -- ---- an accepted question made ready
-
--- the part of the codes that is lent, from the first on
-pub part-codes : (question codes codes′ : List ℕ) (n : ℕ) → Coded question codes codes′ n → take (n - 0) codes′ ≡ codesOf (tokens question)
-part-codes question codes codes′ n c = rw (sub-zero n) (c .are)
 
 asked-tree : (s codes : List ℕ) (t : Tree) (k : ℕ) → parsed fromLeft s ≡ parses t k → codes ≡ codesOf (tokens s) → TreeOf codes t
 asked-tree s codes t k is e = record { toks = tokens s; are = sym e; fuel = 2 * length s + 2; words = k; reads = asked-accepts fromLeft s t k is .reads }
 
-pub asked-prepared : (s index entries₀ entries codes : List ℕ) (count : ℕ) (t : Tree) (k : ℕ) → parsed fromLeft s ≡ parses t k → Sound index →
-    Slots index s entries₀ entries count → codes ≡ codesOf (tokens s) → Prepared codes index entries count t
-asked-prepared s index entries₀ entries codes count t k is sound slots e = record {
-  reads = asked-tree s codes t k is e;
-  count = slots .count t k is .1 ∙ tree-words codes t (asked-tree s codes t k is e);
-  same = asked-fits s t k is index entries₀ entries count slots;
-  bound = slots-bound index s entries₀ entries count sound slots t k is;
-}
+module _ {index s codes codes′ entries entries′ : List ℕ} {r : Compiled} (c : Compiles index s codes codes′ entries entries′ r) (sound : Sound index)
+    (t : Tree) (k : ℕ) (is : parsed fromLeft s ≡ parses t k) where
+  -- they are lent from the first on
+  compiled-codes : take (r .codes - 0) codes′ ≡ codesOf (tokens s)
+  compiled-codes = rw (sub-zero (r .codes)) (c .coded)
+
+  pub compiled-asked : length entries ≡ 16 → AskedBy (take (r .codes - 0) codes′) index entries′ (r .slots)
+  compiled-asked long = record {
+    sound = sound;
+    entries-long = c .entries-long ∙ long;
+    few = omega (arith, c .count, accepted-within fromLeft s t k is .words);
+    all = c .count ∙ sym (codes-words (tokens s)) ∙ ap wordCodes (sym compiled-codes);
+  }
+
+  pub compiled-prepared : Prepared (take (r .codes - 0) codes′) index entries′ (r .slots) t
+  compiled-prepared =
+      let have = compiled-slots c t k is in
+      record {
+        reads = asked-tree s (take (r .codes - 0) codes′) t k is compiled-codes;
+        same = λ x. slot-satisfies (slotHas index entries′) (has index) t x (λ i h. have .1 i h x);
+        bound = rw (have .0) (question-bound index entries′ sound t (have .1));
+      }
 
 -- ---- its answer
 
-module _ (codes index entries : List ℕ) (words n : ℕ) (t : Tree) (prepared : Prepared codes index entries words t) (limit : n ≡ highest index) where
+module _ {codes index entries : List ℕ} {slots n : ℕ} {t : Tree} (prepared : Prepared codes index entries slots t) (limit : n ≡ highest index) where
   prepared-cells : cellsOf (testOf index entries t) n ≡ satisfying index t
   unfolding satisfying
-  prepared-cells = rw limit (cells-same (testOf index entries t) (fits (has index) t) (highest index) (λ x h g. prepared .same x))
+  prepared-cells = rw limit (cells-same (testOf index entries t) (satisfies (has index) t) (highest index) (λ x h g. prepared .same x))
 
-  pub prepared-room : (out : List ℕ) → intervals (satisfying index t) ≤ length out / 2 → length (cellsOf (testOf index entries t) n) ≤ length out
-  prepared-room out h = omega (arith, ap length prepared-cells, satisfying-even index t)
+  -- a pass over the test's list is one over the answer
+  pub prepared-swept : {writing : Bool} {out out′ : List ℕ} {r : Tally} → Sweeps (cellsOf (testOf index entries t) n) writing out out′ r →
+      Sweeps (satisfying index t) writing out out′ r
+  prepared-swept s = rw prepared-cells at s
 
-  module _ (out out′ : List ℕ) (r : Tally) where
-    pub prepared-intervals : (writing : Bool) → Tallied (testOf index entries t) n writing out out′ r → r .intervals ≡ intervals (satisfying index t)
-    prepared-intervals writing s = ap (λ (w : Tally). w .intervals) (s .tally) ∙ ap intervals prepared-cells
-
-    -- counted: the cells are as they were
-    pub counted-kept : Tallied (testOf index entries t) n false out out′ r → out′ ≡ out
-    counted-kept s = s .cells
-
-    pub counted-refused : Tallied (testOf index entries t) n false out out′ r → length out / 2 < r .intervals → Listing (satisfying index t) out out′ (answer.Refused (Room (r .intervals)))
-    counted-refused s h =
-        let e = prepared-intervals false s in
-        let f = lt-leb (intervals (satisfying index t)) (length out / 2) (omega arith) in
-        record { answer = rw f (ap (λ (i : ℕ). answer.Refused (Room i)) e); cells = rw f (s .cells) }
-
-    pub written-listed : Tallied (testOf index entries t) n true out out′ r → intervals (satisfying index t) ≤ length out / 2 → Listing (satisfying index t) out out′ (answer.Listed r)
-    written-listed s h =
-        let f = le-leb (intervals (satisfying index t)) (length out / 2) h in
-        record {
-          answer = rw f (ap answer.Listed (s .tally ∙ ap tallyOf prepared-cells));
-          cells = rw f (s .cells ∙ ap (λ (c : List ℕ). c ++ drop (length c) out) prepared-cells);
-        }
+  pub prepared-length : length (cellsOf (testOf index entries t) n) ≡ length (satisfying index t)
+  prepared-length = ap length prepared-cells
 
 -- ---- the question's promise
 
@@ -105,15 +92,3 @@ module _ (rule : Rule) (index question out : List ℕ) where
 
   pub refused-asks : (x : Refusal) → checkOf index ≡ Refused x → Asks rule index question out out (answer.Refused x)
   refused-asks x e = record { answer = rw e; cells = rw e }
-
-  -- two outcomes that the promise allows are equal
-  pub asks-once : (out′ out″ : List ℕ) (r s : Answer) → Asks rule index question out out′ r → Asks rule index question out out″ s → (r ≡ s) × (out′ ≡ out″)
-  asks-once out′ out″ r s p q = (p .answer ∙ sym (q .answer), p .cells ∙ sym (q .cells))
-
-refused-step : (a : Parsed) (x : Refusal) → read.answer a ≡ reading.Refused x → a ≡ refuses x
-refused-step (parses t k) x e = absurd (let z : _≡_ {A = ℕ} 0 1 = cc in omega arith)
-refused-step (refuses r) x e = let f : r ≡ x = cc in ap refuses f
-
-pub reading-refuses : (s : List ℕ) (x : Refusal) → readingOf s ≡ reading.Refused x → parsed fromLeft s ≡ refuses x
-unfolding readingOf
-reading-refuses s x e = refused-step (parsed fromLeft s) x e

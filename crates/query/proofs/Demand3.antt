@@ -34,15 +34,15 @@ use Rattle.index.specs.Check.{checkOf}
 use Rattle.index.proofs.CheckLaws.{good-sound}
 use Rattle.question.specs.Token.{tokens}
 use Rattle.question.specs.Grammar.{Tree, Rule, fromLeft}
-use Rattle.question.specs.Meaning.{fits, Respects}
+use Rattle.question.specs.Meaning.{satisfies, Respects}
 use Rattle.question.specs.Reading.{parses, parsed}
 use Rattle.question.specs.Limits.{tokenWords}
 use Rattle.question.specs.Exchange.{around, Matched, Exchangeable, AcceptedToo}
 use Rattle.question.proofs.RuleLaws.{from-left-respects}
 use Rattle.question.proofs.ParsedLaws.{accepted-within}
 use Rattle.question.proofs.Exchange.{exchange, inside-accepted}
-use Rattle.query.specs.Ask.{satisfying, Asks}
-use Rattle.query.specs.Demand3.{written, Answered, SameRecords, Exchanging, ExchangingPair, writtenBy, OnlyWritten, ListOrRoom, SameAnswers}
+use Rattle.query.specs.Ask.{satisfying}
+use Rattle.query.specs.Demand3.{written, Answered, SameRecords, Exchanging, ExchangingPair, writtenBy, OnlyWritten, ListOrRoom, CallsAgree}
 use Rattle.query.proofs.SatisfyLaws.{same-everywhere, satisfying-even, satisfying-same, same-satisfying}
 
 -- ---- what an answered question writes: the one proper list of its records
@@ -74,9 +74,9 @@ module _ (rule : Rule) (index question : List ℕ) (t : Tree) (out out′ : List
       ∙ take-at cells (drop (length cells) out) (2 * tally .intervals) (sym (satisfying-even index t) ∙ ap (λ (w : Tally). 2 * w .intervals) (sym answered-tally))
 
   -- Reference 3.2: of whatever cells name just the records that satisfy the question
-  pub fewest-intervals : (c : List ℕ) → names c 0 ≡ false → ((x : ℕ) → 1 ≤ x → x ≤ highest index → names c x ≡ fits (has index) t x) → tally .intervals ≤ intervals c
+  pub fewest-intervals : (c : List ℕ) → names c 0 ≡ false → ((x : ℕ) → 1 ≤ x → x ≤ highest index → names c x ≡ satisfies (has index) t x) → tally .intervals ≤ intervals c
   unfolding satisfying
-  fewest-intervals c e f = rw answered-tally (fewest-of (fits (has index) t) (highest index) c e f)
+  fewest-intervals c e f = rw answered-tally (fewest-of (satisfies (has index) t) (highest index) c e f)
 
 -- ---- two answered questions
 
@@ -125,15 +125,12 @@ module _ (rule : Rule) (respects : Respects rule) (index before a b behind : Lis
       } in
       exchange rule respects (has index) a b parts before behind (e .tree) (e .words) (e .accepted) .accepted (e .within)
 
-  pub exchange-answers : Exchanging rule index before a b behind →
-      (out out′ other other′ : List ℕ) (r r′ : Answer) → length out / 2 ≡ length other / 2 →
-      Asks rule index (around before a behind) out out′ r → Asks rule index (around before b behind) other other′ r′ →
-      SameAnswers rule (around before b behind) out out′ other other′ r r′
+  pub exchange-answers : Exchanging rule index before a b behind → CallsAgree rule index (around before a behind) (around before b behind)
   exchange-answers e out out′ other other′ r r′ room one-call other-call =
       let too = changed e in
       let one = e .tree in
       let two = too .tree in
-      let same : satisfying index one ≡ satisfying index two = satisfying-same index one two (λ x h g. too .fits-same x) in
+      let same : satisfying index one ≡ satisfying index two = satisfying-same index one two (λ x h g. too .satisfies-same x) in
       let first-says : r ≡ listAnswer (satisfying index one) (length out / 2) = rw (e .sound, e .accepted) at (one-call .answer) in
       let first-leaves : out′ ≡ listCells (satisfying index one) (length out / 2) out = rw (e .sound, e .accepted) at (one-call .cells) in
       let second-says : r′ ≡ listAnswer (satisfying index two) (length other / 2) = rw (e .sound, too .accepted) at (other-call .answer) in
@@ -170,14 +167,11 @@ module _ (rule : Rule) (respects : Respects rule) (index before a b behind : Lis
         within = e .within;
       }
 
-  pub exchange-pair : ExchangingPair rule index before a b behind →
-      (out out′ other other′ : List ℕ) (r r′ : Answer) → length out / 2 ≡ length other / 2 →
-      Asks rule index (around before a behind) out out′ r → Asks rule index (around before b behind) other other′ r′ →
-      SameAnswers rule (around before b behind) out out′ other other′ r r′
+  pub exchange-pair : ExchangingPair rule index before a b behind → CallsAgree rule index (around before a behind) (around before b behind)
   exchange-pair e = exchange-answers (pair-exchanging e)
 
-asks-once : (rule : Rule) (s : List ℕ) (t u : Tree) (n m : ℕ) → parsed rule s ≡ parses t n → parsed rule s ≡ parses u m → t ≡ u
-asks-once rule s t u n m e f = cc
+parsed-once : (rule : Rule) (s : List ℕ) (t u : Tree) (n m : ℕ) → parsed rule s ≡ parses t n → parsed rule s ≡ parses u m → t ≡ u
+parsed-once rule s t u n m e f = cc
 
 -- no premise is empty: any pair of brackets in an accepted question may be exchanged, for itself if for nothing else
 pub exchanging-itself : (rule : Rule) (index before a behind : List ℕ) → checkOf index ≡ Good → (t : Tree) (n : ℕ) → parsed rule (around before a behind) ≡ parses t n → Matched a →
@@ -193,23 +187,17 @@ exchanging-itself rule index before a behind sound t n accepted matched =
       tree-b = by .tree;
       words-b = length (tokenWords (tokens a));
       b-accepted = by .accepted;
-      same = λ u m e x h g. ap (λ (y : Tree). fits (has index) y x) (asks-once rule a u (by .tree) m (length (tokenWords (tokens a))) e (by .accepted));
+      same = λ u m e x h g. ap (λ (y : Tree). satisfies (has index) y x) (parsed-once rule a u (by .tree) m (length (tokenWords (tokens a))) e (by .accepted));
       within = accepted-within rule (around before a behind) t n accepted;
     }
 
 -- ---- by the published rule
 
 module _ (index before a b behind : List ℕ) where
-  pub exchange-answers-from-left : Exchanging fromLeft index before a b behind →
-      (out out′ other other′ : List ℕ) (r r′ : Answer) → length out / 2 ≡ length other / 2 →
-      Asks fromLeft index (around before a behind) out out′ r → Asks fromLeft index (around before b behind) other other′ r′ →
-      SameAnswers fromLeft (around before b behind) out out′ other other′ r r′
+  pub exchange-answers-from-left : Exchanging fromLeft index before a b behind → CallsAgree fromLeft index (around before a behind) (around before b behind)
   exchange-answers-from-left = exchange-answers fromLeft from-left-respects index before a b behind
 
-  pub exchange-pair-from-left : ExchangingPair fromLeft index before a b behind →
-      (out out′ other other′ : List ℕ) (r r′ : Answer) → length out / 2 ≡ length other / 2 →
-      Asks fromLeft index (around before a behind) out out′ r → Asks fromLeft index (around before b behind) other other′ r′ →
-      SameAnswers fromLeft (around before b behind) out out′ other other′ r r′
+  pub exchange-pair-from-left : ExchangingPair fromLeft index before a b behind → CallsAgree fromLeft index (around before a behind) (around before b behind)
   exchange-pair-from-left = exchange-pair fromLeft from-left-respects index before a b behind
 
 pub exchanging-itself-from-left : (index before a behind : List ℕ) → checkOf index ≡ Good → (t : Tree) (n : ℕ) → parsed fromLeft (around before a behind) ≡ parses t n → Matched a →

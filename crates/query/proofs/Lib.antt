@@ -1,5 +1,5 @@
 pub mod SatisfyLaws
 pub mod Demand3
-pub mod DriveLaws
+pub mod TestLaws
 pub mod QuestionBound
 pub mod AskLaws

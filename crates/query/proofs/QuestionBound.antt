@@ -1,9 +1,8 @@
 -- The list of a question has no more intervals than the lists of its words together: it can only change where one of them does.
-use Prim.Native.Nat.{ℕ, _≤_, _<_}
-use native.Mathlib.Omega.{arith}
+use Prim.Native.Nat.{ℕ, _≤_}
 use mathlib.Core.Path.{_≡_, sym}
-use mathlib.Core.List.{List, []}
-use lib.ListN.{length, getD}
+use mathlib.Core.List.{List}
+use lib.ListN.{length}
 use Rattle.list.specs.Interval.{intervals}
 use Rattle.list.specs.Stretches.{cellsOf}
 use Rattle.list.proofs.StretchLaws.{cells-same}
@@ -11,35 +10,24 @@ use Rattle.list.proofs.BoundLaws.{cells-bound}
 use Rattle.index.specs.Format.{highest}
 use Rattle.index.specs.Sound.{Sound}
 use Rattle.directory.specs.Has.{has}
-use Rattle.question.specs.Grammar.{Tree, fromLeft, treeWords}
-use Rattle.question.specs.Meaning.{fits}
-use Rattle.question.specs.Reading.{parses, parsed}
-use Rattle.slots.specs.Slots.{slotHas, slotFits}
-use Rattle.slots.specs.Find.{Slots}
+use Rattle.question.specs.Grammar.{Tree, treeWords}
+use Rattle.question.specs.Meaning.{satisfies}
+use Rattle.slots.specs.Slots.{slotHas, slotSatisfies}
 use Rattle.slots.specs.Bound.{slotsIntervals}
 use Rattle.slots.proofs.SlotLaws.{slots-none}
-use Rattle.slots.proofs.WholeLaws.{slot-fits}
-use Rattle.slots.proofs.SlotBound.{slot-zero, tests, tests-still, tests-out, tests-together, fits-still}
+use Rattle.slots.proofs.WholeLaws.{slot-satisfies, TreeSlots}
+use Rattle.slots.proofs.SlotBound.{slot-zero, tests, tests-still, tests-out, tests-together, satisfies-still}
 use Rattle.query.specs.Ask.{satisfying}
 
--- ---- the question
-
-pub question-bound : (index entries : List ℕ) → Sound index → (t : Tree) →
-    ((i : ℕ) → i < length (treeWords t) → (x : ℕ) → slotHas index entries i x ≡ has index (getD (treeWords t) i []) x) →
+-- an answer with room for that many intervals needs no counting first
+pub question-bound : (index entries : List ℕ) → Sound index → (t : Tree) → TreeSlots index entries t →
     intervals (satisfying index t) ≤ slotsIntervals index entries 0 (length (treeWords t))
 unfolding satisfying
 question-bound index entries s t f =
     let v = slotHas index entries in
     let n = length (treeWords t) in
-    let e : cellsOf (fits (has index) t) (highest index) ≡ cellsOf (slotFits v t 0) (highest index) =
-    cells-same (fits (has index) t) (slotFits v t 0) (highest index) (λ x h l. sym (slot-fits v (has index) t x (λ i g. f i g x))) in
+    let e : cellsOf (satisfies (has index) t) (highest index) ≡ cellsOf (slotSatisfies v t 0) (highest index) =
+    cells-same (satisfies (has index) t) (slotSatisfies v t 0) (highest index) (λ x h l. sym (slot-satisfies v (has index) t x (λ i g. f i g x))) in
     rw (e, ← tests-together index entries s 0 n)
-    (cells-bound (slotFits v t 0) (tests v 0 n) (highest index) (slots-none v 0 (λ j. slot-zero index entries s j) t 0) (tests-out v 0 n (λ j. slot-zero index entries s j))
-    (λ x h w. fits-still v t 0 x (λ j g l. tests-still v 0 n x j w g l)))
-
--- an answer with room for that many intervals needs no counting first
-pub slots-bound : (index question entries entries′ : List ℕ) (n : ℕ) → Sound index → Slots index question entries entries′ n →
-    (t : Tree) (k : ℕ) → parsed fromLeft question ≡ parses t k → intervals (satisfying index t) ≤ slotsIntervals index entries′ 0 n
-slots-bound index question entries entries′ n s w t k e =
-    let c = w .count t k e in
-    rw (c .1) (question-bound index entries′ s t (λ i h x. w .have t k e i (omega (arith, c .1)) x))
+    (cells-bound (slotSatisfies v t 0) (tests v 0 n) (highest index) (slots-none v 0 (λ j. slot-zero index entries s j) t 0) (tests-out v 0 n (λ j. slot-zero index entries s j))
+    (λ x h w. satisfies-still v t 0 x (λ j g l. tests-still v 0 n x j w g l)))

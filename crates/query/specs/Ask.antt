@@ -13,12 +13,12 @@ use Rattle.index.specs.Format.{highest}
 use Rattle.directory.specs.Has.{has}
 use Rattle.index.specs.Check.{checkOf}
 use Rattle.question.specs.Grammar.{Tree, Rule}
-use Rattle.question.specs.Meaning.{fits}
+use Rattle.question.specs.Meaning.{satisfies}
 use Rattle.question.specs.Reading.{Parsed, parses, refuses, parsed}
 
 -- Reference 6.3: the answer to a question, by its tree
 unfoldable pub satisfying : List ℕ → Tree → List ℕ
-satisfying index t = cellsOf (fits (has index) t) (highest index)
+satisfying index t = cellsOf (satisfies (has index) t) (highest index)
 
 -- Reference 9.2: the refusal of the question, then 12, or the list
 abbrev pub treeAnswer : List ℕ → Parsed → ℕ → Answer

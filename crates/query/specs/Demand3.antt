@@ -1,5 +1,5 @@
 -- Reference 11, demand 3: the cells that two questions write over one sound index, and the exchange of a part in brackets.
-use Prim.Native.Nat.{ℕ, _*_, _≤_}
+use Prim.Native.Nat.{ℕ, _*_, _/_, _≤_}
 use mathlib.Core.Path.{_≡_}
 use mathlib.Core.List.{List, [], _++_}
 use lib.ListN.{length, take, drop}
@@ -12,7 +12,7 @@ use Rattle.index.specs.Format.{highest}
 use Rattle.directory.specs.Has.{has}
 use Rattle.index.specs.Check.{checkOf}
 use Rattle.question.specs.Grammar.{Tree, Rule}
-use Rattle.question.specs.Meaning.{fits}
+use Rattle.question.specs.Meaning.{satisfies}
 use Rattle.question.specs.Reading.{parses, parsed}
 use Rattle.question.specs.Limits.{WithinLimits}
 use Rattle.question.specs.Exchange.{around, Matched}
@@ -32,7 +32,7 @@ pub record Answered (rule : Rule) (index question : List ℕ) (t : Tree) (out ou
 
 -- Reference 11, demand 3: every record satisfies both questions or neither
 abbrev pub SameRecords : List ℕ → Tree → Tree → Type 0
-SameRecords index t u = (x : ℕ) → 1 ≤ x → x ≤ highest index → fits (has index) t x ≡ fits (has index) u x
+SameRecords index t u = (x : ℕ) → 1 ≤ x → x ≤ highest index → satisfies (has index) t x ≡ satisfies (has index) u x
 
 -- ---- the exchange of a part in brackets: Reference 11, demand 3
 
@@ -89,3 +89,9 @@ pub record SameAnswers (rule : Rule) (second out out′ other other′ : List �
   pub cells : writtenBy r out′ ≡ writtenBy r′ other′
   pub first-only : OnlyWritten r out out′
   pub second-only : OnlyWritten r′ other other′
+
+-- Reference 11, demand 3: so it is of any two calls that keep the promise, the first question's and the second's, with as much room
+abbrev pub CallsAgree : Rule → List ℕ → List ℕ → List ℕ → Type 0
+CallsAgree rule index first second =
+    (out out′ other other′ : List ℕ) (r r′ : Answer) → length out / 2 ≡ length other / 2 → Asks rule index first out out′ r → Asks rule index second other other′ r′ →
+    SameAnswers rule second out out′ other other′ r r′

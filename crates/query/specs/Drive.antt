@@ -1,18 +1,24 @@
 -- The driver, which passes the records from 1 to N step by step and counts, or writes, the cells of those that satisfy a question.
-use Prim.Native.Nat.{ℕ, _+_, _≤_, min}
+use Prim.Native.Nat.{ℕ, _+_, _*_, _≤_, _<_, min}
 use mathlib.Core.Path.{_≡_}
-use mathlib.Core.Bool.{Bool, true, cond}
-use mathlib.Core.List.{List, [], _++_}
-use lib.ListN.{length, drop}
+use mathlib.Core.Bool.{Bool, true}
+use mathlib.Core.List.{List, []}
+use lib.ListN.{length}
+use Rattle.limits.specs.Limits.{bracketsMax, questionWordsMax, recordMax}
 use Rattle.list.specs.declared.answer.Tally.{Tally}
+use Rattle.list.specs.Sense.{Steady}
 use Rattle.list.specs.Stretches.{cellsOf}
-use Rattle.list.specs.Answer.{tallyOf}
+use Rattle.list.specs.Answer.{Sweeps}
+use Rattle.index.specs.Sound.{Sound}
+use Rattle.window.specs.declared.steps.Done.{Done}
+use Rattle.window.specs.Tuning.{windowMost}
 use Rattle.window.specs.Flips.{odd, flips}
 use Rattle.window.specs.Steps.{Stepped}
 use Rattle.question.specs.Token.{Tok}
 use Rattle.question.specs.Grammar.{Tree, good, fromLeft, question}
 use Rattle.codes.specs.Code.{codesOf, wordCodes}
-use Rattle.slots.specs.Slots.{slotHas, slotFits}
+use Rattle.slots.specs.Slots.{slotHas, slotSatisfies}
+use Rattle.evaluate.specs.declared.look.Look.{Look}
 use Rattle.evaluate.specs.Senses.{Sensed}
 use Rattle.query.specs.declared.drive.At.{At}
 
@@ -24,11 +30,22 @@ pub record TreeOf (codes : List ℕ) (t : Tree) : Type 0 where
   pub are : codesOf toks ≡ codes
   pub fuel : ℕ
   pub words : ℕ
-  pub reads : question fromLeft fuel 8 0 toks ≡ good t [] words
+  pub reads : question fromLeft fuel bracketsMax 0 toks ≡ good t [] words
 
 -- which records satisfy it, by what its slots have
 abbrev pub testOf : List ℕ → List ℕ → Tree → ℕ → Bool
-testOf index entries t = slotFits (slotHas index entries) t 0
+testOf index entries t = slotSatisfies (slotHas index entries) t 0
+
+-- P is so of the test of each tree that the codes read as
+abbrev pub OfEach : List ℕ → List ℕ → List ℕ → ((ℕ → Bool) → Type 0) → Type 0
+OfEach codes index entries P = (t : Tree) → TreeOf codes t → P (testOf index entries t)
+
+-- what a question is asked by: a sound index, its codes, and 16 entries, of which the first `slots` are those of its words
+pub record AskedBy (codes index entries : List ℕ) (slots : ℕ) : Type 0 where
+  pub sound : Sound index
+  pub entries-long : length entries ≡ questionWordsMax
+  pub few : slots ≤ questionWordsMax
+  pub all : slots ≡ wordCodes codes
 
 -- the hints are moved, and nothing else is said of them
 pub record SameLengths (hints ws hints′ ws′ : List ℕ) : Type 0 where
@@ -37,8 +54,8 @@ pub record SameLengths (hints ws hints′ ws′ : List ℕ) : Type 0 where
 
 -- what is kept of the slots before record x: a sense of each, and the first `slots` are those of the question's words
 pub record Slotted (codes index entries senses : List ℕ) (slots x : ℕ) : Type 0 where
-  pub long : length senses ≡ 16
-  pub few : slots ≤ 16
+  pub long : length senses ≡ questionWordsMax
+  pub few : slots ≤ questionWordsMax
   pub all : slots ≡ wordCodes codes
   pub sensed : Sensed (slotHas index entries) senses x
 
@@ -56,13 +73,31 @@ pub record Fits (codes index entries : List ℕ) (n : ℕ) (writing : Bool) (out
 
 -- ---- the loop
 
+-- what a window is taken by: some words, and where the driver stands
+pub record WindowAt (ws : List ℕ) (at : At) : Type 0 where
+  pub some : 1 ≤ length ws
+  pub most : length ws ≤ windowMost
+  pub begun : 1 ≤ at .x
+  pub near : at .x ≤ recordMax
+  pub few : at .cells < 4294967296
+  pub counted : at .records < 4294967296
+
+-- it passes the window's records
+abbrev pub TakesWindow : List ℕ → List ℕ → List ℕ → List ℕ → Bool → At → List ℕ → List ℕ → Done → Type 0
+TakesWindow codes index entries ws writing at out out′ r =
+    OfEach codes index entries (λ p. Stepped p (at .x) (64 * length ws) writing (at .cells) (at .records) out out′ (r .cells) (r .records))
+
+-- what a look at record x says
+abbrev pub LooksAt : List ℕ → List ℕ → List ℕ → ℕ → Look → Type 0
+LooksAt codes index entries x r = OfEach codes index entries (λ p. Steady p x (r .inside) (r .until))
+
 -- where it stands before a step
 pub record Stands (n : ℕ) (at : At) : Type 0 where
-  pub some : 1 ≤ at .words
-  pub most : at .words ≤ 128
+  pub some : 1 ≤ at .width
+  pub most : at .width ≤ windowMost
   pub begun : 1 ≤ at .x
   pub more : at .x ≤ n
-  pub near : n ≤ 16777215
+  pub near : n ≤ recordMax
   pub few : at .cells ≤ n + 1
   pub counted : at .records ≤ n
 
@@ -73,7 +108,9 @@ pub record Moved (p : ℕ → Bool) (n : ℕ) (writing : Bool) (at : At) (out ou
   pub to : r .x ≡ min (at .x + far) (n + 1)
   pub step : Stepped p (at .x) far writing (at .cells) (at .records) out out′ (r .cells) (r .records)
 
+abbrev pub Moves : List ℕ → List ℕ → List ℕ → ℕ → Bool → At → List ℕ → List ℕ → At → Type 0
+Moves codes index entries n writing at out out′ r = OfEach codes index entries (λ p. Moved p n writing at out out′ r)
+
 -- the whole list, counted or written
-pub record Tallied (p : ℕ → Bool) (n : ℕ) (writing : Bool) (out out′ : List ℕ) (r : Tally) : Type 0 where
-  pub tally : r ≡ tallyOf (cellsOf p n)
-  pub cells : out′ ≡ cond writing (cellsOf p n ++ drop (length (cellsOf p n)) out) out
+abbrev pub Tallies : List ℕ → List ℕ → List ℕ → ℕ → Bool → List ℕ → List ℕ → Tally → Type 0
+Tallies codes index entries n writing out out′ r = OfEach codes index entries (λ p. Sweeps (cellsOf p n) writing out out′ r)

@@ -1,57 +1,56 @@
 // The call that answers a question over an index.
-ghost use mathlib.Core.Path.{_≡_};
-ghost use Prim.Native.Nat.{_≤_};
-ghost use lib.ListN.{length};
 ghost use Rattle.index.specs.Sound.{Sound};
-ghost use Rattle.question.specs.Grammar.{Tree, fromLeft};
-ghost use Rattle.query.specs.Ask.{satisfying, Answers, Asks};
-ghost use Rattle.slots.specs.Find.{IsParsed};
-ghost use Rattle.query.specs.Prepared.{Prepared, IsPrepared, Listing};
+ghost use Rattle.question.specs.Grammar.{fromLeft};
+ghost use Rattle.query.specs.Ask.{Answers, Asks};
+ghost use Rattle.query.specs.Drive.{AskedBy};
+ghost use Rattle.query.specs.Prepared.{IsParsed, IsPrepared, PutsAnswer};
 use crate::drive::sweep_question;
-use codes::write::write_codes;
 use index::Checked;
 use index::check::check_index;
 use index::trailer::read_trailer;
+use limits::QUESTION_MAX;
+use limits::QUESTION_WORDS_MAX;
 use list::answer::Answer;
 use question::read_question;
-use question::reader::Reading;
+use question::reader::Verdict;
 use refusal::Refusal;
 use slots::bound::slots_sum;
-use slots::find::find_slots;
+use slots::compile::compile;
 
 // Writes the answer where it has room. The lists of the words have no fewer intervals together: where there is room for those, one pass is enough.
 fn put_answer(
     codes: &[u8],
     index: &[u8],
     entries: &[usize],
-    words: usize,
+    slots: usize,
     out: &mut [u32],
 ) -> Answer
-    requires reads { ⌜ Sound (now index) × (length (now entries) ≡ 16) × (words ≤ 16) ⌝ }
-    requires prepared { ⌜ IsPrepared (now codes) (now index) (now entries) words ⌝ }
-    ensures { λ r. ⌜ ((t : Tree) → Prepared (now (codes .entry)) (now (index .entry)) (now (entries .entry)) words t → Listing (satisfying (now (index .entry)) t) (now (out .entry)) (now (out .exit)) r) ⌝ }
+    requires asked { ⌜ AskedBy (now codes) (now index) (now entries) slots ⌝ }
+    requires prepared { ⌜ IsPrepared (now codes) (now index) (now entries) slots ⌝ }
+    ensures { λ r. ⌜ PutsAnswer (now (codes .entry)) (now (index .entry)) (now (entries .entry)) slots (now (out .entry)) (now (out .exit)) r ⌝ }
 {
     let highest = read_trailer(index).highest;
     let room = out.len() / 2;
-    if slots_sum(index, entries, words) <= room {
-        return Answer::Listed(sweep_question(codes, index, entries, words, highest, true, out));
+    if slots_sum(index, entries, slots) <= room {
+        return Answer::Listed(sweep_question(codes, index, entries, slots, highest, true, out));
     }
-    let needed = sweep_question(codes, index, entries, words, highest, false, out).intervals;
+    let needed = sweep_question(codes, index, entries, slots, highest, false, out).intervals;
     if room < needed {
         return Answer::Refused(Refusal::Room(needed));
     }
-    Answer::Listed(sweep_question(codes, index, entries, words, highest, true, out))
+    Answer::Listed(sweep_question(codes, index, entries, slots, highest, true, out))
 }
 
 fn answer_accepted(index: &[u8], question: &[u8], out: &mut [u32]) -> Answer
-    requires { ⌜ Sound (now index) × IsParsed (now question) ⌝ }
+    requires sound { ⌜ Sound (now index) ⌝ }
+    requires parsed { ⌜ IsParsed (now question) ⌝ }
     ensures { λ r. ⌜ Answers fromLeft (now (index .entry)) (now (question .entry)) (now (out .entry)) (now (out .exit)) r ⌝ }
 {
-    let mut codes: [u8; 256] = [0; 256];
-    let count = write_codes(question, &mut codes);
-    let mut entries: [usize; 16] = [0; 16];
-    let words = find_slots(index, question, &mut entries);
-    put_answer(&codes[0..count], index, &entries, words, out)
+    let mut codes: [u8; QUESTION_MAX] = [0; QUESTION_MAX];
+    let mut entries: [usize; QUESTION_WORDS_MAX] = [0; QUESTION_WORDS_MAX];
+    let compiled = compile(index, question, &mut codes, &mut entries);
+    let count = compiled.codes;
+    put_answer(&codes[0..count], index, &entries, compiled.slots, out)
 }
 
 // Reference 8.10: answers a question over an index that is sound.
@@ -60,8 +59,8 @@ pub fn answer_question(index: &[u8], question: &[u8], out: &mut [u32]) -> Answer
     ensures { λ r. ⌜ Answers fromLeft (now (index .entry)) (now (question .entry)) (now (out .entry)) (now (out .exit)) r ⌝ }
 {
     match read_question(question) {
-        Reading::Accepted(_) => answer_accepted(index, question, out),
-        Reading::Refused(refusal) => Answer::Refused(refusal),
+        Verdict::Accepted(_) => answer_accepted(index, question, out),
+        Verdict::Refused(refusal) => Answer::Refused(refusal),
     }
 }
 

@@ -2,11 +2,11 @@
 --
 -- Let `before ( a ) behind` be accepted. Then
 --   inside-accepted    where the brackets of a match, a is accepted by itself.
--- Let a and b be questions that are accepted by themselves and that the same records fit. Then for any bytes before and behind,
---   exchange-fits      where `before ( a ) behind` and `before ( b ) behind` are both accepted, the same records fit both;
+-- Let a and b be questions that are accepted by themselves and that the same records satisfy. Then for any bytes before and behind,
+--   exchange-fits      where `before ( a ) behind` and `before ( b ) behind` are both accepted, the same records satisfy both;
 --   exchange-accepted  where the first is accepted, and the second has at most 256 bytes, 16 words and 8 brackets open at once, the second is accepted.
 -- `parsed rule s ≡ parses t n` says that s is accepted, with tree t and n words, and `around before a behind` is the bytes `before ( a ) behind`.
--- It holds at any depth, whatever the index has of each word, and for every rule of grouping under which operands that the same records fit may be
+-- It holds at any depth, whatever the index has of each word, and for every rule of grouping under which operands that the same records satisfy may be
 -- exchanged (`Respects`; the published rule, from the left, is one: `from-left-respects` in RuleLaws).
 use Prim.Native.Nat.{ℕ, _+_, _*_, _≤_}
 use native.Mathlib.Omega.{arith}
@@ -24,7 +24,7 @@ use Rattle.question.specs.Stops.{Faultless}
 use Rattle.question.specs.Exchange.{around, Matched, AcceptedBy, AcceptedToo, Exchangeable, Exchanged}
 use Rattle.question.proofs.Lockstep as lock
 use Rattle.question.proofs.LimitLaws.{count, walk-kept, accepts-walk}
-use Rattle.question.proofs.PartLaws.{bracketed, Taken, inside-walk, exchange-walk, walk-bare, bare-walk, bare-count, bare-deepest, bare-open, bare-below}
+use Rattle.question.proofs.PartLaws.{bracketed, Taken, inside-walk, exchange-walk, walk-bare, bare-walk, as-bare}
 use Rattle.question.proofs.ParsedLaws.{asked-accepts, accepted-walk, accepted-within, walk-accepted}
 use Rattle.question.proofs.RuleLaws.{from-left-respects}
 use Rattle.question.proofs.SplitLaws.{bares, bareOut, bare-question, tokens-around, none-proper, proper-none, proper-around, proper-inside, none-short, short-none, short-around, short-inside}
@@ -64,10 +64,10 @@ module _ (rule : Rule) (before a behind : List ℕ) (t : Tree) (n : ℕ) (accept
   pub inside-accepted : Matched a → AcceptedBy rule a (count (tokens a))
   inside-accepted m =
       let w =
-      inside-walk (bares (tokens before)) (bares (tokens a)) (bares (tokens behind)) n parts-walked (bare-below 0 (tokens a) (m .above))
-      (bare-open 0 (tokens a) ∙ m .ends) in
+      inside-walk (bares (tokens before)) (bares (tokens a)) (bares (tokens behind)) n parts-walked (as-bare 0 (tokens a) .above (m .above))
+      (as-bare 0 (tokens a) .brackets ∙ m .ends) in
       walk-accepted rule a (count (tokens a)) inside-faultless
-      (accepts-walk (tokens a) (count (tokens a)) (bare-walk fresh (tokens a) (operatorNext 0 (count (tokens a))) (w ∙ ap (λ (i : ℕ). reached (operatorNext 0 i)) (bare-count (tokens a)))))
+      (accepts-walk (tokens a) (count (tokens a)) (bare-walk fresh (tokens a) (operatorNext 0 (count (tokens a))) (w ∙ ap (λ (i : ℕ). reached (operatorNext 0 i)) (as-bare 0 (tokens a) .words))))
 
 -- the brackets of an accepted question match
 pub accepted-matched : (rule : Rule) (a : List ℕ) (t : Tree) (n : ℕ) → parsed rule a ≡ parses t n → Matched a
@@ -84,8 +84,8 @@ module _ (rule : Rule) (respects : Respects rule) (has : List ℕ → ℕ → Bo
   abbrev second : List ℕ
   second = around before b behind
 
-  pub exchange-fits : (u : Tree) (m : ℕ) → parsed rule (around before b behind) ≡ parses u m → Same has t u
-  exchange-fits u m h =
+  pub exchange-satisfies : (u : Tree) (m : ℕ) → parsed rule (around before b behind) ≡ parses u m → Same has t u
+  exchange-satisfies u m h =
       lock.step-means rule respects has (bares (tokens a)) (bares (tokens b)) (bares (tokens behind)) ta tb a-b (2 * length a + 2) (2 * length b + 2) na nb
       (bares-read rule a ta na a-accepted) (bares-read rule b tb nb b-accepted)
       (2 * length (around before a behind) + 2) (2 * length second + 2) n m (bares (tokens before)) t u []
@@ -104,10 +104,10 @@ module _ (rule : Rule) (respects : Respects rule) (has : List ℕ → ℕ → Bo
   second-taken : WithinLimits second → Taken (parts before b behind)
   second-taken limits =
       let m = accepted-matched rule a ta na a-accepted in
-      let deep : deepest 0 (bares (tokens second)) ≤ 8 = omega (arith, bare-deepest 0 (tokens second), limits .brackets) in
-      let words : count (bares (tokens second)) ≤ 16 = omega (arith, bare-count (tokens second), limits .words) in
+      let deep : deepest 0 (bares (tokens second)) ≤ 8 = omega (arith, as-bare 0 (tokens second) .deep, limits .brackets) in
+      let words : count (bares (tokens second)) ≤ 16 = omega (arith, as-bare 0 (tokens second) .words, limits .words) in
       exchange-walk (bares (tokens before)) (bares (tokens a)) (bares (tokens b)) (bares (tokens behind)) n nb (parts-walked rule before a behind t n accepted)
-      (bare-below 0 (tokens a) (m .above)) (bare-open 0 (tokens a) ∙ m .ends) (bares-walked rule b tb nb b-accepted)
+      (as-bare 0 (tokens a) .above (m .above)) (as-bare 0 (tokens a) .brackets ∙ m .ends) (bares-walked rule b tb nb b-accepted)
       (rw (tokens-around before b behind) at deep) (rw (tokens-around before b behind) at words)
 
   second-accepted : WithinLimits second → (w : Taken (parts before b behind)) → AcceptedBy rule second (w .words)
@@ -119,7 +119,7 @@ module _ (rule : Rule) (respects : Respects rule) (has : List ℕ → ℕ → Bo
   exchange-accepted limits =
       let w = second-taken limits in
       let by = second-accepted limits w in
-      record { tree = by .tree; count = w .words; accepted = by .accepted; fits-same = exchange-fits (by .tree) (w .words) (by .accepted) }
+      record { tree = by .tree; count = w .words; accepted = by .accepted; satisfies-same = exchange-satisfies (by .tree) (w .words) (by .accepted) }
 
 -- ---- both in one statement
 
@@ -127,7 +127,7 @@ pub exchange : (rule : Rule) → Respects rule → (has : List ℕ → ℕ → B
     (before behind : List ℕ) (t : Tree) (n : ℕ) → parsed rule (around before a behind) ≡ parses t n → Exchanged rule has t (around before b behind)
 exchange rule respects has a b e before behind t n h =
     record {
-      fits-same = exchange-fits rule respects has before a b behind (e .tree-a) (e .tree-b) (e .words-a) (e .words-b) (e .a-accepted) (e .b-accepted) (e .same) t n h;
+      satisfies-same = exchange-satisfies rule respects has before a b behind (e .tree-a) (e .tree-b) (e .words-a) (e .words-b) (e .a-accepted) (e .b-accepted) (e .same) t n h;
       accepted = exchange-accepted rule respects has before a b behind (e .tree-a) (e .tree-b) (e .words-a) (e .words-b) (e .a-accepted) (e .b-accepted) (e .same) t n h;
     }
 

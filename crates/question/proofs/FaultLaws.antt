@@ -10,12 +10,12 @@ use borrow.Author.Tests.{lt-ltb, le-ltb}
 use Rattle.word.specs.Word.{isWordByte}
 use Rattle.refusal.specs.First.{firstFrom, first}
 use Rattle.refusal.specs.declared.Found.the-variants.{At, Nowhere}
-use Rattle.refusal.specs.declared.Refusal.the-variants.{QuestionLength, QuestionByte, LongWord}
+use Rattle.refusal.specs.declared.Refusal.the-variants.{QuestionLength, QuestionByte, QuestionWord}
 use Rattle.refusal.proofs.FirstLaws.{first-hit, first-miss, first-end}
-use Rattle.question.specs.declared.reader.Reading.the-variants.{Refused}
+use Rattle.question.specs.declared.reader.Verdict.the-variants.{Refused}
 use Rattle.question.specs.Token.{choose, run}
 use Rattle.question.specs.Grammar.{fromLeft, whole}
-use Rattle.question.specs.Reading.{foreignAt, longAt, outcome, parsed, answer, readingOf}
+use Rattle.question.specs.Reading.{foreignAt, longAt, outcome, parsed, answer, verdictOf}
 
 -- ---- places at which the test fails are passed at once
 
@@ -67,20 +67,20 @@ module _ (s : List ℕ) (i end : ℕ) (is : end ≡ i + run (drop i s)) where
 -- ---- the refusals in their order
 
 module _ (s : List ℕ) where
-  pub reading-length : 256 < length s → readingOf s ≡ Refused (QuestionLength (length s))
-  unfolding readingOf parsed
+  pub reading-length : 256 < length s → verdictOf s ≡ Refused (QuestionLength (length s))
+  unfolding verdictOf parsed
   reading-length h = rw (lt-ltb 256 (length s) h)
 
   module _ (short : length s ≤ 256) where
-    pub reading-foreign : (i : ℕ) → first (foreignAt s) (length s) ≡ At i → readingOf s ≡ Refused (QuestionByte i)
-    unfolding readingOf parsed
+    pub reading-foreign : (i : ℕ) → first (foreignAt s) (length s) ≡ At i → verdictOf s ≡ Refused (QuestionByte i)
+    unfolding verdictOf parsed
     reading-foreign i e = rw (le-ltb 256 (length s) short, e)
 
     module _ (proper : first (foreignAt s) (length s) ≡ Nowhere) where
-      pub reading-long : (i : ℕ) → first (longAt s) (length s) ≡ At i → readingOf s ≡ Refused (LongWord i)
-      unfolding readingOf parsed
+      pub reading-long : (i : ℕ) → first (longAt s) (length s) ≡ At i → verdictOf s ≡ Refused (QuestionWord i)
+      unfolding verdictOf parsed
       reading-long i e = rw (le-ltb 256 (length s) short, proper, e)
 
-      pub reading-else : first (longAt s) (length s) ≡ Nowhere → readingOf s ≡ answer (outcome (length s) (whole fromLeft s))
-      unfolding readingOf parsed
+      pub reading-else : first (longAt s) (length s) ≡ Nowhere → verdictOf s ≡ answer (outcome (length s) (whole fromLeft s))
+      unfolding verdictOf parsed
       reading-else e = rw (le-ltb 256 (length s) short, proper, e)

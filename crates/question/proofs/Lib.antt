@@ -12,7 +12,6 @@ pub mod ParsedLaws
 pub mod SplitLaws
 pub mod RuleLaws
 pub mod Exchange
-pub mod PlaceLaws
 pub mod TreeWords
 pub mod MeaningLaws
 pub mod LevelLaws

@@ -1,4 +1,4 @@
--- Laws of the limits: a walk in parts, what it counts, and that it passes no limit.
+-- Laws of the limits: what a token does to a walk, a walk in parts, what it counts, and that it passes no limit.
 use Prim.Native.Nat.{ℕ, _+_, _-_, _≤_, _<_}
 use native.Mathlib.Omega.{arith}
 use mathlib.Core.Path.{_≡_, refl, ap, _∙_, subst}
@@ -6,7 +6,8 @@ use mathlib.Core.List.{List, [], _∷_, _++_}
 use mathlib.Core.Bool.{Bool, true, false}
 use lib.ListN.{length}
 use lib.Dec.{ltb, eqb}
-use borrow.Author.Tests.{ltb-true, eqb-true, eqb-false}
+use borrow.Author.Tests.{ltb-true, ltb-false, eqb-true, eqb-false}
+use Rattle.question.specs.declared.token.Op.{Op}
 use Rattle.question.specs.Token.{choose, Tok, wordT, opT, openT, closeT, otherT}
 use Rattle.question.specs.Limits.{tokenWords, deepest, openAfter}
 use Rattle.question.specs.Walk.{Stand, operandNext, operatorNext, Pass, goes, refused, pass, Walked, reached, stopped, onward, walk, toEnd, walkAll, fresh}
@@ -23,6 +24,47 @@ openAt (operatorNext n k) = n
 abbrev pub takenAt : Stand → ℕ
 takenAt (operandNext n k) = k
 takenAt (operatorNext n k) = k
+
+-- ---- what a token does, and why
+
+pub data Does : Stand → Tok → Pass → Type 0 where
+  takes-word : (n k p : ℕ) (w : List ℕ) → k < 16 → Does (operandNext n k) (wordT w p) (goes (operatorNext n (k + 1)))
+  takes-operator : (n k p : ℕ) (o : Op) → Does (operatorNext n k) (opT o p) (goes (operandNext n k))
+  opens : (n k p : ℕ) → n < 8 → Does (operandNext n k) (openT p) (goes (operandNext (n + 1) k))
+  closes : (n k p : ℕ) → 1 ≤ n → Does (operatorNext n k) (closeT p) (goes (operatorNext (n - 1) k))
+  word-many : (n k p : ℕ) (w : List ℕ) → 16 ≤ k → Does (operandNext n k) (wordT w p) (refused 10)
+  bracket-many : (n k p : ℕ) → 8 ≤ n → Does (operandNext n k) (openT p) (refused 11)
+  none : (at : Stand) (t : Tok) → Does at t (refused 9)
+
+does-word : (n k p : ℕ) (w : List ℕ) (b : Bool) → ltb k 16 ≡ b → Does (operandNext n k) (wordT w p) (choose b (λ _. goes (operatorNext n (k + 1))) (λ _. refused 10))
+does-word n k p w true e = takes-word n k p w (ltb-true k 16 e)
+does-word n k p w false e = word-many n k p w (ltb-false k 16 e)
+
+does-open : (n k p : ℕ) (b : Bool) → ltb n 8 ≡ b → Does (operandNext n k) (openT p) (choose b (λ _. goes (operandNext (n + 1) k)) (λ _. refused 11))
+does-open n k p true e = opens n k p (ltb-true n 8 e)
+does-open n k p false e = bracket-many n k p (ltb-false n 8 e)
+
+some-open : (n : ℕ) → (n ≡ 0 → ⊥) → 1 ≤ n
+some-open n h = omega arith
+
+does-close : (n k p : ℕ) (b : Bool) → eqb n 0 ≡ b → Does (operatorNext n k) (closeT p) (choose b (λ _. refused 9) (λ _. goes (operatorNext (n - 1) k)))
+does-close n k p true e = none (operatorNext n k) (closeT p)
+does-close n k p false e = closes n k p (some-open n (eqb-false n 0 e))
+
+does : (at : Stand) (t : Tok) → Does at t (pass at t)
+does (operandNext n k) (wordT w p) = does-word n k p w (ltb k 16) refl
+does (operandNext n k) (opT o p) = none (operandNext n k) (opT o p)
+does (operandNext n k) (openT p) = does-open n k p (ltb n 8) refl
+does (operandNext n k) (closeT p) = none (operandNext n k) (closeT p)
+does (operandNext n k) (otherT p) = none (operandNext n k) (otherT p)
+does (operatorNext n k) (wordT w p) = none (operatorNext n k) (wordT w p)
+does (operatorNext n k) (opT o p) = takes-operator n k p o
+does (operatorNext n k) (openT p) = none (operatorNext n k) (openT p)
+does (operatorNext n k) (closeT p) = does-close n k p (eqb n 0) refl
+does (operatorNext n k) (otherT p) = none (operatorNext n k) (otherT p)
+
+pub does-as : {at : Stand} {t : Tok} {o : Pass} → pass at t ≡ o → Does at t o
+does-as {at} {t} {o} e = subst (Does at t) e (does at t)
 
 -- ---- a walk in two parts
 
@@ -78,53 +120,14 @@ record Counted (at : Stand) (t : Tok) (r : List Tok) (to : Stand) : Type 0 where
   deep : openAt at ≤ 8 → deepest (openAt to) r ≤ 8 → deepest (openAt at) (t ∷ r) ≤ 8
   above : NeverBelow (openAt to) r → NeverBelow (openAt at) (t ∷ r)
 
-counted-word : (n k p : ℕ) (w : List ℕ) (r : List Tok) (to : Stand) (b : Bool) → ltb k 16 ≡ b → choose b (λ _. goes (operatorNext n (k + 1))) (λ _. refused 10) ≡ goes to →
-    Counted (operandNext n k) (wordT w p) r to
+counted : (at : Stand) (t : Tok) (r : List Tok) (to : Stand) → Does at t (goes to) → Counted at t r to
 unfolding tokenWords openAfter deepest
-counted-word n k p w r to true e h =
-    let q : operatorNext n (k + 1) ≡ to = cc in
-    let l : k < 16 = ltb-true k 16 e in
-    subst (λ (x : Stand). Counted (operandNext n k) (wordT w p) r x) q
-    (record { words = omega arith; brackets = refl; full = λ f. omega arith; within = λ f. f; deep = λ f g. g; above = λ f. f })
-counted-word n k p w r to false e h = zero-one (cc)
-
-counted-open : (n k p : ℕ) (r : List Tok) (to : Stand) (b : Bool) → ltb n 8 ≡ b → choose b (λ _. goes (operandNext (n + 1) k)) (λ _. refused 11) ≡ goes to →
-    Counted (operandNext n k) (openT p) r to
-unfolding tokenWords openAfter deepest
-counted-open n k p r to true e h =
-    let q : operandNext (n + 1) k ≡ to = cc in
-    let l : n < 8 = ltb-true n 8 e in
-    subst (λ (x : Stand). Counted (operandNext n k) (openT p) r x) q
-    (record { words = refl; brackets = refl; full = λ f. f; within = λ f. omega arith; deep = λ f g. g; above = λ f. f })
-counted-open n k p r to false e h = zero-one (cc)
-
-some-open : (n : ℕ) → (n ≡ 0 → ⊥) → 1 ≤ n
-some-open n h = omega arith
-
-counted-close : (n k p : ℕ) (r : List Tok) (to : Stand) (b : Bool) → eqb n 0 ≡ b → choose b (λ _. refused 9) (λ _. goes (operatorNext (n - 1) k)) ≡ goes to →
-    Counted (operatorNext n k) (closeT p) r to
-unfolding tokenWords openAfter deepest
-counted-close n k p r to true e h = zero-one (cc)
-counted-close n k p r to false e h =
-    let q : operatorNext (n - 1) k ≡ to = cc in
-    subst (λ (x : Stand). Counted (operatorNext n k) (closeT p) r x) q
-    (record { words = refl; brackets = refl; full = λ f. f; within = λ f. omega arith; deep = λ f g. omega arith; above = λ f. (some-open n (eqb-false n 0 e), f) })
-
-counted : (at : Stand) (t : Tok) (r : List Tok) (to : Stand) → pass at t ≡ goes to → Counted at t r to
-unfolding tokenWords openAfter deepest
-counted (operandNext n k) (wordT w p) r to h = counted-word n k p w r to (ltb k 16) refl h
-counted (operandNext n k) (opT o p) r to h = zero-one (cc)
-counted (operandNext n k) (openT p) r to h = counted-open n k p r to (ltb n 8) refl h
-counted (operandNext n k) (closeT p) r to h = zero-one (cc)
-counted (operandNext n k) (otherT p) r to h = zero-one (cc)
-counted (operatorNext n k) (wordT w p) r to h = zero-one (cc)
-counted (operatorNext n k) (opT o p) r to h =
-    let q : operandNext n k ≡ to = cc in
-    subst (λ (x : Stand). Counted (operatorNext n k) (opT o p) r x) q
-    (record { words = refl; brackets = refl; full = λ f. f; within = λ f. f; deep = λ f g. g; above = λ f. f })
-counted (operatorNext n k) (openT p) r to h = zero-one (cc)
-counted (operatorNext n k) (closeT p) r to h = counted-close n k p r to (eqb n 0) refl h
-counted (operatorNext n k) (otherT p) r to h = zero-one (cc)
+counted at t r to (takes-word n k p w l) =
+    record { words = omega arith; brackets = refl; full = λ f. omega arith; within = λ f. f; deep = λ f g. g; above = λ f. f }
+counted at t r to (takes-operator n k p o) = record { words = refl; brackets = refl; full = λ f. f; within = λ f. f; deep = λ f g. g; above = λ f. f }
+counted at t r to (opens n k p l) = record { words = refl; brackets = refl; full = λ f. f; within = λ f. omega arith; deep = λ f g. g; above = λ f. f }
+counted at t r to (closes n k p l) =
+    record { words = refl; brackets = refl; full = λ f. f; within = λ f. omega arith; deep = λ f g. omega arith; above = λ f. (l, f) }
 
 -- what a walk does to them
 pub record Kept (at : Stand) (ts : List Tok) (to : Stand) : Type 0 where
@@ -142,7 +145,7 @@ walk-kept at [] to h =
     (record { words = omega arith; brackets = refl; full = λ f. f; within = λ f. f; deep = λ f. f; above = tt })
 walk-kept at (t ∷ r) to h =
     let m = through at t r to h in
-    let c = counted at t r (m .mid) (m .passes) in
+    let c = counted at t r (m .mid) (does-as (m .passes)) in
     let w = walk-kept (m .mid) r to (m .onward) in
     record {
       words = c .words ∙ w .words;

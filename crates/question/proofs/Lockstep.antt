@@ -1,123 +1,27 @@
 -- Two readings in step: a question by itself and the same in brackets; and a question before and after a part in brackets is exchanged.
 -- The places of the tokens play no part, and stand at 0.
 use Prim.Native.Nat.{ℕ, zero, suc, _+_, _-_}
-use mathlib.Core.Path.{_≡_, refl, sym, ap, _∙_, subst}
+use mathlib.Core.Path.{_≡_, refl, ap, ap₂}
 use mathlib.Core.List.{List, [], _∷_, _++_}
 use mathlib.Core.Bool.{Bool, true, false}
 use lib.Dec.{ltb, eqb}
 use Rattle.question.specs.declared.token.Op.{Op}
 use Rattle.question.specs.Token.{choose, Tok, wordT, opT, openT, closeT, otherT}
 use Rattle.question.specs.Grammar.{Tree, word, part, Link, link, Rule, Out, good, bad, bind, closed, question, operand, links}
-use Rattle.question.specs.Meaning.{fits, Same, SameLinks, none, more, Respects}
+use Rattle.question.specs.Meaning.{satisfies, Same, SameLinks, none, more, Respects}
 
--- ---- a question by itself, and with a closing bracket and more behind it
+-- ---- two readings of tokens that are the same up to a pair of Base
 
-module _ (rule : Rule) (post : List Tok) where
-  abbrev u : List Tok
-  u = closeT 0 ∷ post
+module _ (Base : List Tok → List Tok → Type 0) where
+  data Rests : List Tok → List Tok → Type 0 where
+    ends : {r r′ : List Tok} → Base r r′ → Rests r r′
+    both : (t : Tok) {r r′ : List Tok} → Rests r r′ → Rests (t ∷ r) (t ∷ r′)
 
-  -- where both are read, they read the same, the second up to the bracket
-  abbrev W : {A : Type 0} → Out A → Out A → Type 0
-  W (good e r j) (good e′ r′ j′) = (e ≡ e′) × (r ++ u ≡ r′)
-  W (good e r j) (bad c r′) = Unit {0}
-  W (bad c r) o = Unit {0}
-
-  w-bad : {A : Type 0} (o : Out A) (c : ℕ) (r : List Tok) → W o (bad c r)
-  w-bad (good e s j) c r = tt
-  w-bad (bad d s) c r = tt
-
-  w-bind : {A B : Type 0} (o o′ : Out A) (h h′ : A → List Tok → ℕ → Out B) → W o o′ → ((e : A) (r : List Tok) (j j′ : ℕ) → W (h e r j) (h′ e (r ++ u) j′)) → W (bind o h) (bind o′ h′)
-  w-bind {A} (good e r j) (good e′ r′ j′) h h′ w k =
-      subst (λ (y : List Tok). W (h e r j) (h′ e′ y j′)) (w .1) (subst (λ (y : A). W (h e r j) (h′ y (r ++ u) j′)) (w .0) (k e r j j′))
-  w-bind (good e r j) (bad c r′) h h′ w k = w-bad (h e r j) c r′
-  w-bind (bad c r) (good e′ r′ j′) h h′ w k = tt
-  w-bind (bad c r) (bad c′ r′) h h′ w k = tt
-
-  w-word : (a b : Bool) (w : List ℕ) (r s s′ : List Tok) (k k′ : ℕ) → W (choose a (λ _. good (word w) r k) (λ _. bad 10 s)) (choose b (λ _. good (word w) (r ++ u) k′) (λ _. bad 10 s′))
-  w-word true true w r s s′ k k′ = (refl, refl)
-  w-word true false w r s s′ k k′ = tt
-  w-word false true w r s s′ k k′ = tt
-  w-word false false w r s s′ k k′ = tt
-
-  w-open : (a b : Bool) (o o′ : Out Tree) (r r′ : List Tok) → W o o′ → W (choose a (λ _. bad 11 r) (λ _. o)) (choose b (λ _. bad 11 r′) (λ _. o′))
-  w-open true true o o′ r r′ w = tt
-  w-open true false o o′ r r′ w = tt
-  w-open false true o o′ r r′ w = w-bad o 11 r′
-  w-open false false o o′ r r′ w = w
-
-  w-closed : (e : Tree) (r : List Tok) (j j′ : ℕ) → W (closed e r j) (closed e (r ++ u) j′)
-  w-closed e [] j j′ = tt
-  w-closed e (wordT w p ∷ r) j j′ = tt
-  w-closed e (opT o p ∷ r) j j′ = tt
-  w-closed e (openT p ∷ r) j j′ = tt
-  w-closed e (closeT p ∷ r) j j′ = (refl, refl)
-  w-closed e (otherT p ∷ r) j j′ = tt
-
-  mutual
-    unfolding question operand links
-
-    pub in-question : (f g d D k K : ℕ) (ts : List Tok) → W (question rule f d k ts) (question rule g D K (ts ++ u))
-    in-question zero g d D k K ts = tt
-    in-question (suc f) zero d D k K ts = w-bad (question rule (suc f) d k ts) 0 (ts ++ u)
-    in-question (suc f) (suc g) d D k K ts =
-        w-bind (operand rule f d k ts) (operand rule g D K (ts ++ u)) (λ e r j. bind (links rule f d j r) (λ ls z i. good (rule e ls) z i)) (λ e r j. bind (links rule g D j r) (λ ls z i. good (rule e ls) z i))
-        (in-operand f g d D k K ts)
-        (λ e r j j′. w-bind (links rule f d j r) (links rule g D j′ (r ++ u)) (λ ls z i. good (rule e ls) z i) (λ ls z i. good (rule e ls) z i) (in-links f g d D j j′ r) (λ ls z i i′. (refl, refl)))
-
-    in-operand : (f g d D k K : ℕ) (ts : List Tok) → W (operand rule f d k ts) (operand rule g D K (ts ++ u))
-    in-operand zero g d D k K ts = tt
-    in-operand (suc f) zero d D k K ts = w-bad (operand rule (suc f) d k ts) 0 (ts ++ u)
-    in-operand (suc f) (suc g) d D k K [] = tt
-    in-operand (suc f) (suc g) d D k K (wordT w p ∷ r) = w-word (ltb k 16) (ltb K 16) w r (wordT w p ∷ r) (wordT w p ∷ (r ++ u)) (k + 1) (K + 1)
-    in-operand (suc f) (suc g) d D k K (opT o p ∷ r) = tt
-    in-operand (suc f) (suc g) d D k K (openT p ∷ r) =
-        w-open (eqb d 0) (eqb D 0) (bind (question rule f (d - 1) k r) closed) (bind (question rule g (D - 1) K (r ++ u)) closed) (openT p ∷ r) (openT p ∷ (r ++ u))
-        (w-bind (question rule f (d - 1) k r) (question rule g (D - 1) K (r ++ u)) closed closed (in-question f g (d - 1) (D - 1) k K r) w-closed)
-    in-operand (suc f) (suc g) d D k K (closeT p ∷ r) = tt
-    in-operand (suc f) (suc g) d D k K (otherT p ∷ r) = tt
-
-    in-links : (f g d D k K : ℕ) (ts : List Tok) → W (links rule f d k ts) (links rule g D K (ts ++ u))
-    in-links zero g d D k K ts = tt
-    in-links (suc f) zero d D k K ts = w-bad (links rule (suc f) d k ts) 0 (ts ++ u)
-    in-links (suc f) (suc g) d D k K [] = (refl, refl)
-    in-links (suc f) (suc g) d D k K (wordT w p ∷ r) = (refl, refl)
-    in-links (suc f) (suc g) d D k K (opT o p ∷ r) =
-        w-bind (operand rule f d k r) (operand rule g D K (r ++ u)) (λ e s j. bind (links rule f d j s) (λ ls z i. good (link o e ∷ ls) z i)) (λ e s j. bind (links rule g D j s) (λ ls z i. good (link o e ∷ ls) z i))
-        (in-operand f g d D k K r)
-        (λ e s j j′. w-bind (links rule f d j s) (links rule g D j′ (s ++ u)) (λ ls z i. good (link o e ∷ ls) z i) (λ ls z i. good (link o e ∷ ls) z i) (in-links f g d D j j′ s) (λ ls z i i′. (refl, refl)))
-    in-links (suc f) (suc g) d D k K (openT p ∷ r) = (refl, refl)
-    in-links (suc f) (suc g) d D k K (closeT p ∷ r) = (refl, refl)
-    in-links (suc f) (suc g) d D k K (otherT p ∷ r) = (refl, refl)
-
--- ---- a question, and the same with one part in brackets exchanged
-
-module _ (rule : Rule) (respects : Respects rule) (has : List ℕ → ℕ → Bool) (q q′ post : List Tok) where
-  abbrev X : List Tok
-  X = openT 0 ∷ (q ++ closeT 0 ∷ post)
-
-  abbrev X′ : List Tok
-  X′ = openT 0 ∷ (q′ ++ closeT 0 ∷ post)
-
-  -- what is left is the same, or still has the part before it
-  data Rests (r r′ : List Tok) : Type 0 where
-    same : r ≡ r′ → Rests r r′
-    later : (pre : List Tok) → pre ++ X ≡ r → pre ++ X′ ≡ r′ → Rests r r′
-
-  -- where both are read, they mean the same
+  -- where both are read, what they read is related, and so is what is left
   abbrev R : {A : Type 0} → (A → A → Type 0) → Out A → Out A → Type 0
   R S (good e r j) (good e′ r′ j′) = S e e′ × Rests r r′
   R S (good e r j) (bad c r′) = Unit {0}
   R S (bad c r) o = Unit {0}
-
-  abbrev T : Out Tree → Out Tree → Type 0
-  T o o′ = R (Same has) o o′
-
-  abbrev L : Out (List Link) → Out (List Link) → Type 0
-  L o o′ = R (SameLinks has) o o′
-
-  same-part : (a b : Tree) → Same has a b → Same has (part a) (part b)
-  unfolding fits
-  same-part a b p x = p x
 
   r-bad : {A : Type 0} (S : A → A → Type 0) (o : Out A) (c : ℕ) (r : List Tok) → R S o (bad c r)
   r-bad S (good e s j) c r = tt
@@ -130,143 +34,169 @@ module _ (rule : Rule) (respects : Respects rule) (has : List ℕ → ℕ → Bo
   r-bind S S′ (bad c r) (good e′ r′ j′) h h′ w k = tt
   r-bind S S′ (bad c r) (bad c′ r′) h h′ w k = tt
 
-  r-word : (a b : Bool) (w : List ℕ) (r r′ s s′ : List Tok) (k k′ : ℕ) → Rests r r′ → T (choose a (λ _. good (word w) r k) (λ _. bad 10 s)) (choose b (λ _. good (word w) r′ k′) (λ _. bad 10 s′))
-  r-word true true w r r′ s s′ k k′ p = (λ x. refl, p)
+  r-open : (S : Tree → Tree → Type 0) (a b : Bool) (o o′ : Out Tree) (r r′ : List Tok) → R S o o′ → R S (choose a (λ _. bad 11 r) (λ _. o)) (choose b (λ _. bad 11 r′) (λ _. o′))
+  r-open S true true o o′ r r′ w = tt
+  r-open S true false o o′ r r′ w = tt
+  r-open S false true o o′ r r′ w = r-bad S o 11 r′
+  r-open S false false o o′ r r′ w = w
+
+-- what is made of related trees and links is related
+record Keeps (rule : Rule) (S : Tree → Tree → Type 0) (L : List Link → List Link → Type 0) : Type 0 where
+  words : (w : List ℕ) → S (word w) (word w)
+  parts : (a b : Tree) → S a b → S (part a) (part b)
+  levels : (a b : Tree) (ls ms : List Link) → S a b → L ls ms → S (rule a ls) (rule b ms)
+  no-links : L [] []
+  more-links : (o : Op) (a b : Tree) (ls ms : List Link) → S a b → L ls ms → L (link o a ∷ ls) (link o b ∷ ms)
+
+-- how two readings of a pair of Base go
+record Begins (rule : Rule) (S : Tree → Tree → Type 0) (L : List Link → List Link → Type 0) (Base : List Tok → List Tok → Type 0) (r r′ : List Tok) : Type 0 where
+  operands : (f g d D k K : ℕ) → R Base S (operand rule (suc f) d k r) (operand rule (suc g) D K r′)
+  levels : (f g d D k K : ℕ) → R Base L (links rule (suc f) d k r) (links rule (suc g) D K r′)
+  closing : (e e′ : Tree) (j j′ : ℕ) → R Base S (closed e r j) (closed e′ r′ j′)
+
+module _ (rule : Rule) (S : Tree → Tree → Type 0) (L : List Link → List Link → Type 0) (keeps : Keeps rule S L) (Base : List Tok → List Tok → Type 0)
+    (begins : (r r′ : List Tok) → Base r r′ → Begins rule S L Base r r′) where
+  r-word : (a b : Bool) (w : List ℕ) (r r′ s s′ : List Tok) (k k′ : ℕ) → Rests Base r r′ →
+      R Base S (choose a (λ _. good (word w) r k) (λ _. bad 10 s)) (choose b (λ _. good (word w) r′ k′) (λ _. bad 10 s′))
+  r-word true true w r r′ s s′ k k′ p = (keeps .words w, p)
   r-word true false w r r′ s s′ k k′ p = tt
   r-word false true w r r′ s s′ k k′ p = tt
   r-word false false w r r′ s s′ k k′ p = tt
 
-  r-open : (a b : Bool) (o o′ : Out Tree) (r r′ : List Tok) → T o o′ → T (choose a (λ _. bad 11 r) (λ _. o)) (choose b (λ _. bad 11 r′) (λ _. o′))
-  r-open true true o o′ r r′ w = tt
-  r-open true false o o′ r r′ w = tt
-  r-open false true o o′ r r′ w = r-bad (Same has) o 11 r′
-  r-open false false o o′ r r′ w = w
+  r-closed : (e : Tree) (r : List Tok) (j : ℕ) (e′ : Tree) (r′ : List Tok) (j′ : ℕ) → S e e′ → Rests Base r r′ → R Base S (closed e r j) (closed e′ r′ j′)
+  r-closed e r j e′ r′ j′ p (ends h) = begins r r′ h .closing e e′ j j′
+  r-closed e (_ ∷ r) j e′ (_ ∷ r′) j′ p (both (wordT w pl) h) = tt
+  r-closed e (_ ∷ r) j e′ (_ ∷ r′) j′ p (both (opT o pl) h) = tt
+  r-closed e (_ ∷ r) j e′ (_ ∷ r′) j′ p (both (openT pl) h) = tt
+  r-closed e (_ ∷ r) j e′ (_ ∷ r′) j′ p (both (closeT pl) h) = (keeps .parts e e′ p, h)
+  r-closed e (_ ∷ r) j e′ (_ ∷ r′) j′ p (both (otherT pl) h) = tt
 
-  closed-same : (e e′ : Tree) (r : List Tok) (j j′ : ℕ) → Same has e e′ → T (closed e r j) (closed e′ r j′)
-  closed-same e e′ [] j j′ p = tt
-  closed-same e e′ (wordT w pl ∷ r) j j′ p = tt
-  closed-same e e′ (opT o pl ∷ r) j j′ p = tt
-  closed-same e e′ (openT pl ∷ r) j j′ p = tt
-  closed-same e e′ (closeT pl ∷ r) j j′ p = (same-part e e′ p, same refl)
-  closed-same e e′ (otherT pl ∷ r) j j′ p = tt
+  -- an operand in step, and then the links behind it
+  behind : {C : Type 0} (T : C → C → Type 0) (put : Tree → List Link → C) (f g d D : ℕ) (o o′ : Out Tree) →
+      ((a b : Tree) (ls ms : List Link) → S a b → L ls ms → T (put a ls) (put b ms)) → R Base S o o′ →
+      ((j j′ : ℕ) (r r′ : List Tok) → Rests Base r r′ → R Base L (links rule f d j r) (links rule g D j′ r′)) →
+      R Base T (bind o (λ e r j. bind (links rule f d j r) (λ ls z i. good (put e ls) z i))) (bind o′ (λ e r j. bind (links rule g D j r) (λ ls z i. good (put e ls) z i)))
+  behind T put f g d D o o′ kept w h =
+      r-bind Base S T o o′ (λ e r j. bind (links rule f d j r) (λ ls z i. good (put e ls) z i)) (λ e r j. bind (links rule g D j r) (λ ls z i. good (put e ls) z i)) w
+      (λ e r j e′ r′ j′ p t. r-bind Base L T (links rule f d j r) (links rule g D j′ r′) (λ ls z i. good (put e ls) z i) (λ ls z i. good (put e′ ls) z i) (h j j′ r r′ t)
+      (λ ls z i ls′ z′ i′ q v. (kept e e′ ls ls′ p q, v)))
 
-  closed-later : (e e′ : Tree) (pre : List Tok) (j j′ : ℕ) → Same has e e′ → T (closed e (pre ++ X) j) (closed e′ (pre ++ X′) j′)
-  closed-later e e′ [] j j′ p = tt
-  closed-later e e′ (wordT w pl ∷ r) j j′ p = tt
-  closed-later e e′ (opT o pl ∷ r) j j′ p = tt
-  closed-later e e′ (openT pl ∷ r) j j′ p = tt
-  closed-later e e′ (closeT pl ∷ r) j j′ p = (same-part e e′ p, later r refl refl)
-  closed-later e e′ (otherT pl ∷ r) j j′ p = tt
+  mutual
+    unfolding question operand links
 
-  r-closed : (e : Tree) (r : List Tok) (j : ℕ) (e′ : Tree) (r′ : List Tok) (j′ : ℕ) → Same has e e′ → Rests r r′ → T (closed e r j) (closed e′ r′ j′)
-  r-closed e r j e′ r′ j′ p (same h) = subst (λ (y : List Tok). T (closed e r j) (closed e′ y j′)) h (closed-same e e′ r j j′ p)
-  r-closed e r j e′ r′ j′ p (later pre h h′) =
-      subst (λ (y : List Tok). T (closed e r j) (closed e′ y j′)) h′ (subst (λ (y : List Tok). T (closed e y j) (closed e′ (pre ++ X′) j′)) h (closed-later e e′ pre j j′ p))
+    in-step : (f g d D k K : ℕ) (r r′ : List Tok) → Rests Base r r′ → R Base S (question rule f d k r) (question rule g D K r′)
+    in-step zero g d D k K r r′ h = tt
+    in-step (suc f) zero d D k K r r′ h = r-bad Base S (question rule (suc f) d k r) 0 r′
+    in-step (suc f) (suc g) d D k K r r′ h =
+        behind S rule f g d D (operand rule f d k r) (operand rule g D K r′) (keeps .levels) (o-step f g d D k K r r′ h) (λ j j′ z z′ t. l-step f g d D j j′ z z′ t)
+
+    o-step : (f g d D k K : ℕ) (r r′ : List Tok) → Rests Base r r′ → R Base S (operand rule f d k r) (operand rule g D K r′)
+    o-step zero g d D k K r r′ h = tt
+    o-step (suc f) zero d D k K r r′ h = r-bad Base S (operand rule (suc f) d k r) 0 r′
+    o-step (suc f) (suc g) d D k K r r′ (ends h) = begins r r′ h .operands f g d D k K
+    o-step (suc f) (suc g) d D k K (_ ∷ r) (_ ∷ r′) (both (wordT w p) h) = r-word (ltb k 16) (ltb K 16) w r r′ (wordT w p ∷ r) (wordT w p ∷ r′) (k + 1) (K + 1) h
+    o-step (suc f) (suc g) d D k K (_ ∷ r) (_ ∷ r′) (both (opT o p) h) = tt
+    o-step (suc f) (suc g) d D k K (_ ∷ r) (_ ∷ r′) (both (openT p) h) =
+        r-open Base S (eqb d 0) (eqb D 0) (bind (question rule f (d - 1) k r) closed) (bind (question rule g (D - 1) K r′) closed) (openT p ∷ r) (openT p ∷ r′)
+        (r-bind Base S S (question rule f (d - 1) k r) (question rule g (D - 1) K r′) closed closed (in-step f g (d - 1) (D - 1) k K r r′ h) r-closed)
+    o-step (suc f) (suc g) d D k K (_ ∷ r) (_ ∷ r′) (both (closeT p) h) = tt
+    o-step (suc f) (suc g) d D k K (_ ∷ r) (_ ∷ r′) (both (otherT p) h) = tt
+
+    l-step : (f g d D k K : ℕ) (r r′ : List Tok) → Rests Base r r′ → R Base L (links rule f d k r) (links rule g D K r′)
+    l-step zero g d D k K r r′ h = tt
+    l-step (suc f) zero d D k K r r′ h = r-bad Base L (links rule (suc f) d k r) 0 r′
+    l-step (suc f) (suc g) d D k K r r′ (ends h) = begins r r′ h .levels f g d D k K
+    l-step (suc f) (suc g) d D k K (_ ∷ r) (_ ∷ r′) (both (wordT w p) h) = (keeps .no-links, both (wordT w p) h)
+    l-step (suc f) (suc g) d D k K (_ ∷ r) (_ ∷ r′) (both (opT o p) h) =
+        behind L (λ e ls. link o e ∷ ls) f g d D (operand rule f d k r) (operand rule g D K r′) (keeps .more-links o) (o-step f g d D k K r r′ h) (λ j j′ z z′ t. l-step f g d D j j′ z z′ t)
+    l-step (suc f) (suc g) d D k K (_ ∷ r) (_ ∷ r′) (both (openT p) h) = (keeps .no-links, both (openT p) h)
+    l-step (suc f) (suc g) d D k K (_ ∷ r) (_ ∷ r′) (both (closeT p) h) = (keeps .no-links, both (closeT p) h)
+    l-step (suc f) (suc g) d D k K (_ ∷ r) (_ ∷ r′) (both (otherT p) h) = (keeps .no-links, both (otherT p) h)
+
+-- the same tokens before a pair of Base
+front : (Base : List Tok → List Tok → Type 0) (pre r r′ : List Tok) → Base r r′ → Rests Base (pre ++ r) (pre ++ r′)
+front Base [] r r′ h = ends h
+front Base (t ∷ pre) r r′ h = both t (front Base pre r r′ h)
+
+-- ---- a question by itself, and with a closing bracket and more behind it: they read the same, the second up to the bracket
+
+module _ (rule : Rule) (post : List Tok) where
+  data Bracket : List Tok → List Tok → Type 0 where
+    closes : Bracket [] (closeT 0 ∷ post)
+
+  bracket-begins : (r r′ : List Tok) → Bracket r r′ → Begins rule (λ a b. a ≡ b) (λ a b. a ≡ b) Bracket r r′
+  unfolding operand links
+  bracket-begins r r′ closes = record { operands = λ f g d D k K. tt; levels = λ f g d D k K. (refl, ends closes); closing = λ e e′ j j′. tt }
+
+  same-keeps : Keeps rule (λ a b. a ≡ b) (λ a b. a ≡ b)
+  same-keeps = record {
+    words = λ w. refl;
+    parts = λ a b p. ap part p;
+    levels = λ a b ls ms p q. ap₂ rule p q;
+    no-links = refl;
+    more-links = λ o a b ls ms p q. ap₂ (λ (x : Tree) (xs : List Link). link o x ∷ xs) p q;
+  }
+
+  -- it reads to a, and so does the second, with the bracket left
+  in-brackets : (f g d D k K : ℕ) (ts : List Tok) (a : Tree) (j : ℕ) → question rule f d k ts ≡ good a [] j →
+      R Bracket (λ a b. a ≡ b) (good a [] j) (question rule g D K (ts ++ closeT 0 ∷ post))
+  in-brackets f g d D k K ts a j h =
+      rw h at (in-step rule (λ a b. a ≡ b) (λ a b. a ≡ b) same-keeps Bracket bracket-begins f g d D k K ts (ts ++ closeT 0 ∷ post) (before ts))
+    where
+      before : (ts : List Tok) → Rests Bracket ts (ts ++ closeT 0 ∷ post)
+      before [] = ends closes
+      before (t ∷ ts) = both t (before ts)
+
+  bracket-left : (r : List Tok) → Rests Bracket [] r → closeT 0 ∷ post ≡ r
+  bracket-left r (ends closes) = refl
+
+-- ---- a question, and the same with one part in brackets exchanged: where both are read, they mean the same
+
+module _ (rule : Rule) (respects : Respects rule) (has : List ℕ → ℕ → Bool) (q q′ post : List Tok) where
+  data Parts : List Tok → List Tok → Type 0 where
+    over : Parts [] []
+    exchanged : Parts (openT 0 ∷ (q ++ closeT 0 ∷ post)) (openT 0 ∷ (q′ ++ closeT 0 ∷ post))
+
+  same-part : (a b : Tree) → Same has a b → Same has (part a) (part b)
+  unfolding satisfies
+  same-part a b p x = p x
+
+  means-keeps : Keeps rule (Same has) (SameLinks has)
+  means-keeps = record {
+    words = λ w x. refl;
+    parts = same-part;
+    levels = λ a b ls ms p q. respects has a b ls ms p q;
+    no-links = none;
+    more-links = λ o a b ls ms p q. more o a b ls ms p q;
+  }
+
+  all-same : (r : List Tok) → Rests Parts r r
+  all-same [] = ends over
+  all-same (t ∷ r) = both t (all-same r)
 
   -- the part itself, which by itself reads to a, and the other to b
   module _ (a b : Tree) (ab : Same has a b) (F F′ j₀ j₀′ : ℕ) (ha : question rule F 8 0 q ≡ good a [] j₀) (hb : question rule F′ 8 0 q′ ≡ good b [] j₀′) where
-    at-part : (o o′ : Out Tree) → W rule post (good a [] j₀) o → W rule post (good b [] j₀′) o′ → T (bind o closed) (bind o′ closed)
+    at-part : (o o′ : Out Tree) → R (Bracket rule post) (λ a b. a ≡ b) (good a [] j₀) o → R (Bracket rule post) (λ a b. a ≡ b) (good b [] j₀′) o′ → R Parts (Same has) (bind o closed) (bind o′ closed)
     at-part (good e r j) (good e′ r′ j′) w w′ =
-        subst (λ (y : List Tok). T (closed e y j) (closed e′ r′ j′)) (w .1) (subst (λ (y : List Tok). T (closed e (closeT 0 ∷ post) j) (closed e′ y j′)) (w′ .1)
-        (same-part e e′ (λ x. ap (λ (y : Tree). fits has y x) (sym (w .0)) ∙ ab x ∙ ap (λ (y : Tree). fits has y x) (w′ .0)), same refl))
-    at-part (good e r j) (bad c r′) w w′ = r-bad (Same has) (closed e r j) c r′
+        rw (← bracket-left rule post r (w .1), ← bracket-left rule post r′ (w′ .1), ← w .0, ← w′ .0) (same-part a b ab, all-same post)
+    at-part (good e r j) (bad c r′) w w′ = r-bad Parts (Same has) (closed e r j) c r′
     at-part (bad c r) (good e′ r′ j′) w w′ = tt
     at-part (bad c r) (bad c′ r′) w w′ = tt
 
-    inner : (f d k : ℕ) → W rule post (good a [] j₀) (question rule f d k (q ++ closeT 0 ∷ post))
-    inner f d k = subst (λ (o : Out Tree). W rule post o (question rule f d k (q ++ closeT 0 ∷ post))) ha (in-question rule post F f 8 d 0 k q)
+    part-begins : (r r′ : List Tok) → Parts r r′ → Begins rule (Same has) (SameLinks has) Parts r r′
+    unfolding operand links
+    part-begins r r′ over = record { operands = λ f g d D k K. tt; levels = λ f g d D k K. (none, ends over); closing = λ e e′ j j′. tt }
+    part-begins r r′ exchanged = record {
+      operands = λ f g d D k K.
+          r-open Parts (Same has) (eqb d 0) (eqb D 0) (bind (question rule f (d - 1) k (q ++ closeT 0 ∷ post)) closed) (bind (question rule g (D - 1) K (q′ ++ closeT 0 ∷ post)) closed)
+          (openT 0 ∷ (q ++ closeT 0 ∷ post)) (openT 0 ∷ (q′ ++ closeT 0 ∷ post))
+          (at-part (question rule f (d - 1) k (q ++ closeT 0 ∷ post)) (question rule g (D - 1) K (q′ ++ closeT 0 ∷ post))
+          (in-brackets rule post F f 8 (d - 1) 0 k q a j₀ ha) (in-brackets rule post F′ g 8 (D - 1) 0 K q′ b j₀′ hb));
+      levels = λ f g d D k K. (none, ends exchanged);
+      closing = λ e e′ j j′. tt;
+    }
 
-    inner′ : (f d k : ℕ) → W rule post (good b [] j₀′) (question rule f d k (q′ ++ closeT 0 ∷ post))
-    inner′ f d k = subst (λ (o : Out Tree). W rule post o (question rule f d k (q′ ++ closeT 0 ∷ post))) hb (in-question rule post F′ f 8 d 0 k q′)
-
-    -- the links of a level, where what the operand behind an operator reads is in step
-    abbrev linked : ℕ → ℕ → ℕ → Op → List Tok → Out (List Link)
-    linked f d k o s = bind (operand rule f d k s) (λ e z j. bind (links rule f d j z) (λ ls y i. good (link o e ∷ ls) y i))
-
-    links-same : (f g d D k K : ℕ) (r : List Tok) → ((o : Op) (s : List Tok) → L (linked f d k o s) (linked g D K o s)) → L (links rule (suc f) d k r) (links rule (suc g) D K r)
-    unfolding links
-    links-same f g d D k K [] h = (none, same refl)
-    links-same f g d D k K (wordT w pl ∷ r) h = (none, same refl)
-    links-same f g d D k K (opT o pl ∷ r) h = h o r
-    links-same f g d D k K (openT pl ∷ r) h = (none, same refl)
-    links-same f g d D k K (closeT pl ∷ r) h = (none, same refl)
-    links-same f g d D k K (otherT pl ∷ r) h = (none, same refl)
-
-    links-later : (f g d D k K : ℕ) (pre : List Tok) → ((o : Op) (s : List Tok) → L (linked f d k o (s ++ X)) (linked g D K o (s ++ X′))) → L (links rule (suc f) d k (pre ++ X)) (links rule (suc g) D K (pre ++ X′))
-    unfolding links
-    links-later f g d D k K [] h = (none, later [] refl refl)
-    links-later f g d D k K (wordT w pl ∷ r) h = (none, later (wordT w pl ∷ r) refl refl)
-    links-later f g d D k K (opT o pl ∷ r) h = h o r
-    links-later f g d D k K (openT pl ∷ r) h = (none, later (openT pl ∷ r) refl refl)
-    links-later f g d D k K (closeT pl ∷ r) h = (none, later (closeT pl ∷ r) refl refl)
-    links-later f g d D k K (otherT pl ∷ r) h = (none, later (otherT pl ∷ r) refl refl)
-
-    -- an operand in step, and then the links behind it
-    level : (f g d D k K : ℕ) (o o′ : Out Tree) → T o o′ → ((j j′ : ℕ) (r r′ : List Tok) → Rests r r′ → L (links rule f d j r) (links rule g D j′ r′)) →
-        T (bind o (λ e r j. bind (links rule f d j r) (λ ls z i. good (rule e ls) z i))) (bind o′ (λ e r j. bind (links rule g D j r) (λ ls z i. good (rule e ls) z i)))
-    level f g d D k K o o′ w h =
-        r-bind (Same has) (Same has) o o′ (λ e r j. bind (links rule f d j r) (λ ls z i. good (rule e ls) z i)) (λ e r j. bind (links rule g D j r) (λ ls z i. good (rule e ls) z i)) w
-        (λ e r j e′ r′ j′ p t. r-bind (SameLinks has) (Same has) (links rule f d j r) (links rule g D j′ r′) (λ ls z i. good (rule e ls) z i) (λ ls z i. good (rule e′ ls) z i) (h j j′ r r′ t)
-        (λ ls z i ls′ z′ i′ pl tz. (respects has e e′ ls ls′ p pl, tz)))
-
-    behind : (f g d D : ℕ) (l : Op) (o o′ : Out Tree) → T o o′ → ((j j′ : ℕ) (r r′ : List Tok) → Rests r r′ → L (links rule f d j r) (links rule g D j′ r′)) →
-        L (bind o (λ e r j. bind (links rule f d j r) (λ ls z i. good (link l e ∷ ls) z i))) (bind o′ (λ e r j. bind (links rule g D j r) (λ ls z i. good (link l e ∷ ls) z i)))
-    behind f g d D l o o′ w h =
-        r-bind (Same has) (SameLinks has) o o′ (λ e r j. bind (links rule f d j r) (λ ls z i. good (link l e ∷ ls) z i)) (λ e r j. bind (links rule g D j r) (λ ls z i. good (link l e ∷ ls) z i)) w
-        (λ e r j e′ r′ j′ p t. r-bind (SameLinks has) (SameLinks has) (links rule f d j r) (links rule g D j′ r′) (λ ls z i. good (link l e ∷ ls) z i) (λ ls z i. good (link l e′ ∷ ls) z i) (h j j′ r r′ t)
-        (λ ls z i ls′ z′ i′ pl tz. (more l e e′ ls ls′ p pl, tz)))
-
-    mutual
-      unfolding question operand links
-
-      q-same : (f g d D k K : ℕ) (ts : List Tok) → T (question rule f d k ts) (question rule g D K ts)
-      q-same zero g d D k K ts = tt
-      q-same (suc f) zero d D k K ts = r-bad (Same has) (question rule (suc f) d k ts) 0 ts
-      q-same (suc f) (suc g) d D k K ts = level f g d D k K (operand rule f d k ts) (operand rule g D K ts) (o-same f g d D k K ts) (λ j j′ r r′ t. l-both f g d D j j′ r r′ t)
-
-      q-later : (f g d D k K : ℕ) (pre : List Tok) → T (question rule f d k (pre ++ X)) (question rule g D K (pre ++ X′))
-      q-later zero g d D k K pre = tt
-      q-later (suc f) zero d D k K pre = r-bad (Same has) (question rule (suc f) d k (pre ++ X)) 0 (pre ++ X′)
-      q-later (suc f) (suc g) d D k K pre = level f g d D k K (operand rule f d k (pre ++ X)) (operand rule g D K (pre ++ X′)) (o-later f g d D k K pre) (λ j j′ r r′ t. l-both f g d D j j′ r r′ t)
-
-      o-same : (f g d D k K : ℕ) (ts : List Tok) → T (operand rule f d k ts) (operand rule g D K ts)
-      o-same zero g d D k K ts = tt
-      o-same (suc f) zero d D k K ts = r-bad (Same has) (operand rule (suc f) d k ts) 0 ts
-      o-same (suc f) (suc g) d D k K [] = tt
-      o-same (suc f) (suc g) d D k K (wordT w pl ∷ r) = r-word (ltb k 16) (ltb K 16) w r r (wordT w pl ∷ r) (wordT w pl ∷ r) (k + 1) (K + 1) (same refl)
-      o-same (suc f) (suc g) d D k K (opT o pl ∷ r) = tt
-      o-same (suc f) (suc g) d D k K (openT pl ∷ r) =
-          r-open (eqb d 0) (eqb D 0) (bind (question rule f (d - 1) k r) closed) (bind (question rule g (D - 1) K r) closed) (openT pl ∷ r) (openT pl ∷ r)
-          (r-bind (Same has) (Same has) (question rule f (d - 1) k r) (question rule g (D - 1) K r) closed closed (q-same f g (d - 1) (D - 1) k K r) r-closed)
-      o-same (suc f) (suc g) d D k K (closeT pl ∷ r) = tt
-      o-same (suc f) (suc g) d D k K (otherT pl ∷ r) = tt
-
-      o-later : (f g d D k K : ℕ) (pre : List Tok) → T (operand rule f d k (pre ++ X)) (operand rule g D K (pre ++ X′))
-      o-later zero g d D k K pre = tt
-      o-later (suc f) zero d D k K pre = r-bad (Same has) (operand rule (suc f) d k (pre ++ X)) 0 (pre ++ X′)
-      o-later (suc f) (suc g) d D k K [] =
-          r-open (eqb d 0) (eqb D 0) (bind (question rule f (d - 1) k (q ++ closeT 0 ∷ post)) closed) (bind (question rule g (D - 1) K (q′ ++ closeT 0 ∷ post)) closed) X X′
-          (at-part (question rule f (d - 1) k (q ++ closeT 0 ∷ post)) (question rule g (D - 1) K (q′ ++ closeT 0 ∷ post)) (inner f (d - 1) k) (inner′ g (D - 1) K))
-      o-later (suc f) (suc g) d D k K (wordT w pl ∷ r) = r-word (ltb k 16) (ltb K 16) w (r ++ X) (r ++ X′) (wordT w pl ∷ (r ++ X)) (wordT w pl ∷ (r ++ X′)) (k + 1) (K + 1) (later r refl refl)
-      o-later (suc f) (suc g) d D k K (opT o pl ∷ r) = tt
-      o-later (suc f) (suc g) d D k K (openT pl ∷ r) =
-          r-open (eqb d 0) (eqb D 0) (bind (question rule f (d - 1) k (r ++ X)) closed) (bind (question rule g (D - 1) K (r ++ X′)) closed) (openT pl ∷ (r ++ X)) (openT pl ∷ (r ++ X′))
-          (r-bind (Same has) (Same has) (question rule f (d - 1) k (r ++ X)) (question rule g (D - 1) K (r ++ X′)) closed closed (q-later f g (d - 1) (D - 1) k K r) r-closed)
-      o-later (suc f) (suc g) d D k K (closeT pl ∷ r) = tt
-      o-later (suc f) (suc g) d D k K (otherT pl ∷ r) = tt
-
-      l-both : (f g d D k K : ℕ) (r r′ : List Tok) → Rests r r′ → L (links rule f d k r) (links rule g D K r′)
-      l-both zero g d D k K r r′ h = tt
-      l-both (suc f) zero d D k K r r′ h = r-bad (SameLinks has) (links rule (suc f) d k r) 0 r′
-      l-both (suc f) (suc g) d D k K r r′ (same h) =
-          subst (λ (y : List Tok). L (links rule (suc f) d k r) (links rule (suc g) D K y)) h
-          (links-same f g d D k K r (λ o s. behind f g d D o (operand rule f d k s) (operand rule g D K s) (o-same f g d D k K s) (λ j j′ z z′ t. l-both f g d D j j′ z z′ t)))
-      l-both (suc f) (suc g) d D k K r r′ (later pre h h′) =
-          subst (λ (y : List Tok). L (links rule (suc f) d k r) (links rule (suc g) D K y)) h′
-          (subst (λ (y : List Tok). L (links rule (suc f) d k y) (links rule (suc g) D K (pre ++ X′))) h
-          (links-later f g d D k K pre (λ o s. behind f g d D o (operand rule f d k (s ++ X)) (operand rule g D K (s ++ X′)) (o-later f g d D k K s) (λ j j′ z z′ t. l-both f g d D j j′ z z′ t))))
-
-    -- both are read: they mean the same
-    pub step-means : (f g i i′ : ℕ) (pre : List Tok) (t t′ : Tree) (r : List Tok) → question rule f 8 0 (pre ++ X) ≡ good t [] i → question rule g 8 0 (pre ++ X′) ≡ good t′ r i′ → Same has t t′
+    pub step-means : (f g i i′ : ℕ) (pre : List Tok) (t t′ : Tree) (r : List Tok) → question rule f 8 0 (pre ++ openT 0 ∷ (q ++ closeT 0 ∷ post)) ≡ good t [] i →
+        question rule g 8 0 (pre ++ openT 0 ∷ (q′ ++ closeT 0 ∷ post)) ≡ good t′ r i′ → Same has t t′
     step-means f g i i′ pre t t′ r h h′ =
-        subst (λ (o : Out Tree). T (good t [] i) o) h′ (subst (λ (o : Out Tree). T o (question rule g 8 0 (pre ++ X′))) h (q-later f g 8 8 0 0 pre)) .0
+        rw (h, h′) at (in-step rule (Same has) (SameLinks has) means-keeps Parts part-begins f g 8 8 0 0 _ _ (front Parts pre _ _ exchanged)) .0

@@ -19,13 +19,13 @@ use Rattle.refusal.specs.Refusal.{numberOf, valueOf}
 use Rattle.refusal.specs.declared.Found.{Found}
 use Rattle.refusal.specs.declared.Found.the-variants.{At, Nowhere}
 use Rattle.refusal.specs.declared.Refusal.{Refusal}
-use Rattle.refusal.specs.declared.Refusal.the-variants.{QuestionLength, QuestionByte, LongWord, Grammar, WordLimit, BracketLimit}
-use Rattle.question.specs.declared.reader.Reading.{Reading}
-use Rattle.question.specs.declared.reader.Reading.the-variants.{Accepted, Refused}
-use Rattle.question.specs.Token.{choose, Tok, tokensAt, tokens}
+use Rattle.refusal.specs.declared.Refusal.the-variants.{QuestionLength, QuestionByte, QuestionWord, Grammar, Words, Brackets}
+use Rattle.question.specs.declared.reader.Verdict.{Verdict}
+use Rattle.question.specs.declared.reader.Verdict.the-variants.{Accepted, Refused}
+use Rattle.question.specs.Token.{choose, Tok, tokens}
 use Rattle.question.specs.Grammar.{Tree, Rule, fromLeft, Out, good, bad, bind, question, ended, whole}
 use Rattle.question.specs.Limits.{WithinLimits}
-use Rattle.question.specs.Reading.{Parsed, parses, refuses, foreignAt, longAt, tokenPlace, refusalOf, outcome, unless, parsed, answer, readingOf}
+use Rattle.question.specs.Reading.{Parsed, parses, refuses, foreignAt, longAt, tokenPlace, refusalOf, outcome, unless, parsed, answer, verdictOf}
 use Rattle.question.specs.Walk.{operatorNext, Walked, reached, stopped, walk, walkAll, fresh, verdict}
 use Rattle.question.specs.Stops.{StopNumber, Misplaced, WordTooMany, BracketTooMany, Faultless, StopsAt, Exactly}
 use Rattle.question.specs.Exchange.{AcceptedBy}
@@ -43,10 +43,10 @@ data Call (s : List ℕ) (o a : Parsed) : Type 0 where
 
 module _ (s : List ℕ) (o : Parsed) where
   call-step : (b : Bool) (f g : Found) → ltb 256 (length s) ≡ b → first (foreignAt s) (length s) ≡ f → first (longAt s) (length s) ≡ g →
-      Call s o (choose b (λ _. refuses (QuestionLength (length s))) (λ _. unless f QuestionByte (λ _. unless g LongWord (λ _. o))))
+      Call s o (choose b (λ _. refuses (QuestionLength (length s))) (λ _. unless f QuestionByte (λ _. unless g QuestionWord (λ _. o))))
   call-step true f g eb ef eg = early (QuestionLength (length s)) (omega arith) refl
   call-step false (At i) g eb ef eg = early (QuestionByte i) (omega arith) refl
-  call-step false Nowhere (At i) eb ef eg = early (LongWord i) (omega arith) refl
+  call-step false Nowhere (At i) eb ef eg = early (QuestionWord i) (omega arith) refl
   call-step false Nowhere Nowhere eb ef eg = late (record { bytes = ltb-false 256 (length s) eb; proper = ef; short = eg }) refl
 
 module _ (rule : Rule) (s : List ℕ) where
@@ -82,11 +82,6 @@ module _ (rule : Rule) (s : List ℕ) (t : Tree) (n : ℕ) where
   pub accepts-asked : Accepts rule s t n → parsed rule s ≡ parses t n
   unfolding whole
   accepts-asked a = faultless-asked rule s (a .faultless) ∙ rw (a .reads)
-
-  -- the level that whoever walks the question starts from
-  pub accepts-level : parsed rule s ≡ parses t n → question rule (2 * length s + 2) 8 0 (tokensAt s 0) ≡ good t [] n
-  unfolding tokens
-  accepts-level h = asked-accepts h .reads
 
   -- the walk takes all its words, and closes all its brackets
   pub accepted-walk : parsed rule s ≡ parses t n → walk fresh (tokens s) ≡ reached (operatorNext 0 n)
@@ -158,18 +153,18 @@ module _ (rule : Rule) (s : List ℕ) (p : ℕ) where
   unfolding refusalOf
   grammar-asked = exactly-asked rule s (Grammar p) Misplaced (omega arith) refl (λ r. (λ h. h, λ h. h))
 
-  pub word-limit-asked : Exactly (parsed rule s ≡ refuses (WordLimit p)) (StopsAt WordTooMany s p)
+  pub word-limit-asked : Exactly (parsed rule s ≡ refuses (Words p)) (StopsAt WordTooMany s p)
   unfolding refusalOf
-  word-limit-asked = exactly-asked rule s (WordLimit p) WordTooMany (omega arith) refl (word-limit-walk (tokens s))
+  word-limit-asked = exactly-asked rule s (Words p) WordTooMany (omega arith) refl (word-limit-walk (tokens s))
 
-  pub bracket-limit-asked : Exactly (parsed rule s ≡ refuses (BracketLimit p)) (StopsAt BracketTooMany s p)
+  pub bracket-limit-asked : Exactly (parsed rule s ≡ refuses (Brackets p)) (StopsAt BracketTooMany s p)
   unfolding refusalOf
-  bracket-limit-asked = exactly-asked rule s (BracketLimit p) BracketTooMany (omega arith) refl (bracket-limit-walk (tokens s))
+  bracket-limit-asked = exactly-asked rule s (Brackets p) BracketTooMany (omega arith) refl (bracket-limit-walk (tokens s))
 
 -- ---- two rules accept and refuse alike
 
 -- what is answered, by the walk
-abbrev said : ℕ → Walked ℕ → Reading
+abbrev said : ℕ → Walked ℕ → Verdict
 said len (reached k) = Accepted k
 said len (stopped c r) = Refused (refusalOf c (tokenPlace len r))
 
@@ -185,8 +180,8 @@ unfolding parsed
 answer-any-rule rule rule′ s = go (ltb 256 (length s)) (first (foreignAt s) (length s)) (first (longAt s) (length s))
   where
     go : (b : Bool) (f g : Found) →
-        answer (choose b (λ _. refuses (QuestionLength (length s))) (λ _. unless f QuestionByte (λ _. unless g LongWord (λ _. outcome (length s) (whole rule s))))) ≡
-        answer (choose b (λ _. refuses (QuestionLength (length s))) (λ _. unless f QuestionByte (λ _. unless g LongWord (λ _. outcome (length s) (whole rule′ s)))))
+        answer (choose b (λ _. refuses (QuestionLength (length s))) (λ _. unless f QuestionByte (λ _. unless g QuestionWord (λ _. outcome (length s) (whole rule s))))) ≡
+        answer (choose b (λ _. refuses (QuestionLength (length s))) (λ _. unless f QuestionByte (λ _. unless g QuestionWord (λ _. outcome (length s) (whole rule′ s)))))
     go true f g = refl
     go false (At i) g = refl
     go false Nowhere (At i) = refl
@@ -203,11 +198,11 @@ refused-step rule s r (parses t k) e h = zero-one (cc)
 refused-step rule s r (refuses q) e h = let w : q ≡ r = cc in e ∙ rw w
 
 -- accepted, by every rule
-pub reading-accepted : (rule : Rule) (s : List ℕ) (n : ℕ) → readingOf s ≡ Accepted n → AcceptedBy rule s n
-unfolding readingOf
+pub reading-accepted : (rule : Rule) (s : List ℕ) (n : ℕ) → verdictOf s ≡ Accepted n → AcceptedBy rule s n
+unfolding verdictOf
 reading-accepted rule s n h = accepted-step rule s n (parsed rule s) refl (answer-any-rule rule fromLeft s ∙ h)
 
 -- refused, by every rule
-pub reading-refused : (rule : Rule) (s : List ℕ) (r : Refusal) → readingOf s ≡ Refused r → parsed rule s ≡ refuses r
-unfolding readingOf
+pub reading-refused : (rule : Rule) (s : List ℕ) (r : Refusal) → verdictOf s ≡ Refused r → parsed rule s ≡ refuses r
+unfolding verdictOf
 reading-refused rule s r h = refused-step rule s r (parsed rule s) refl (answer-any-rule rule fromLeft s ∙ h)

@@ -3,15 +3,12 @@ use Prim.Native.Nat.{ℕ, _+_, _-_, _≤_, _<_}
 use native.Mathlib.Omega.{arith}
 use mathlib.Core.Path.{_≡_, refl, sym, ap, ap₂, _∙_, subst}
 use mathlib.Core.List.{List, [], _∷_, _++_}
-use mathlib.Core.Bool.{Bool, true, false}
-use lib.Dec.{ltb, eqb}
-use borrow.Author.Tests.{ltb-true, lt-ltb, ne-eqb}
-use Rattle.question.specs.Token.{choose, Tok, wordT, opT, openT, closeT, otherT}
+use borrow.Author.Tests.{lt-ltb, ne-eqb}
+use Rattle.question.specs.Token.{Tok, wordT, opT, openT, closeT, otherT}
 use Rattle.question.specs.Limits.{tokenWords, deepest, openAfter}
-use Rattle.question.specs.Walk.{Stand, operandNext, operatorNext, goes, refused, pass, reached, walk, fresh}
+use Rattle.question.specs.Walk.{Stand, operandNext, operatorNext, goes, pass, reached, walk, fresh}
 use Rattle.question.specs.Exchange.{NeverBelow}
-use Rattle.question.proofs.Apart.{zero-one}
-use Rattle.question.proofs.LimitLaws.{count, through, walk-none, walk-pass, walk-apart, walk-append, walk-kept}
+use Rattle.question.proofs.LimitLaws.{count, Does, takes-word, takes-operator, opens, closes, does-as, through, walk-none, walk-pass, walk-apart, walk-append, walk-kept}
 use Rattle.question.proofs.SplitLaws.{bare, bares}
 
 -- ---- the brackets of tokens
@@ -34,23 +31,14 @@ deepest-more n m (openT p ∷ r) h = deepest-more (n + 1) (m + 1) r (omega arith
 deepest-more n m (closeT p ∷ r) h = omega (arith, deepest-more (n - 1) (m - 1) r (omega arith))
 deepest-more n m (otherT p ∷ r) h = deepest-more n m r h
 
-deepest-front : (n : ℕ) (a b : List Tok) → deepest n a ≤ deepest n (a ++ b)
-unfolding deepest
-deepest-front n [] b = deepest-from n b
-deepest-front n (wordT w p ∷ r) b = deepest-front n r b
-deepest-front n (opT o p ∷ r) b = deepest-front n r b
-deepest-front n (openT p ∷ r) b = deepest-front (n + 1) r b
-deepest-front n (closeT p ∷ r) b = omega (arith, deepest-front (n - 1) r b)
-deepest-front n (otherT p ∷ r) b = deepest-front n r b
-
-deepest-rest : (n : ℕ) (a b : List Tok) → deepest (openAfter n a) b ≤ deepest n (a ++ b)
+deepest-append : (n : ℕ) (a b : List Tok) → (deepest n a ≤ deepest n (a ++ b)) × (deepest (openAfter n a) b ≤ deepest n (a ++ b))
 unfolding deepest openAfter
-deepest-rest n [] b = omega arith
-deepest-rest n (wordT w p ∷ r) b = deepest-rest n r b
-deepest-rest n (opT o p ∷ r) b = deepest-rest n r b
-deepest-rest n (openT p ∷ r) b = deepest-rest (n + 1) r b
-deepest-rest n (closeT p ∷ r) b = omega (arith, deepest-rest (n - 1) r b)
-deepest-rest n (otherT p ∷ r) b = deepest-rest n r b
+deepest-append n [] b = (deepest-from n b, omega arith)
+deepest-append n (wordT w p ∷ r) b = deepest-append n r b
+deepest-append n (opT o p ∷ r) b = deepest-append n r b
+deepest-append n (openT p ∷ r) b = deepest-append (n + 1) r b
+deepest-append n (closeT p ∷ r) b = let h = deepest-append (n - 1) r b in (omega (arith, h .0), omega (arith, h .1))
+deepest-append n (otherT p ∷ r) b = deepest-append n r b
 
 count-append : (a b : List Tok) → count (a ++ b) ≡ count a + count b
 unfolding tokenWords
@@ -89,49 +77,18 @@ record Again (at mid : Stand) (t : Tok) (r : List Tok) (m j : ℕ) : Type 0 wher
   brackets : openAfter m′ r ≡ openAfter m (t ∷ r)
   words : j′ + count r ≡ j + count (t ∷ r)
 
-module _ (r : List Tok) (m j : ℕ) where
-  again-word : (n k p : ℕ) (w : List ℕ) (mid : Stand) (b : Bool) → choose b (λ _. goes (operatorNext n (k + 1))) (λ _. refused 10) ≡ goes mid → NeverBelow m r → deepest m r ≤ 8 → j < 16 →
-      Again (operandNext n k) mid (wordT w p) r m j
-  unfolding tokenWords openAfter
-  again-word n k p w mid true h a d l =
-      let q : operatorNext n (k + 1) ≡ mid = cc in
-      subst (λ (x : Stand). Again (operandNext n k) x (wordT w p) r m j) q
-      (record { m′ = m; j′ = j + 1; passes = rw (lt-ltb j 16 l); above = a; deep = d; brackets = refl; words = omega arith })
-  again-word n k p w mid false h a d l = zero-one (cc)
-
-  again-open : (n k p : ℕ) (mid : Stand) (b : Bool) → choose b (λ _. goes (operandNext (n + 1) k)) (λ _. refused 11) ≡ goes mid → NeverBelow (m + 1) r → deepest (m + 1) r ≤ 8 → m < 8 →
-      Again (operandNext n k) mid (openT p) r m j
-  unfolding tokenWords openAfter
-  again-open n k p mid true h a d l =
-      let q : operandNext (n + 1) k ≡ mid = cc in
-      subst (λ (x : Stand). Again (operandNext n k) x (openT p) r m j) q
-      (record { m′ = m + 1; j′ = j; passes = rw (lt-ltb m 8 l); above = a; deep = d; brackets = refl; words = refl })
-  again-open n k p mid false h a d l = zero-one (cc)
-
-  again-close : (n k p : ℕ) (mid : Stand) (b : Bool) → choose b (λ _. refused 9) (λ _. goes (operatorNext (n - 1) k)) ≡ goes mid → 1 ≤ m → NeverBelow (m - 1) r → deepest (m - 1) r ≤ 8 →
-      Again (operatorNext n k) mid (closeT p) r m j
-  unfolding tokenWords openAfter
-  again-close n k p mid true h l a d = zero-one (cc)
-  again-close n k p mid false h l a d =
-      let q : operatorNext (n - 1) k ≡ mid = cc in
-      subst (λ (x : Stand). Again (operatorNext n k) x (closeT p) r m j) q
-      (record { m′ = m - 1; j′ = j; passes = rw (ne-eqb m 0 (λ (e : m ≡ 0). omega arith)); above = a; deep = d; brackets = refl; words = refl })
-
-again : (at mid : Stand) (t : Tok) (r : List Tok) (m j : ℕ) → pass at t ≡ goes mid → NeverBelow m (t ∷ r) → deepest m (t ∷ r) ≤ 8 → j + count (t ∷ r) ≤ 16 → Again at mid t r m j
+again : (at mid : Stand) (t : Tok) (r : List Tok) (m j : ℕ) → Does at t (goes mid) → NeverBelow m (t ∷ r) → deepest m (t ∷ r) ≤ 8 → j + count (t ∷ r) ≤ 16 → Again at mid t r m j
 unfolding tokenWords openAfter deepest
-again (operandNext n k) mid (wordT w p) r m j h a d l = again-word r m j n k p w mid (ltb k 16) h a d (omega arith)
-again (operandNext n k) mid (opT o p) r m j h a d l = zero-one (cc)
-again (operandNext n k) mid (openT p) r m j h a d l = again-open r m j n k p mid (ltb n 8) h a d (omega (arith, deepest-from (m + 1) r))
-again (operandNext n k) mid (closeT p) r m j h a d l = zero-one (cc)
-again (operandNext n k) mid (otherT p) r m j h a d l = zero-one (cc)
-again (operatorNext n k) mid (wordT w p) r m j h a d l = zero-one (cc)
-again (operatorNext n k) mid (opT o p) r m j h a d l =
-    let q : operandNext n k ≡ mid = cc in
-    subst (λ (x : Stand). Again (operatorNext n k) x (opT o p) r m j) q
-    (record { m′ = m; j′ = j; passes = refl; above = a; deep = d; brackets = refl; words = refl })
-again (operatorNext n k) mid (openT p) r m j h a d l = zero-one (cc)
-again (operatorNext n k) mid (closeT p) r m j h a d l = again-close r m j n k p mid (eqb n 0) h (a .0) (a .1) (omega arith)
-again (operatorNext n k) mid (otherT p) r m j h a d l = zero-one (cc)
+again at mid t r m j (takes-word n k p w h) a d l =
+    let more : j < 16 = omega arith in
+    record { m′ = m; j′ = j + 1; passes = rw (lt-ltb j 16 more); above = a; deep = d; brackets = refl; words = omega arith }
+again at mid t r m j (takes-operator n k p o) a d l = record { m′ = m; j′ = j; passes = refl; above = a; deep = d; brackets = refl; words = refl }
+again at mid t r m j (opens n k p h) a d l =
+    let more : m < 8 = omega (arith, deepest-from (m + 1) r) in
+    record { m′ = m + 1; j′ = j; passes = rw (lt-ltb m 8 more); above = a; deep = d; brackets = refl; words = refl }
+again at mid t r m j (closes n k p h) a d l =
+    let some = a .0 in
+    record { m′ = m - 1; j′ = j; passes = rw (ne-eqb m 0 (λ (e : m ≡ 0). omega arith)); above = a .1; deep = omega arith; brackets = refl; words = refl }
 
 pub walk-again : (at : Stand) (ts : List Tok) (to : Stand) (m j : ℕ) → walk at ts ≡ reached to → NeverBelow m ts → deepest m ts ≤ 8 → j + count ts ≤ 16 →
     walk (like at m j) ts ≡ reached (like to (openAfter m ts) (j + count ts))
@@ -140,7 +97,7 @@ walk-again at [] to m j h a d l =
     subst (λ (x : Stand). reached (like at m j) ≡ reached (like x m (j + 0))) (walk-none at to h) (let e : j ≡ j + 0 = omega arith in ap (λ (i : ℕ). reached (like at m i)) e)
 walk-again at (t ∷ r) to m j h a d l =
     let x = through at t r to h in
-    let y = again at (x .mid) t r m j (x .passes) a d l in
+    let y = again at (x .mid) t r m j (does-as (x .passes)) a d l in
     walk-pass (like at m j) (like (x .mid) (y .m′) (y .j′)) t r (y .passes)
     ∙ walk-again (x .mid) r to (y .m′) (y .j′) (x .onward) (y .above) (y .deep) (omega (arith, y .words))
     ∙ ap₂ (λ (b i : ℕ). reached (like to b i)) (y .brackets) (y .words)
@@ -169,21 +126,11 @@ record Closes (at to : Stand) : Type 0 where
   from : at ≡ operatorNext n k
   leads : to ≡ operatorNext (n - 1) k
 
-opens-step : (n k : ℕ) (to : Stand) (b : Bool) → ltb n 8 ≡ b → choose b (λ _. goes (operandNext (n + 1) k)) (λ _. refused 11) ≡ goes to → Opens (operandNext n k) to
-opens-step n k to true e h = record { n = n; k = k; room = ltb-true n 8 e; from = refl; leads = cc }
-opens-step n k to false e h = zero-one (cc)
+opened : (at to : Stand) (p : ℕ) → Does at (openT p) (goes to) → Opens at to
+opened at to p (opens n k _ h) = record { n = n; k = k; room = h; from = refl; leads = refl }
 
-opens : (at to : Stand) (p : ℕ) → pass at (openT p) ≡ goes to → Opens at to
-opens (operandNext n k) to p h = opens-step n k to (ltb n 8) refl h
-opens (operatorNext n k) to p h = zero-one (cc)
-
-closes-step : (n k : ℕ) (to : Stand) (b : Bool) → choose b (λ _. refused 9) (λ _. goes (operatorNext (n - 1) k)) ≡ goes to → Closes (operatorNext n k) to
-closes-step n k to true h = zero-one (cc)
-closes-step n k to false h = record { n = n; k = k; from = refl; leads = cc }
-
-closes : (at to : Stand) (p : ℕ) → pass at (closeT p) ≡ goes to → Closes at to
-closes (operandNext n k) to p h = zero-one (cc)
-closes (operatorNext n k) to p h = closes-step n k to (eqb n 0) h
+closed-by : (at to : Stand) (p : ℕ) → Does at (closeT p) (goes to) → Closes at to
+closed-by at to p (closes n k _ h) = record { n = n; k = k; from = refl; leads = refl }
 
 -- tokens that the walk takes to the end
 pub record Taken (ts : List Tok) : Type 0 where
@@ -202,10 +149,10 @@ module _ (P A Q : List Tok) where
   around-walk N h above ends =
       let x = walk-apart fresh P (openT 0 ∷ (A ++ closeT 0 ∷ Q)) (operatorNext 0 N) h in
       let y = through (x .mid) (openT 0) (A ++ closeT 0 ∷ Q) (operatorNext 0 N) (x .rest) in
-      let o = opens (x .mid) (y .mid) 0 (y .passes) in
+      let o = opened (x .mid) (y .mid) 0 (does-as (y .passes)) in
       let z = walk-apart (y .mid) A (closeT 0 ∷ Q) (operatorNext 0 N) (y .onward) in
       let w = through (z .mid) (closeT 0) Q (operatorNext 0 N) (z .rest) in
-      let c = closes (z .mid) (w .mid) 0 (w .passes) in
+      let c = closed-by (z .mid) (w .mid) 0 (does-as (w .passes)) in
       let inner : walk (operandNext (o .n + 1) (o .k)) A ≡ reached (operatorNext (c .n) (c .k)) = ap (λ (a : Stand). walk a A) (sym (o .leads)) ∙ z .front ∙ ap reached (c .from) in
       let kept = walk-kept (operandNext (o .n + 1) (o .k)) A (operatorNext (c .n) (c .k)) inner in
       let more = below-more 0 (o .n + 1) A above in
@@ -258,7 +205,7 @@ exchange-walk P A B Q NA NB h above ends alone d l =
     let rest = walk-kept (operatorNext (a .n) (a .k + count A)) Q (operatorNext 0 NA) (a .rest) in
     let zero-more : 0 + (a .n + 1) ≡ a .n + 1 = omega arith in
     let more = rw zero-more at (below-more 0 (a .n + 1) B (inner .above)) in
-    let deep : deepest (a .n) (openT 0 ∷ (B ++ closeT 0 ∷ Q)) ≤ 8 = rw (first .brackets) at (le-through (deepest-rest 0 P (openT 0 ∷ (B ++ closeT 0 ∷ Q))) d) in
+    let deep : deepest (a .n) (openT 0 ∷ (B ++ closeT 0 ∷ Q)) ≤ 8 = rw (first .brackets) at (le-through (deepest-append 0 P (openT 0 ∷ (B ++ closeT 0 ∷ Q)) .1) d) in
     let words : a .k + count B + count Q ≤ 16 = omega (arith, first .words, count-append P (openT 0 ∷ (B ++ closeT 0 ∷ Q)), count-append B (closeT 0 ∷ Q)) in
     let level : openAfter (a .n + 1) B ≡ a .n + 1 = omega (arith, more .1, inner .brackets) in
     record {
@@ -269,7 +216,7 @@ exchange-walk P A B Q NA NB h above ends alone d l =
         room = a .room;
         front = a .front;
         inner =
-            walk-again fresh B (operatorNext 0 NB) (a .n + 1) (a .k) alone (more .0) (le-through (deepest-front (a .n + 1) B (closeT 0 ∷ Q)) deep) (omega arith)
+            walk-again fresh B (operatorNext 0 NB) (a .n + 1) (a .k) alone (more .0) (le-through (deepest-append (a .n + 1) B (closeT 0 ∷ Q) .0) deep) (omega arith)
             ∙ ap (λ (i : ℕ). reached (operatorNext i (a .k + count B))) level;
         rest =
             walk-again (operatorNext (a .n) (a .k + count A)) Q (operatorNext 0 NA) (a .n) (a .k + count B) (a .rest) (rest .above) (rest .deep (omega arith)) words
@@ -301,37 +248,20 @@ bare-walk at [] to h = h
 bare-walk at (t ∷ r) to h =
     let x = through at (bare t) (bares r) to h in walk-pass at (x .mid) t r (sym (pass-bare at t) ∙ x .passes) ∙ bare-walk (x .mid) r to (x .onward)
 
-pub bare-count : (ts : List Tok) → count (bares ts) ≡ count ts
-unfolding tokenWords
-bare-count [] = refl
-bare-count (wordT w p ∷ r) = omega (arith, bare-count r)
-bare-count (opT o p ∷ r) = bare-count r
-bare-count (openT p ∷ r) = bare-count r
-bare-count (closeT p ∷ r) = bare-count r
-bare-count (otherT p ∷ r) = bare-count r
+-- the same words and brackets
+pub record AsBare (n : ℕ) (ts : List Tok) : Type 0 where
+  pub words : count (bares ts) ≡ count ts
+  pub deep : deepest n (bares ts) ≡ deepest n ts
+  pub brackets : openAfter n (bares ts) ≡ openAfter n ts
+  pub above : NeverBelow n ts → NeverBelow n (bares ts)
 
-pub bare-deepest : (n : ℕ) (ts : List Tok) → deepest n (bares ts) ≡ deepest n ts
-unfolding deepest
-bare-deepest n [] = refl
-bare-deepest n (wordT w p ∷ r) = bare-deepest n r
-bare-deepest n (opT o p ∷ r) = bare-deepest n r
-bare-deepest n (openT p ∷ r) = bare-deepest (n + 1) r
-bare-deepest n (closeT p ∷ r) = omega (arith, bare-deepest (n - 1) r)
-bare-deepest n (otherT p ∷ r) = bare-deepest n r
-
-pub bare-open : (n : ℕ) (ts : List Tok) → openAfter n (bares ts) ≡ openAfter n ts
-unfolding openAfter
-bare-open n [] = refl
-bare-open n (wordT w p ∷ r) = bare-open n r
-bare-open n (opT o p ∷ r) = bare-open n r
-bare-open n (openT p ∷ r) = bare-open (n + 1) r
-bare-open n (closeT p ∷ r) = bare-open (n - 1) r
-bare-open n (otherT p ∷ r) = bare-open n r
-
-pub bare-below : (n : ℕ) (ts : List Tok) → NeverBelow n ts → NeverBelow n (bares ts)
-bare-below n [] h = h
-bare-below n (wordT w p ∷ r) h = bare-below n r h
-bare-below n (opT o p ∷ r) h = bare-below n r h
-bare-below n (openT p ∷ r) h = bare-below (n + 1) r h
-bare-below n (closeT p ∷ r) h = (h .0, bare-below (n - 1) r (h .1))
-bare-below n (otherT p ∷ r) h = bare-below n r h
+pub as-bare : (n : ℕ) (ts : List Tok) → AsBare n ts
+unfolding tokenWords deepest openAfter
+as-bare n [] = record { words = refl; deep = refl; brackets = refl; above = λ h. h }
+as-bare n (wordT w p ∷ r) = let e = as-bare n r in record { words = omega (arith, e .words); deep = e .deep; brackets = e .brackets; above = e .above }
+as-bare n (opT o p ∷ r) = let e = as-bare n r in record { words = e .words; deep = e .deep; brackets = e .brackets; above = e .above }
+as-bare n (openT p ∷ r) = let e = as-bare (n + 1) r in record { words = e .words; deep = e .deep; brackets = e .brackets; above = e .above }
+as-bare n (closeT p ∷ r) =
+    let e = as-bare (n - 1) r in
+    record { words = e .words; deep = omega (arith, e .deep); brackets = e .brackets; above = λ h. (h .0, e .above (h .1)) }
+as-bare n (otherT p ∷ r) = let e = as-bare n r in record { words = e .words; deep = e .deep; brackets = e .brackets; above = e .above }

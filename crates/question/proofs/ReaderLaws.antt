@@ -9,19 +9,19 @@ use borrow.Author.Tests.{lt-ltb, le-ltb, eq-eqb, ne-eqb}
 use types.Run.{OneOf, miss}
 use denote.Enum.Declared.{tagOf}
 use Rattle.refusal.specs.declared.Refusal.{Refusal}
-use Rattle.refusal.specs.declared.Refusal.the-variants.{Grammar, WordLimit, BracketLimit}
+use Rattle.refusal.specs.declared.Refusal.the-variants.{Grammar, Words, Brackets}
 use Rattle.question.proofs.token.Token.{the-type}
 use Rattle.question.specs.declared.token.Op as op
 use Rattle.question.specs.declared.token.Token.{Token}
 use Rattle.question.specs.declared.token.Token.the-variants.{End, Word, Op, Open, Close, Other}
 use Rattle.question.specs.declared.reader.Read.{Read}
 use Rattle.question.specs.declared.reader.Read.the-variants.{At, Bad}
-use Rattle.question.specs.declared.reader.Reading.the-variants.{Accepted, Refused}
+use Rattle.question.specs.declared.reader.Verdict.the-variants.{Accepted, Refused}
 use Rattle.question.specs.Token.{cut, Tok, tokensAt, tokens}
 use Rattle.question.specs.Grammar.{Tree, word, part, link, Rule, Out, good, bad, bind, closed, question, operand, links, ended, whole}
 use Rattle.question.specs.Reading.{tokenPlace, refusalOf, outcome, answer}
-use Rattle.question.specs.Next.{headed, Within, NextToken, startOf}
-use Rattle.question.specs.Readers.{GoodAt, BadAt, Is, Ahead, ReadsQuestion, ReadsOperand, ReadsLinks, ReadsWhole}
+use Rattle.question.specs.Next.{headed, TokenWithin, NextToken, startOf}
+use Rattle.question.specs.Readers.{GoodAt, BadAt, ReadAs, Ahead, ReadsQuestion, ReadsOperand, ReadsLinks, ReadsWhole}
 
 -- ---- where an answer lies
 
@@ -40,11 +40,11 @@ module _ {s : List ℕ} {d k at n j : ℕ} {r : Read} where
   question-ahead h e = ahead at (length s) k n j e (h .ahead)
 
 module _ {s : List ℕ} {at : ℕ} {t b : Token} where
-  pub token-lies : NextToken s at t → t ≡ b → Within at (length s) b
-  token-lies nt e = subst (Within at (length s)) e (nt .lies)
+  pub token-lies : NextToken s at t → t ≡ b → TokenWithin at (length s) b
+  token-lies nt e = subst (TokenWithin at (length s)) e (nt .lies)
 
 -- the tokens left start where their first token does
-place-is : (s : List ℕ) (at : ℕ) (t : Token) → Within at (length s) t → startOf t ≡ tokenPlace (length s) (headed s t)
+place-is : (s : List ℕ) (at : ℕ) (t : Token) → TokenWithin at (length s) t → startOf t ≡ tokenPlace (length s) (headed s t)
 place-is s at (End p) h = h .1
 place-is s at (Word p q) h = refl
 place-is s at (Op o p q) h = refl
@@ -55,20 +55,20 @@ place-is s at (Other p) h = refl
 -- ---- one reading behind another
 
 module _ {A B : Type 0} (s : List ℕ) (o : Out A) (h : A → List Tok → ℕ → Out B) where
-  bind-good : (n j : ℕ) (r : Read) → GoodAt s n j o → ((a : A) → Is s r (h a (tokensAt s n) j)) → Is s r (bind o h)
-  bind-good n j r g k = subst (λ (y : Out A). Is s r (bind y h)) (sym (g .says)) (k (g .got))
+  bind-good : (n j : ℕ) (r : Read) → GoodAt s n j o → ((a : A) → ReadAs s r (h a (tokensAt s n) j)) → ReadAs s r (bind o h)
+  bind-good n j r g k = subst (λ (y : Out A). ReadAs s r (bind y h)) (sym (g .says)) (k (g .got))
 
   bind-bad : (refusal : Refusal) → BadAt s refusal o → BadAt s refusal (bind o h)
   bind-bad refusal b = record { number = b .number; left = b .left; says = ap (λ (y : Out A). bind y h) (b .says); is = b .is }
 
-  bind-on : (n j : ℕ) (r p : Read) → p ≡ At n j → Is s p o → ((a : A) → Is s r (h a (tokensAt s n) j)) → Is s r (bind o h)
-  bind-on n j r p e g k = bind-good n j r (subst (λ (y : Read). Is s y o) e g) k
+  bind-on : (n j : ℕ) (r p : Read) → p ≡ At n j → ReadAs s p o → ((a : A) → ReadAs s r (h a (tokensAt s n) j)) → ReadAs s r (bind o h)
+  bind-on n j r p e g k = bind-good n j r (subst (λ (y : Read). ReadAs s y o) e g) k
 
-  bind-off : (refusal : Refusal) (p : Read) → p ≡ Bad refusal → Is s p o → BadAt s refusal (bind o h)
-  bind-off refusal p e g = bind-bad refusal (subst (λ (y : Read). Is s y o) e g)
+  bind-off : (refusal : Refusal) (p : Read) → p ≡ Bad refusal → ReadAs s p o → BadAt s refusal (bind o h)
+  bind-off refusal p e g = bind-bad refusal (subst (λ (y : Read). ReadAs s y o) e g)
 
 -- what was read is put to use, and nothing else is read
-bind-map : {A B : Type 0} (s : List ℕ) (o : Out A) (g : A → B) (r : Read) → Is s r o → Is s r (bind o (λ a z i. good (g a) z i))
+bind-map : {A B : Type 0} (s : List ℕ) (o : Out A) (g : A → B) (r : Read) → ReadAs s r o → ReadAs s r (bind o (λ a z i. good (g a) z i))
 bind-map s o g (At n j) i = record { got = g (i .got); says = ap (λ y. bind y (λ a z i. good (g a) z i)) (i .says) }
 bind-map s o g (Bad refusal) i = bind-bad s o (λ a z i. good (g a) z i) refusal i
 
@@ -108,13 +108,14 @@ none-ended k e s (Open p) h = refl
 none-ended k e s (Close p) h = refl
 none-ended k e s (Other p) h = refl
 
-some-ended : (k : ℕ) (e : Tree) (s : List ℕ) (t : Token) → OneOf (0 ∷ []) (tagOf the-type t) → ended e (headed s t) k ≡ good e [] k
-some-ended k e s (End p) h = refl
-some-ended k e s (Word p q) h = absurd (miss (0 ∷ []) 1 tt h)
-some-ended k e s (Op o p q) h = absurd (miss (0 ∷ []) 2 tt h)
-some-ended k e s (Open p) h = absurd (miss (0 ∷ []) 3 tt h)
-some-ended k e s (Close p) h = absurd (miss (0 ∷ []) 4 tt h)
-some-ended k e s (Other p) h = absurd (miss (0 ∷ []) 5 tt h)
+-- the end has no tokens behind it
+pub end-headed : (s : List ℕ) (t : Token) → OneOf (0 ∷ []) (tagOf the-type t) → headed s t ≡ []
+end-headed s (End p) h = refl
+end-headed s (Word p q) h = absurd (miss (0 ∷ []) 1 tt h)
+end-headed s (Op o p q) h = absurd (miss (0 ∷ []) 2 tt h)
+end-headed s (Open p) h = absurd (miss (0 ∷ []) 3 tt h)
+end-headed s (Close p) h = absurd (miss (0 ∷ []) 4 tt h)
+end-headed s (Other p) h = absurd (miss (0 ∷ []) 5 tt h)
 
 -- ---- the readers, by the token at a place
 
@@ -143,23 +144,23 @@ module _ {s : List ℕ} {d k at : ℕ} {t : Token} (nt : NextToken s at t) where
             (λ g le. record { got = word (cut s p q); says = rw (heads nt e, lt-ltb k 16 h) });
       }
 
-  pub operand-many : {p q : ℕ} → t ≡ Word p q → 16 ≤ k → ReadsOperand s d k at (Bad (WordLimit p))
+  pub operand-many : {p q : ℕ} → t ≡ Word p q → 16 ≤ k → ReadsOperand s d k at (Bad (Words p))
   unfolding operand refusalOf
   operand-many {p} {q} e h =
       record {
         ahead = tt;
         reads =
-            λ rule f lt. above (λ f. BadAt s (WordLimit p) (operand rule f d k (tokensAt s at))) f (2 * (length s - at)) lt
+            λ rule f lt. above (λ f. BadAt s (Words p) (operand rule f d k (tokensAt s at))) f (2 * (length s - at)) lt
             (λ g le. record { number = 10; left = headed s (Word p q); says = rw (heads nt e, le-ltb k 16 h); is = refl });
       }
 
-  pub operand-deep : {p : ℕ} → t ≡ Open p → d ≡ 0 → ReadsOperand s d k at (Bad (BracketLimit p))
+  pub operand-deep : {p : ℕ} → t ≡ Open p → d ≡ 0 → ReadsOperand s d k at (Bad (Brackets p))
   unfolding operand refusalOf
   operand-deep {p} e h =
       record {
         ahead = tt;
         reads =
-            λ rule f lt. above (λ f. BadAt s (BracketLimit p) (operand rule f d k (tokensAt s at))) f (2 * (length s - at)) lt
+            λ rule f lt. above (λ f. BadAt s (Brackets p) (operand rule f d k (tokensAt s at))) f (2 * (length s - at)) lt
             (λ g le. record { number = 11; left = headed s (Open p); says = rw (heads nt e, eq-eqb d 0 h); is = refl });
       }
 
@@ -184,14 +185,14 @@ module _ {s : List ℕ} {d k at : ℕ} {t : Token} (nt : NextToken s at t) where
 
   -- a part in brackets: p is what its reader answered
   module _ {place : ℕ} (is : t ≡ Open place) (some : d ≡ 0 → ⊥) {p : Read} (hp : ReadsQuestion s (d - 1) k (place + 1) p) where
-    part-read : (r : Read) → ((rule : Rule) (g : ℕ) → 2 * (length s - at) ≤ g → Is s r (bind (question rule g (d - 1) k (tokensAt s (place + 1))) closed)) →
-        (rule : Rule) (f : ℕ) → 2 * (length s - at) < f → Is s r (operand rule f d k (tokensAt s at))
+    part-read : (r : Read) → ((rule : Rule) (g : ℕ) → 2 * (length s - at) ≤ g → ReadAs s r (bind (question rule g (d - 1) k (tokensAt s (place + 1))) closed)) →
+        (rule : Rule) (f : ℕ) → 2 * (length s - at) < f → ReadAs s r (operand rule f d k (tokensAt s at))
     unfolding operand
     part-read r y rule f lt =
-        above (λ f. Is s r (operand rule f d k (tokensAt s at))) f (2 * (length s - at)) lt
+        above (λ f. ReadAs s r (operand rule f d k (tokensAt s at))) f (2 * (length s - at)) lt
         (λ g le. rw (heads nt is, ne-eqb d 0 some) (y rule g le))
 
-    inner : (rule : Rule) (g : ℕ) → 2 * (length s - at) ≤ g → Is s p (question rule g (d - 1) k (tokensAt s (place + 1)))
+    inner : (rule : Rule) (g : ℕ) → 2 * (length s - at) ≤ g → ReadAs s p (question rule g (d - 1) k (tokensAt s (place + 1)))
     inner rule g le = let w = token-lies nt is in hp .reads rule g (omega arith)
 
     pub operand-bad : {refusal : Refusal} → p ≡ Bad refusal → ReadsOperand s d k at (Bad refusal)
@@ -202,7 +203,7 @@ module _ {s : List ℕ} {d k at : ℕ} {t : Token} (nt : NextToken s at t) where
       operand-part {q} ec =
           let w = token-lies nt is in
           let a = ahead (place + 1) (length s) k n j e (hp .ahead) in
-          let v : Within n (length s) (Close q) = subst (Within n (length s)) ec (nc .lies) in
+          let v : TokenWithin n (length s) (Close q) = subst (TokenWithin n (length s)) ec (nc .lies) in
           record {
             ahead = omega arith;
             reads =
@@ -224,14 +225,14 @@ module _ {s : List ℕ} {d k at : ℕ} {t : Token} (nt : NextToken s at t) where
   -- an operator: p is what the operand's reader answered behind it
   module _ {o : op.Op} {place end : ℕ} (is : t ≡ Op o place end) {p : Read} (hp : ReadsOperand s d k end p) where
     link-read : (r : Read) →
-        ((rule : Rule) (g : ℕ) → 2 * (length s - at) ≤ g → Is s r (bind (operand rule g d k (tokensAt s end)) (λ x z j. bind (links rule g d j z) (λ ls y i. good (link o x ∷ ls) y i)))) →
-        (rule : Rule) (f : ℕ) → 2 * (length s - at) < f → Is s r (links rule f d k (tokensAt s at))
+        ((rule : Rule) (g : ℕ) → 2 * (length s - at) ≤ g → ReadAs s r (bind (operand rule g d k (tokensAt s end)) (λ x z j. bind (links rule g d j z) (λ ls y i. good (link o x ∷ ls) y i)))) →
+        (rule : Rule) (f : ℕ) → 2 * (length s - at) < f → ReadAs s r (links rule f d k (tokensAt s at))
     unfolding links
     link-read r y rule f lt =
-        above (λ f. Is s r (links rule f d k (tokensAt s at))) f (2 * (length s - at)) lt
+        above (λ f. ReadAs s r (links rule f d k (tokensAt s at))) f (2 * (length s - at)) lt
         (λ g le. rw (heads nt is) (y rule g le))
 
-    linked : (rule : Rule) (g : ℕ) → 2 * (length s - at) ≤ g → Is s p (operand rule g d k (tokensAt s end))
+    linked : (rule : Rule) (g : ℕ) → 2 * (length s - at) ≤ g → ReadAs s p (operand rule g d k (tokensAt s end))
     linked rule g le = let w = token-lies nt is in hp .reads rule g (omega arith)
 
     pub links-bad : {refusal : Refusal} → p ≡ Bad refusal → ReadsLinks s d k at (Bad refusal)
@@ -252,10 +253,10 @@ module _ {s : List ℕ} {d k at : ℕ} {t : Token} (nt : NextToken s at t) where
 
 module _ {s : List ℕ} {d k at : ℕ} {p : Read} (hp : ReadsOperand s d k at p) where
   level-read : (r : Read) →
-      ((rule : Rule) (g : ℕ) → 2 * (length s - at) + 1 ≤ g → Is s r (bind (operand rule g d k (tokensAt s at)) (λ x z j. bind (links rule g d j z) (λ ls y i. good (rule x ls) y i)))) →
-      (rule : Rule) (f : ℕ) → 2 * (length s - at) + 1 < f → Is s r (question rule f d k (tokensAt s at))
+      ((rule : Rule) (g : ℕ) → 2 * (length s - at) + 1 ≤ g → ReadAs s r (bind (operand rule g d k (tokensAt s at)) (λ x z j. bind (links rule g d j z) (λ ls y i. good (rule x ls) y i)))) →
+      (rule : Rule) (f : ℕ) → 2 * (length s - at) + 1 < f → ReadAs s r (question rule f d k (tokensAt s at))
   unfolding question
-  level-read r y rule f lt = above (λ f. Is s r (question rule f d k (tokensAt s at))) f (2 * (length s - at) + 1) lt (λ g le. y rule g le)
+  level-read r y rule f lt = above (λ f. ReadAs s r (question rule f d k (tokensAt s at))) f (2 * (length s - at) + 1) lt (λ g le. y rule g le)
 
   pub question-bad : {refusal : Refusal} → p ≡ Bad refusal → ReadsQuestion s d k at (Bad refusal)
   question-bad {refusal} e = record { ahead = tt; reads = level-read (Bad refusal) (λ rule g le. bind-off s _ _ refusal p e (hp .reads rule g (omega arith))) }
@@ -276,7 +277,7 @@ answer-bad : (s : List ℕ) (refusal : Refusal) (o : Out Tree) → BadAt s refus
 answer-bad s refusal o b = ap Refused (b .is) ∙ sym (ap (λ (y : Out Tree). answer (outcome (length s) y)) (b .says))
 
 module _ {s : List ℕ} {p : Read} (hp : ReadsQuestion s 8 0 0 p) where
-  level : (rule : Rule) → Is s p (question rule (2 * length s + 2) 8 0 (tokens s))
+  level : (rule : Rule) → ReadAs s p (question rule (2 * length s + 2) 8 0 (tokens s))
   unfolding tokens
   level rule = hp .reads rule (2 * length s + 2) (omega arith)
 
@@ -286,11 +287,11 @@ module _ {s : List ℕ} {p : Read} (hp : ReadsQuestion s 8 0 0 p) where
 
   module _ {n j : ℕ} (e : p ≡ At n j) {c : Token} (nc : NextToken s n c) where
     got : (rule : Rule) → GoodAt s n j (question rule (2 * length s + 2) 8 0 (tokens s))
-    got rule = subst (λ (y : Read). Is s y (question rule (2 * length s + 2) 8 0 (tokens s))) e (level rule)
+    got rule = subst (λ (y : Read). ReadAs s y (question rule (2 * length s + 2) 8 0 (tokens s))) e (level rule)
 
     pub whole-ended : OneOf (0 ∷ []) (tagOf the-type c) → ReadsWhole s (Accepted j)
     unfolding whole
-    whole-ended o rule = rw (got rule .says, nc .heads, some-ended j (got rule .got) s c o)
+    whole-ended o rule = rw (got rule .says, nc .heads, end-headed s c o)
 
     pub whole-more : OneOf (1 ∷ 2 ∷ 3 ∷ 4 ∷ 5 ∷ []) (tagOf the-type c) → {v : ℕ} → v ≡ startOf c → ReadsWhole s (Refused (Grammar v))
     unfolding whole refusalOf

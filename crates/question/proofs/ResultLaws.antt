@@ -5,11 +5,11 @@ use Rattle.word.specs.Word.{isWordByte, same, isAnd, isOr, isNot, operatorOf}
 use Rattle.refusal.specs.First.{firstFrom, first}
 use Rattle.question.specs.Token.{run, gather, tokensAt, tokens}
 use Rattle.question.specs.Grammar.{fromLeft, question, operand, links, whole}
-use Rattle.question.specs.Reading.{isForeign, refusalOf, parsed, readingOf, readingResult}
+use Rattle.question.specs.Reading.{isForeign, refusalOf, parsed, verdictOf, verdictResult}
 
 pub results-pinned :
-    (readingResult (readingOf (97 ∷ [])) ≡ (0, 1))
-    × (readingResult (readingOf []) ≡ (9, 0))
-    × (readingResult (readingOf (97 ∷ 32 ∷ 98 ∷ [])) ≡ (9, 2))
-unfolding isWordByte same isAnd isOr isNot operatorOf firstFrom first run gather tokensAt tokens fromLeft question operand links whole isForeign refusalOf parsed readingOf
+    (verdictResult (verdictOf (97 ∷ [])) ≡ (0, 1))
+    × (verdictResult (verdictOf []) ≡ (9, 0))
+    × (verdictResult (verdictOf (97 ∷ 32 ∷ 98 ∷ [])) ≡ (9, 2))
+unfolding isWordByte same isAnd isOr isNot operatorOf firstFrom first run gather tokensAt tokens fromLeft question operand links whole isForeign refusalOf parsed verdictOf
 results-pinned = (refl, refl, refl)

@@ -5,12 +5,12 @@ use mathlib.Core.List.{List, [], _∷_, _++_, append-assoc, append-nil}
 use mathlib.Core.Bool.{Bool}
 use Rattle.question.specs.declared.token.Op.{Op}
 use Rattle.question.specs.Grammar.{Tree, pair, Link, link, Rule, fromLeft, treeWords}
-use Rattle.question.specs.Meaning.{combine, fits, Same, SameLinks, none, more, Respects}
+use Rattle.question.specs.Meaning.{combine, satisfies, Same, SameLinks, none, more, Respects}
 
 -- ---- from the left
 
 same-pair : (has : List ℕ → ℕ → Bool) (o : Op) (a a′ b b′ : Tree) → Same has a a′ → Same has b b′ → Same has (pair o a b) (pair o a′ b′)
-unfolding fits
+unfolding satisfies
 same-pair has o a a′ b b′ p q x = ap₂ (combine o) (p x) (q x)
 
 from-left-step : (has : List ℕ → ℕ → Bool) (a b : Tree) {ls ms : List Link} → Same has a b → SameLinks has ls ms → Same has (fromLeft a ls) (fromLeft b ms)

@@ -11,15 +11,15 @@ use mathlib.Core.Path.{_≡_, refl, sym, ap, _∙_}
 use mathlib.Core.List.{List, [], _∷_, _++_}
 use mathlib.Core.Bool.{Bool, true, false}
 use mathlib.Core.Logic.{_⊎_, inl, inr}
-use lib.Dec.{ltb, eqb}
-use borrow.Author.Tests.{ltb-false, le-ltb}
-use Rattle.question.specs.Token.{choose, Tok, wordT, opT, openT, closeT, otherT, tokens}
+use lib.Dec.{eqb}
+use borrow.Author.Tests.{le-ltb}
+use Rattle.question.specs.Token.{choose, Tok, wordT, openT, tokens}
 use Rattle.question.specs.Grammar.{Tree, Rule, Out, good, bad, whole}
 use Rattle.question.specs.Walk.{Stand, operandNext, operatorNext, Pass, goes, refused, pass, Walked, reached, stopped, onward, walk, toEnd, walkAll, fresh, verdict}
 use Rattle.question.specs.Stops.{StopNumber, WordTooMany, BracketTooMany, Exactly}
 use Rattle.question.proofs.Apart.{zero-one}
 use Rattle.question.proofs.WalkLaws.{whole-walked}
-use Rattle.question.proofs.LimitLaws.{walk-pass, walk-append, walk-kept}
+use Rattle.question.proofs.LimitLaws.{Does, word-many, bracket-many, none, does-as, walk-pass, walk-append, walk-kept}
 
 -- ---- the token at which a walk stops
 
@@ -70,29 +70,10 @@ data Why (at : Stand) (t : Tok) (c : ℕ) : Type 0 where
   words : (n k p : ℕ) (w : List ℕ) → c ≡ 10 → at ≡ operandNext n k → t ≡ wordT w p → 16 ≤ k → Why at t c
   brackets : (n k p : ℕ) → c ≡ 11 → at ≡ operandNext n k → t ≡ openT p → 8 ≤ n → Why at t c
 
-why-word : (n k p : ℕ) (w : List ℕ) (c : ℕ) (b : Bool) → ltb k 16 ≡ b → choose b (λ _. goes (operatorNext n (k + 1))) (λ _. refused 10) ≡ refused c → Why (operandNext n k) (wordT w p) c
-why-word n k p w c true e h = zero-one (cc)
-why-word n k p w c false e h = words n k p w (cc) refl refl (ltb-false k 16 e)
-
-why-open : (n k p : ℕ) (c : ℕ) (b : Bool) → ltb n 8 ≡ b → choose b (λ _. goes (operandNext (n + 1) k)) (λ _. refused 11) ≡ refused c → Why (operandNext n k) (openT p) c
-why-open n k p c true e h = zero-one (cc)
-why-open n k p c false e h = brackets n k p (cc) refl refl (ltb-false n 8 e)
-
-why-close : (n k p : ℕ) (c : ℕ) (b : Bool) → choose b (λ _. refused 9) (λ _. goes (operatorNext (n - 1) k)) ≡ refused c → Why (operatorNext n k) (closeT p) c
-why-close n k p c true h = misplaced (cc)
-why-close n k p c false h = zero-one (cc)
-
-why : (at : Stand) (t : Tok) (c : ℕ) → pass at t ≡ refused c → Why at t c
-why (operandNext n k) (wordT w p) c h = why-word n k p w c (ltb k 16) refl h
-why (operandNext n k) (opT o p) c h = misplaced (cc)
-why (operandNext n k) (openT p) c h = why-open n k p c (ltb n 8) refl h
-why (operandNext n k) (closeT p) c h = misplaced (cc)
-why (operandNext n k) (otherT p) c h = misplaced (cc)
-why (operatorNext n k) (wordT w p) c h = misplaced (cc)
-why (operatorNext n k) (opT o p) c h = zero-one (cc)
-why (operatorNext n k) (openT p) c h = misplaced (cc)
-why (operatorNext n k) (closeT p) c h = why-close n k p c (eqb n 0) h
-why (operatorNext n k) (otherT p) c h = misplaced (cc)
+why : (at : Stand) (t : Tok) (c : ℕ) → Does at t (refused c) → Why at t c
+why at t c (word-many n k p w l) = words n k p w refl refl refl l
+why at t c (bracket-many n k p l) = brackets n k p refl refl refl l
+why at t c (none _ _) = misplaced refl
 
 end-step : (k c : ℕ) (r : List Tok) (b : Bool) → choose b (λ _. reached k) (λ _. stopped 9 []) ≡ stopped c r → c ≡ 9
 end-step k c r true h = zero-one (cc)
@@ -144,7 +125,7 @@ module _ (ts : List Tok) (c : ℕ) (r : List Tok) where
       })
 
   ends-either : (walk fresh ts ≡ stopped c r) ⊎ (c ≡ 9) → Ends ts c r
-  ends-either (inl e) = let h = walk-halts fresh ts c r e in ends-why h (why (h .stand) (h .token) c (h .refuses))
+  ends-either (inl e) = let h = walk-halts fresh ts c r e in ends-why h (why (h .stand) (h .token) c (does-as (h .refuses)))
   ends-either (inr e) = misplaced e
 
   pub walk-ends : walkAll fresh ts ≡ stopped c r → Ends ts c r

@@ -16,7 +16,7 @@ use Rattle.question.specs.declared.token.Op.the-variants as op
 use Rattle.question.specs.declared.token.Token.{Token}
 use Rattle.question.specs.declared.token.Token.the-variants.{End, Word, Op, Open, Close, Other}
 use Rattle.question.specs.Token.{cut, run, spaces, runTok, mark, gather, tokensAt}
-use Rattle.question.specs.Next.{Within, NextToken, IsRun}
+use Rattle.question.specs.Next.{TokenWithin, NextToken, IsRun}
 use Rattle.question.proofs.RunLaws.{run-more, after-spaces}
 
 -- ---- spaces are passed
@@ -101,23 +101,23 @@ tokens-end s p h = rw (drop-none s p h)
 
 -- ---- the next token, by the tests that the code makes
 
-module _ (s : List ℕ) (at p : ℕ) (is : p ≡ at + spaces (drop at s)) where
-  skipped : tokensAt s at ≡ tokensAt s p
-  skipped = tokens-skip s at ∙ ap (tokensAt s) (sym is)
+skipped : (s : List ℕ) (at p : ℕ) → p ≡ at + spaces (drop at s) → tokensAt s at ≡ tokensAt s p
+skipped s at p is = tokens-skip s at ∙ ap (tokensAt s) (sym is)
 
-  no-space : p < length s → eqb (getD s p 0) 32 ≡ false
-  no-space h = rw (is) (rw (getD-drop at s (spaces (drop at s)) 0) at (after-spaces (drop at s) (omega (arith, length-drop at s))))
+no-space : (s : List ℕ) (at p : ℕ) → p ≡ at + spaces (drop at s) → p < length s → eqb (getD s p 0) 32 ≡ false
+no-space s at p is h = rw (is) (rw (getD-drop at s (spaces (drop at s)) 0) at (after-spaces (drop at s) (omega (arith, length-drop at s))))
 
+module _ {s : List ℕ} {at p : ℕ} (is : p ≡ at + spaces (drop at s)) where
   pub next-end : length s ≤ p → p ≤ length s → NextToken s at (End p)
-  next-end h k = record { heads = skipped ∙ tokens-end s p h; lies = (omega arith, omega arith) }
+  next-end h k = record { heads = skipped s at p is ∙ tokens-end s p h; lies = (omega arith, omega arith) }
 
-  pub next-run : p < length s → isWordByte (getD s p 0) ≡ true → (q : ℕ) → q ≡ p + run (drop p s) → (t : Token) → IsRun s p q t → NextToken s at t
-  next-run h e q iq t i =
+  pub next-run : p < length s → isWordByte (getD s p 0) ≡ true → {q : ℕ} → q ≡ p + run (drop p s) → {t : Token} → IsRun s p q t → NextToken s at t
+  next-run h e {q} iq {t} i =
       let le : at ≤ p = omega arith in
       let lt : p < q = omega (arith, run-more s p h e) in
-      record { heads = skipped ∙ tokens-run s p q h e iq ∙ sym (i .0); lies = widen t le (i .1 lt) }
+      record { heads = skipped s at p is ∙ tokens-run s p q h e iq ∙ sym (i .0); lies = widen t le (i .1 lt) }
     where
-      widen : (t : Token) → at ≤ p → Within p (length s) t → Within at (length s) t
+      widen : (t : Token) → at ≤ p → TokenWithin p (length s) t → TokenWithin at (length s) t
       widen (End a) h w = (omega arith, w .1)
       widen (Word a b) h w = (omega arith, w .1, w .2)
       widen (Op o a b) h w = (omega arith, w .1, w .2)
@@ -126,13 +126,13 @@ module _ (s : List ℕ) (at p : ℕ) (is : p ≡ at + spaces (drop at s)) where
       widen (Other a) h w = (omega arith, w .1)
 
   pub next-open : p < length s → isWordByte (getD s p 0) ≡ false → eqb (getD s p 0) 40 ≡ true → NextToken s at (Open p)
-  next-open h e f = record { heads = skipped ∙ tokens-mark s p h e ∙ rw (no-space h, f); lies = (omega arith, h) }
+  next-open h e f = record { heads = skipped s at p is ∙ tokens-mark s p h e ∙ rw (no-space s at p is h, f); lies = (omega arith, h) }
 
   pub next-close : p < length s → isWordByte (getD s p 0) ≡ false → eqb (getD s p 0) 40 ≡ false → eqb (getD s p 0) 41 ≡ true → NextToken s at (Close p)
-  next-close h e f g = record { heads = skipped ∙ tokens-mark s p h e ∙ rw (no-space h, f, g); lies = (omega arith, h) }
+  next-close h e f g = record { heads = skipped s at p is ∙ tokens-mark s p h e ∙ rw (no-space s at p is h, f, g); lies = (omega arith, h) }
 
   pub next-other : p < length s → isWordByte (getD s p 0) ≡ false → eqb (getD s p 0) 40 ≡ false → eqb (getD s p 0) 41 ≡ false → NextToken s at (Other p)
-  next-other h e f g = record { heads = skipped ∙ tokens-mark s p h e ∙ rw (no-space h, f, g); lies = (omega arith, h) }
+  next-other h e f g = record { heads = skipped s at p is ∙ tokens-mark s p h e ∙ rw (no-space s at p is h, f, g); lies = (omega arith, h) }
 
 -- a run, by what the operator's test found
 module _ (s : List ℕ) (p q : ℕ) (inside : q ≤ length s) where

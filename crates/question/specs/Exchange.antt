@@ -32,7 +32,7 @@ pub record AcceptedBy (rule : Rule) (s : List ℕ) (n : ℕ) : Type 0 where
   pub tree : Tree
   pub accepted : parsed rule s ≡ parses tree n
 
--- Reference 11, demand 3: a and b are accepted by themselves, and the same records fit them
+-- Reference 11, demand 3: a and b are accepted by themselves, and the same records satisfy them
 pub record Exchangeable (rule : Rule) (has : List ℕ → ℕ → Bool) (a b : List ℕ) : Type 0 where
   pub tree-a : Tree
   pub tree-b : Tree
@@ -42,14 +42,14 @@ pub record Exchangeable (rule : Rule) (has : List ℕ → ℕ → Bool) (a b : L
   pub b-accepted : parsed rule b ≡ parses tree-b words-b
   pub same : Same has tree-a tree-b
 
--- Reference 11, demand 3: s is accepted, and the records that fit t fit it
+-- Reference 11, demand 3: s is accepted, and the records that satisfy t satisfy it
 pub record AcceptedToo (rule : Rule) (has : List ℕ → ℕ → Bool) (s : List ℕ) (t : Tree) : Type 0 where
   pub tree : Tree
   pub count : ℕ
   pub accepted : parsed rule s ≡ parses tree count
-  pub fits-same : Same has t tree
+  pub satisfies-same : Same has t tree
 
 -- Reference 11, demand 3: what follows of `before ( a ) behind`, which is accepted with tree t, and of s, which is `before ( b ) behind`
 pub record Exchanged (rule : Rule) (has : List ℕ → ℕ → Bool) (t : Tree) (s : List ℕ) : Type 0 where
-  pub fits-same : (u : Tree) (m : ℕ) → parsed rule s ≡ parses u m → Same has t u
+  pub satisfies-same : (u : Tree) (m : ℕ) → parsed rule s ≡ parses u m → Same has t u
   pub accepted : WithinLimits s → AcceptedToo rule has s t

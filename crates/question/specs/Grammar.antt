@@ -3,6 +3,7 @@ use Prim.Native.Nat.{ℕ, zero, suc, _+_, _-_, _*_}
 use mathlib.Core.List.{List, [], _∷_, _++_}
 use lib.ListN.{length}
 use lib.Dec.{ltb, eqb}
+use Rattle.limits.specs.Limits.{bracketsMax, questionWordsMax}
 use Rattle.question.specs.declared.token.Op.{Op}
 use Rattle.question.specs.Token.{choose, Tok, wordT, opT, openT, closeT, otherT, tokens}
 
@@ -55,7 +56,7 @@ unfoldable mutual
   pub operand : Rule → ℕ → ℕ → ℕ → List Tok → Out Tree
   operand rule zero d k ts = bad 0 ts
   operand rule (suc f) d k [] = bad 9 []
-  operand rule (suc f) d k (wordT w p ∷ r) = choose (ltb k 16) (λ _. good (word w) r (k + 1)) (λ _. bad 10 (wordT w p ∷ r))
+  operand rule (suc f) d k (wordT w p ∷ r) = choose (ltb k questionWordsMax) (λ _. good (word w) r (k + 1)) (λ _. bad 10 (wordT w p ∷ r))
   operand rule (suc f) d k (opT o p ∷ r) = bad 9 (opT o p ∷ r)
   operand rule (suc f) d k (openT p ∷ r) = choose (eqb d 0) (λ _. bad 11 (openT p ∷ r)) (λ _. bind (question rule f (d - 1) k r) closed)
   operand rule (suc f) d k (closeT p ∷ r) = bad 9 (closeT p ∷ r)
@@ -78,7 +79,7 @@ ended t (u ∷ r) k = bad 9 (u ∷ r)
 
 -- Reference 6.2: the whole question, at whose start 8 brackets may open and no word has been read
 unfoldable pub whole : Rule → List ℕ → Out Tree
-whole rule s = bind (question rule (2 * length s + 2) 8 0 (tokens s)) ended
+whole rule s = bind (question rule (2 * length s + 2) bracketsMax 0 (tokens s)) ended
 
 -- Reference 6.3: the tree's words, in reading order
 unfoldable pub treeWords : Tree → List (List ℕ)

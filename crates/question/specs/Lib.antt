@@ -5,7 +5,6 @@ pub mod Reading
 pub mod Limits
 pub mod Walk
 pub mod Stops
-pub mod Words
 pub mod Next
 pub mod Readers
 pub mod Exchange

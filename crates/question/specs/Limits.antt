@@ -2,6 +2,7 @@
 use Prim.Native.Nat.{ℕ, _+_, _-_, _≤_, max}
 use mathlib.Core.List.{List, [], _∷_}
 use lib.ListN.{length}
+use Rattle.limits.specs.Limits.{bracketsMax, questionMax, questionWordsMax}
 use Rattle.question.specs.Token.{Tok, wordT, opT, openT, closeT, otherT, tokens}
 
 -- Reference 6.4: the words, in order
@@ -33,6 +34,6 @@ openAfter n (otherT p ∷ r) = openAfter n r
 
 -- Reference 6.4: the limits of a whole question; how long a word is does not depend on what stands around it
 pub record WithinLimits (s : List ℕ) : Type 0 where
-  pub bytes : length s ≤ 256
-  pub words : length (tokenWords (tokens s)) ≤ 16
-  pub brackets : deepest 0 (tokens s) ≤ 8
+  pub bytes : length s ≤ questionMax
+  pub words : length (tokenWords (tokens s)) ≤ questionWordsMax
+  pub brackets : deepest 0 (tokens s) ≤ bracketsMax

@@ -18,21 +18,21 @@ headed s (Close p) = closeT p ∷ tokensAt s (p + 1)
 headed s (Other p) = otherT p ∷ tokensAt s (p + 1)
 
 -- where a token lies
-abbrev pub Within : ℕ → ℕ → Token → Type 0
-Within at len (End p) = (at ≤ p) × (p ≡ len)
-Within at len (Word p q) = (at ≤ p) × (p < q) × (q ≤ len)
-Within at len (Op o p q) = (at ≤ p) × (p < q) × (q ≤ len)
-Within at len (Open p) = (at ≤ p) × (p < len)
-Within at len (Close p) = (at ≤ p) × (p < len)
-Within at len (Other p) = (at ≤ p) × (p < len)
+abbrev pub TokenWithin : ℕ → ℕ → Token → Type 0
+TokenWithin at len (End p) = (at ≤ p) × (p ≡ len)
+TokenWithin at len (Word p q) = (at ≤ p) × (p < q) × (q ≤ len)
+TokenWithin at len (Op o p q) = (at ≤ p) × (p < q) × (q ≤ len)
+TokenWithin at len (Open p) = (at ≤ p) × (p < len)
+TokenWithin at len (Close p) = (at ≤ p) × (p < len)
+TokenWithin at len (Other p) = (at ≤ p) × (p < len)
 
 pub record NextToken (s : List ℕ) (at : ℕ) (t : Token) : Type 0 where
   pub heads : tokensAt s at ≡ headed s t
-  pub lies : Within at (length s) t
+  pub lies : TokenWithin at (length s) t
 
 -- the run from p to q is the token t
 abbrev pub IsRun : List ℕ → ℕ → ℕ → Token → Type 0
-IsRun s p q t = (headed s t ≡ runTok (operatorOf (cut s p q)) (cut s p q) p ∷ tokensAt s q) × (p < q → Within p (length s) t)
+IsRun s p q t = (headed s t ≡ runTok (operatorOf (cut s p q)) (cut s p q) p ∷ tokensAt s q) × (p < q → TokenWithin p (length s) t)
 
 -- where a token starts: the length, of the end
 abbrev pub startOf : Token → ℕ

@@ -4,15 +4,16 @@ use mathlib.Core.List.{List, [], _∷_}
 use mathlib.Core.Bool.{Bool, not, cond, _||_}
 use lib.ListN.{length, getD, drop}
 use lib.Dec.{ltb, eqb}
+use Rattle.limits.specs.Limits.{questionMax, wordMax}
 use Rattle.word.specs.Word.{isWordByte}
 use Rattle.refusal.specs.First.{first}
 use Rattle.refusal.specs.Refusal.{numberOf, valueOf}
 use Rattle.refusal.specs.declared.Found.{Found}
 use Rattle.refusal.specs.declared.Found.the-variants.{At, Nowhere}
 use Rattle.refusal.specs.declared.Refusal.{Refusal}
-use Rattle.refusal.specs.declared.Refusal.the-variants.{QuestionLength, QuestionByte, LongWord, Grammar, WordLimit, BracketLimit}
-use Rattle.question.specs.declared.reader.Reading.{Reading}
-use Rattle.question.specs.declared.reader.Reading.the-variants.{Accepted, Refused}
+use Rattle.refusal.specs.declared.Refusal.the-variants.{QuestionLength, QuestionByte, QuestionWord, Grammar, Words, Brackets}
+use Rattle.question.specs.declared.reader.Verdict.{Verdict}
+use Rattle.question.specs.declared.reader.Verdict.the-variants.{Accepted, Refused}
 use Rattle.question.specs.Token.{choose, run, Tok, wordT, opT, openT, closeT, otherT}
 use Rattle.question.specs.Grammar.{Tree, Rule, fromLeft, Out, good, bad, whole}
 
@@ -30,7 +31,7 @@ foreignAt s i = isForeign (getD s i 0)
 
 -- Reference 9.1, row 8: at the first such place a run starts, since from a word byte before it the run would be longer still
 abbrev pub longAt : List ℕ → ℕ → Bool
-longAt s i = ltb 32 (run (drop i s))
+longAt s i = ltb wordMax (run (drop i s))
 
 -- Reference 9.1, rows 9 to 11: the place of the first token left; where none is left, the question's length
 abbrev pub tokenPlace : ℕ → List Tok → ℕ
@@ -44,7 +45,7 @@ tokenPlace len (otherT p ∷ r) = p
 -- Reference 9.1, rows 9 to 11: what is neither 10 nor 11 is 9, for the bound on the calls is never used up
 -- (`refused-number` and `never-used-up` in proofs/StopLaws.antt).
 unfoldable pub refusalOf : ℕ → ℕ → Refusal
-refusalOf number place = cond (eqb number 10) (WordLimit place) (cond (eqb number 11) (BracketLimit place) (Grammar place))
+refusalOf number place = cond (eqb number 10) (Words place) (cond (eqb number 11) (Brackets place) (Grammar place))
 
 abbrev pub outcome : ℕ → Out Tree → Parsed
 outcome len (good t r k) = parses t k
@@ -58,20 +59,20 @@ unless Nowhere fault next = next tt
 -- Reference 9.2: each refusal is asked of the whole question before the next one is; the last three are met by reading it
 unfoldable pub parsed : Rule → List ℕ → Parsed
 parsed rule s =
-    choose (ltb 256 (length s)) (λ _. refuses (QuestionLength (length s)))
+    choose (ltb questionMax (length s)) (λ _. refuses (QuestionLength (length s)))
     (λ _. unless (first (foreignAt s) (length s)) QuestionByte
-    (λ _. unless (first (longAt s) (length s)) LongWord
+    (λ _. unless (first (longAt s) (length s)) QuestionWord
     (λ _. outcome (length s) (whole rule s))))
 
 -- Reference 8.10: what the call answers
-abbrev pub answer : Parsed → Reading
+abbrev pub answer : Parsed → Verdict
 answer (parses t k) = Accepted k
 answer (refuses refusal) = Refused refusal
 
-unfoldable pub readingOf : List ℕ → Reading
-readingOf s = answer (parsed fromLeft s)
+unfoldable pub verdictOf : List ℕ → Verdict
+verdictOf s = answer (parsed fromLeft s)
 
 -- Reference 8.10: the answer as two numbers, 0 and how many words, or the refusal's number and value
-abbrev pub readingResult : Reading → ℕ × ℕ
-readingResult (Accepted words) = (0, words)
-readingResult (Refused refusal) = (numberOf refusal, valueOf refusal)
+abbrev pub verdictResult : Verdict → ℕ × ℕ
+verdictResult (Accepted words) = (0, words)
+verdictResult (Refused refusal) = (numberOf refusal, valueOf refusal)

@@ -4,6 +4,7 @@ use mathlib.Core.Path.{_≡_}
 use mathlib.Core.List.{List, _∷_, _++_}
 use mathlib.Core.Logic.{_⊎_}
 use lib.ListN.{length}
+use Rattle.limits.specs.Limits.{bracketsMax, questionMax, questionWordsMax}
 use Rattle.refusal.specs.First.{first}
 use Rattle.refusal.specs.declared.Found.the-variants.{Nowhere}
 use Rattle.question.specs.Token.{Tok, wordT, openT, tokens}
@@ -30,7 +31,7 @@ pub record WordTooMany (ts r : List Tok) : Type 0 where
   pub brackets : ℕ
   pub words : ℕ
   pub stands : walk fresh front ≡ reached (operandNext brackets words)
-  pub full : length (tokenWords front) ≡ 16
+  pub full : length (tokenWords front) ≡ questionWordsMax
 
 -- Reference 9.1, row 11: an opening bracket where an operand has to come, behind 8 that are open; r is the tokens from it on
 pub record BracketTooMany (ts r : List Tok) : Type 0 where
@@ -42,11 +43,11 @@ pub record BracketTooMany (ts r : List Tok) : Type 0 where
   pub brackets : ℕ
   pub words : ℕ
   pub stands : walk fresh front ≡ reached (operandNext brackets words)
-  pub full : openAfter 0 front ≡ 8
+  pub full : openAfter 0 front ≡ bracketsMax
 
 -- Reference 9.2: 6, 7 and 8 do not hold
 pub record Faultless (s : List ℕ) : Type 0 where
-  pub bytes : length s ≤ 256
+  pub bytes : length s ≤ questionMax
   pub proper : first (foreignAt s) (length s) ≡ Nowhere
   pub short : first (longAt s) (length s) ≡ Nowhere
 

@@ -3,6 +3,7 @@
 use Prim.Native.Nat.{ℕ, _+_, _-_}
 use mathlib.Core.List.{List, [], _∷_}
 use lib.Dec.{ltb, eqb}
+use Rattle.limits.specs.Limits.{bracketsMax, questionWordsMax}
 use Rattle.question.specs.Token.{choose, Tok, wordT, opT, openT, closeT, otherT}
 use Rattle.question.specs.Grammar.{Tree, Out, good, bad}
 
@@ -17,9 +18,9 @@ pub data Pass : Type 0 where
 
 -- Reference 6.2 and 9.1, rows 9 to 11: which tokens can be taken, and by what the others are refused
 abbrev pub pass : Stand → Tok → Pass
-pass (operandNext n k) (wordT w p) = choose (ltb k 16) (λ _. goes (operatorNext n (k + 1))) (λ _. refused 10)
+pass (operandNext n k) (wordT w p) = choose (ltb k questionWordsMax) (λ _. goes (operatorNext n (k + 1))) (λ _. refused 10)
 pass (operandNext n k) (opT o p) = refused 9
-pass (operandNext n k) (openT p) = choose (ltb n 8) (λ _. goes (operandNext (n + 1) k)) (λ _. refused 11)
+pass (operandNext n k) (openT p) = choose (ltb n bracketsMax) (λ _. goes (operandNext (n + 1) k)) (λ _. refused 11)
 pass (operandNext n k) (closeT p) = refused 9
 pass (operandNext n k) (otherT p) = refused 9
 pass (operatorNext n k) (wordT w p) = refused 9

@@ -4,6 +4,7 @@ ghost use lib.ListN.{length};
 ghost use Rattle.refusal.specs.First.{first};
 ghost use Rattle.question.specs.Reading.{isForeign, foreignAt, longAt};
 use super::token::run_end;
+use limits::WORD_MAX;
 use refusal::Found;
 
 // Whether a byte has no place in a question.
@@ -33,7 +34,7 @@ pub fn first_long(s: &[u8]) -> Found
     let mut i = 0;
     while i < s.len() {
         let end = run_end(s, i);
-        if end - i > 32 {
+        if end - i > WORD_MAX {
             return Found::At(i);
         }
         if s.len() <= end {

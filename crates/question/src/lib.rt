@@ -1,29 +1,27 @@
-// Reference 6: questions, their tokens, the readers, the refusals 6 to 11, and where their words stand.
+// Reference 6: questions, their tokens, the readers, and the refusals 6 to 11.
 ghost use mathlib.Core.Path.{_≡_};
-ghost use Rattle.question.specs.Reading.{readingOf};
+ghost use Rattle.question.specs.Reading.{verdictOf};
+use limits::QUESTION_MAX;
 use refusal::Found;
 use refusal::Refusal;
 
 pub mod faults;
 pub mod reader;
 pub mod token;
-pub mod words;
 
-pub use reader::Reading;
-pub use words::WordPlaces;
-pub use words::word_places;
+pub use reader::Verdict;
 
 // Reference 8.10: whether the question is accepted, and with how many words; or the first refusal of 6 to 11 that holds.
-pub fn read_question(question: &[u8]) -> Reading
-    ensures { λ r. ⌜ r ≡ readingOf (now (question .entry)) ⌝ }
+pub fn read_question(question: &[u8]) -> Verdict
+    ensures { λ r. ⌜ r ≡ verdictOf (now (question .entry)) ⌝ }
 {
-    if question.len() > 256 {
-        return Reading::Refused(Refusal::QuestionLength(question.len()));
+    if question.len() > QUESTION_MAX {
+        return Verdict::Refused(Refusal::QuestionLength(question.len()));
     }
     match faults::first_foreign(question) {
-        Found::At(place) => Reading::Refused(Refusal::QuestionByte(place)),
+        Found::At(place) => Verdict::Refused(Refusal::QuestionByte(place)),
         Found::Nowhere => match faults::first_long(question) {
-            Found::At(place) => Reading::Refused(Refusal::LongWord(place)),
+            Found::At(place) => Verdict::Refused(Refusal::QuestionWord(place)),
             Found::Nowhere => reader::read_whole(question),
         },
     }

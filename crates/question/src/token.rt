@@ -25,7 +25,8 @@ pub enum Token {
 // The place behind the run of word bytes that starts at `at`.
 pub fn run_end(s: &[u8], at: usize) -> usize
     requires { ⌜ at ≤ length (now s) ⌝ }
-    ensures { λ r. ⌜ (r ≡ at + run (drop at (now (s .entry)))) × (r ≤ length (now (s .entry))) ⌝ }
+    ensures ends { λ r. ⌜ r ≡ at + run (drop at (now (s .entry))) ⌝ }
+    ensures inside { λ r. ⌜ r ≤ length (now (s .entry)) ⌝ }
 {
     let mut i = at;
     while i < s.len() {
@@ -40,7 +41,8 @@ pub fn run_end(s: &[u8], at: usize) -> usize
 // The first place from `at` on where no space stands.
 fn past_spaces(s: &[u8], at: usize) -> usize
     requires { ⌜ at ≤ length (now s) ⌝ }
-    ensures { λ r. ⌜ (r ≡ at + spaces (drop at (now (s .entry)))) × (r ≤ length (now (s .entry))) ⌝ }
+    ensures ends { λ r. ⌜ r ≡ at + spaces (drop at (now (s .entry))) ⌝ }
+    ensures inside { λ r. ⌜ r ≤ length (now (s .entry)) ⌝ }
 {
     let mut i = at;
     while i < s.len() {
@@ -54,7 +56,8 @@ fn past_spaces(s: &[u8], at: usize) -> usize
 
 // The run from `start` to `end` is an operator or a word.
 fn run_token(s: &[u8], start: usize, end: usize) -> Token
-    requires { ⌜ (start ≤ end) × (end ≤ length (now s)) ⌝ }
+    requires order { ⌜ start ≤ end ⌝ }
+    requires inside { ⌜ end ≤ length (now s) ⌝ }
     ensures { λ r. ⌜ IsRun (now (s .entry)) start end r ⌝ }
 {
     match word::operator_of(&s[start..end]) {

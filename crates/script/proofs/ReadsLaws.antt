@@ -4,13 +4,14 @@ use mathlib.Core.List.{List, [], _∷_}
 use Prim.Native.Nat.{ℕ, suc, _+_, _≤_, _<_, max}
 use native.Mathlib.Omega.{arith}
 use lib.ListN.{length, set, length-set}
-use lib.Seq.{sets, set-out, length-sets, length-take-le}
+use lib.Seq.{sets, set-out, length-sets}
 use Rattle.io.specs.Counts.{Counts}
 use Rattle.laws.proofs.Lists.{sets-one}
-use Rattle.script.specs.Reads.{Reads}
+use Rattle.parts.proofs.PartLaws.{counts-within}
+use Rattle.script.specs.Reads.{Lays}
 
 -- behind the end nothing is laid
-pub sets-out : (vs out : List ℕ) (k : ℕ) → length out ≤ k → sets out k vs ≡ out
+sets-out : (vs out : List ℕ) (k : ℕ) → length out ≤ k → sets out k vs ≡ out
 sets-out [] out k h = refl
 sets-out (v ∷ vs) out k h = rw (set-out out k v h) (sets-out vs out (suc k) (omega (arith, h)))
 
@@ -25,7 +26,8 @@ pub record Left (vs out : List ℕ) (from : ℕ) (ws now : List ℕ) (at : ℕ) 
 pub left-all : (vs out : List ℕ) (from : ℕ) → Left vs out from vs out from
 left-all vs out from = record { cells = refl; count = refl; same = refl; onward = omega arith; within = omega arith }
 
-pub left-one : {vs out ws now : List ℕ} {from at : ℕ} (v : ℕ) (rest : List ℕ) → Left vs out from ws now at → at < length now → ws ≡ v ∷ rest → Left vs out from rest (set now at v) (at + 1)
+pub left-one : {vs out ws now : List ℕ} {from at : ℕ} (v : ℕ) (rest : List ℕ) →
+    Left vs out from ws now at → at < length now → ws ≡ v ∷ rest → Left vs out from rest (set now at v) (at + 1)
 left-one {vs} {out} {ws} {now} {from} {at} v rest l h e =
     record {
       cells = l .cells ∙ ap (sets now at) e ∙ sets-one now at v rest;
@@ -36,17 +38,14 @@ left-one {vs} {out} {ws} {now} {from} {at} v rest l h e =
     }
 
 -- the room is used up, or nothing is left
-pub left-full : {vs out ws now : List ℕ} {from at : ℕ} → Left vs out from ws now at → length now ≤ at → Reads vs out from now at
+pub left-full : {vs out ws now : List ℕ} {from at : ℕ} → Left vs out from ws now at → length now ≤ at → Lays vs out from now at
 left-full {vs} {out} {ws} {now} {from} {at} l h =
     record { cells = sym (l .cells ∙ sets-out ws now at h); end = omega (arith, l .count, l .same, l .onward, l .within) }
 
-pub left-none : {vs out ws now : List ℕ} {from at : ℕ} → Left vs out from ws now at → ws ≡ [] → Reads vs out from now at
+pub left-none : {vs out ws now : List ℕ} {from at : ℕ} → Left vs out from ws now at → ws ≡ [] → Lays vs out from now at
 left-none {vs} {out} {ws} {now} {from} {at} l e =
     record { cells = sym (l .cells ∙ ap (sets now at) e); end = omega (arith, l .count, l .same, l .onward, l .within, ap length e) }
 
-pub counts-within : (r : ℕ) (xs : List ℕ) → r ≤ length xs → Counts r xs
-counts-within r xs h = (h, sym (length-take-le r xs h))
-
 -- what is read from the front on counts cells at the front
-pub reads-counts : {vs out out′ : List ℕ} {r : ℕ} → Reads vs out 0 out′ r → Counts r out′
+pub reads-counts : {vs out out′ : List ℕ} {r : ℕ} → Lays vs out 0 out′ r → Counts r out′
 reads-counts {vs} {out} {out′} {r} reads = counts-within r out′ (omega (arith, reads .end, ap length (reads .cells), length-sets out 0 vs))

@@ -3,7 +3,7 @@ use Prim.Native.Nat.{ℕ, _+_, _*_, _%_}
 use mathlib.Core.Bool.{Bool, cond, _||_}
 use mathlib.Core.List.{List, [], _∷_}
 use lib.Dec.{ltb}
-use Rattle.script.specs.Part.{partsOf}
+use Rattle.parts.specs.Part.{partsOf}
 
 abbrev pub noDigit : ℕ → Bool
 noDigit b = ltb b 48 || ltb 57 b
@@ -17,14 +17,14 @@ unfoldable pub numberFrom : ℕ → List ℕ → ℕ
 numberFrom v [] = v
 numberFrom v (x ∷ xs) = cond (noDigit x) v (numberFrom (tacked v x) xs)
 
-abbrev pub numberOf : List ℕ → ℕ
-numberOf s = numberFrom 0 s
+abbrev pub numberIn : List ℕ → ℕ
+numberIn s = numberFrom 0 s
 
 -- a number of each part, at 32 bits
 unfoldable pub each32 : List (List ℕ) → List ℕ
 each32 [] = []
-each32 (part ∷ parts) = numberOf part % 4294967296 ∷ each32 parts
+each32 (part ∷ parts) = numberIn part % 4294967296 ∷ each32 parts
 
 -- the numbers of a field, with a space between
-abbrev pub numbersOf : List ℕ → List ℕ
-numbersOf s = each32 (partsOf 32 s)
+abbrev pub fieldNumbers : List ℕ → List ℕ
+fieldNumbers s = each32 (partsOf 32 s)

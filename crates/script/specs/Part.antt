@@ -1,14 +1,8 @@
--- Parts of a line, between bytes b.
+-- Parts of a line: what stands before a byte b, what behind it, and its fields.
 use Prim.Native.Nat.{ℕ, zero, suc}
-use mathlib.Core.Bool.{cond}
-use mathlib.Core.List.{List, [], _∷_}
-use lib.Dec.{eqb}
+use mathlib.Core.List.{List}
 use lib.ListN.{take, drop}
-
--- how many bytes stand before the first b, or in all
-unfoldable pub partLength : ℕ → List ℕ → ℕ
-partLength b [] = 0
-partLength b (x ∷ xs) = cond (eqb x b) 0 (suc (partLength b xs))
+use Rattle.parts.specs.Part.{partLength}
 
 -- what stands before the first b, or everything
 abbrev pub frontOf : ℕ → List ℕ → List ℕ
@@ -22,13 +16,3 @@ behindOf b s = drop (suc (partLength b s)) s
 unfoldable pub fieldOf : ℕ → List ℕ → List ℕ
 fieldOf zero line = frontOf 124 line
 fieldOf (suc k) line = fieldOf k (behindOf 124 line)
-
--- a byte before the parts behind it belongs to the first of them
-abbrev pub onto : ℕ → List (List ℕ) → List (List ℕ)
-onto x [] = (x ∷ []) ∷ []
-onto x (part ∷ parts) = (x ∷ part) ∷ parts
-
--- all parts; a last one that is empty does not count
-unfoldable pub partsOf : ℕ → List ℕ → List (List ℕ)
-partsOf b [] = []
-partsOf b (x ∷ xs) = cond (eqb x b) ([] ∷ partsOf b xs) (onto x (partsOf b xs))

@@ -9,8 +9,8 @@ use crate::number::number32;
 use crate::number::within;
 use crate::part::behind;
 use crate::part::front;
-use crate::part::part_end;
 use crate::text::put_text;
+use parts::part_end;
 
 fn put_cell(bytes: &mut [u8], at: usize, value: u64)
     requires { ⌜ at + 4 ≤ length (now bytes) ⌝ }
@@ -117,7 +117,8 @@ fn copy(from: &[u8], to: &mut [u8])
     }
 }
 
-// Lays the items over a copy of `base`, of which `size` bytes count: how many bytes count then.
+// Lays the items over a copy of `base`, of which `size` bytes count: how many bytes count then. Which bytes the items change is not promised; the
+// expected output of the case programs holds it.
 pub fn change(items: &[u8], base: &[u8], size: usize, work: &mut [u8]) -> usize
     ensures counts { λ r. ⌜ Counts r (now (work .exit)) ⌝ }
     ensures same { λ _. ⌜ length (now (work .exit)) ≡ length (now (work .entry)) ⌝ }

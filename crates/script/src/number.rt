@@ -2,9 +2,9 @@
 ghost use mathlib.Core.Path.{_≡_};
 ghost use Prim.Native.Nat.{_<_, _%_, min};
 ghost use Rattle.io.specs.Counts.{Counts};
-ghost use Rattle.script.specs.Number.{noDigit, numberOf, numbersOf};
-ghost use Rattle.script.specs.Reads.{Reads};
-use crate::part::part_end;
+ghost use Rattle.script.specs.Number.{noDigit, numberIn, fieldNumbers};
+ghost use Rattle.script.specs.Reads.{Lays};
+use parts::part_end;
 
 fn no_digit(b: u8) -> bool
     ensures { λ r. ⌜ r ≡ noDigit b ⌝ }
@@ -13,14 +13,15 @@ fn no_digit(b: u8) -> bool
 }
 
 fn digit(b: u8) -> u64
-    ensures { λ r. ⌜ (r ≡ b % 16) × (r < 16) ⌝ }
+    ensures value { λ r. ⌜ r ≡ b % 16 ⌝ }
+    ensures small { λ r. ⌜ r < 16 ⌝ }
 {
     (b % 16) as u64
 }
 
 // The number that the digits at the front spell, of which the last 18 count.
 pub fn number(s: &[u8]) -> u64
-    ensures { λ r. ⌜ r ≡ numberOf (now (s .entry)) ⌝ }
+    ensures value { λ r. ⌜ r ≡ numberIn (now (s .entry)) ⌝ }
     ensures small { λ r. ⌜ r < 1000000000000000000 ⌝ }
 {
     let mut value: u64 = 0;
@@ -37,14 +38,14 @@ pub fn number(s: &[u8]) -> u64
 
 // The same at 32 bits.
 pub fn number32(s: &[u8]) -> u32
-    ensures { λ r. ⌜ r ≡ numberOf (now (s .entry)) % 4294967296 ⌝ }
+    ensures { λ r. ⌜ r ≡ numberIn (now (s .entry)) % 4294967296 ⌝ }
 {
     (number(s) % 4_294_967_296) as u32
 }
 
 // The same, but no more than `most`.
 pub fn within(s: &[u8], most: usize) -> usize
-    ensures { λ r. ⌜ r ≡ min (numberOf (now (s .entry))) most ⌝ }
+    ensures { λ r. ⌜ r ≡ min (numberIn (now (s .entry))) most ⌝ }
 {
     let n = number(s) as usize;
     if n < most { n } else { most }
@@ -52,7 +53,7 @@ pub fn within(s: &[u8], most: usize) -> usize
 
 // The numbers of a field, with a space between, at 32 bits and as many as there is room for: how many that is.
 pub fn read_numbers(s: &[u8], out: &mut [u32]) -> usize
-    ensures reads { λ r. ⌜ Reads (numbersOf (now (s .entry))) (now (out .entry)) 0 (now (out .exit)) r ⌝ }
+    ensures reads { λ r. ⌜ Lays (fieldNumbers (now (s .entry))) (now (out .entry)) 0 (now (out .exit)) r ⌝ }
     ensures counts { λ r. ⌜ Counts r (now (out .exit)) ⌝ }
 {
     let mut count = 0;

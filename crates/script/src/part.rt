@@ -1,23 +1,7 @@
 // Parts of a line: what stands before a byte, and what behind it.
 ghost use mathlib.Core.Path.{_≡_};
-ghost use Prim.Native.Nat.{_+_, _≤_, max};
-ghost use lib.ListN.{length, drop};
-ghost use Rattle.script.specs.Part.{partLength, frontOf, behindOf, fieldOf};
-
-// Where the part from `from` on ends: at the next b, or at the end.
-pub fn part_end(s: &[u8], from: usize, b: u8) -> usize
-    ensures place { λ r. ⌜ r ≡ from + partLength b (drop from (now (s .entry))) ⌝ }
-    ensures within { λ r. ⌜ (from ≤ r) × (r ≤ max from (length (now (s .entry)))) ⌝ }
-{
-    let mut i = from;
-    while i < s.len() {
-        if s[i] == b {
-            return i;
-        }
-        i += 1;
-    }
-    i
-}
+ghost use Rattle.script.specs.Part.{frontOf, behindOf, fieldOf};
+use parts::part_end;
 
 // What stands before the first b, or everything.
 pub fn front<'a>(s: &'a [u8], b: u8) -> &'a [u8]

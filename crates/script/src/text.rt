@@ -4,7 +4,7 @@ ghost use Prim.Native.Nat.{_<_};
 ghost use lib.ListN.{length};
 ghost use Rattle.io.specs.Counts.{Counts};
 ghost use Rattle.script.specs.Text.{plain, nibble, textOf, Spells};
-ghost use Rattle.script.specs.Reads.{Reads};
+ghost use Rattle.script.specs.Reads.{Lays};
 
 // A byte of a text, and where the next one is spelled.
 struct Spelled {
@@ -20,7 +20,8 @@ fn plain_byte(b: u8) -> u8
 
 // A hexadecimal digit's number: a letter is 9 above its last four bits.
 fn nibble_of(b: u8) -> u8
-    ensures { λ r. ⌜ (r ≡ nibble b) × (r < 16) ⌝ }
+    ensures value { λ r. ⌜ r ≡ nibble b ⌝ }
+    ensures small { λ r. ⌜ r < 16 ⌝ }
 {
     (b % 16 + b / 64 * 9) % 16
 }
@@ -45,7 +46,7 @@ fn byte_at(s: &[u8], i: usize) -> Spelled
 
 // Puts the bytes that a text says into `out` from `from` on, as far as there is room: where they end.
 pub fn put_text(s: &[u8], out: &mut [u8], from: usize) -> usize
-    ensures { λ r. ⌜ Reads (textOf (now (s .entry))) (now (out .entry)) from (now (out .exit)) r ⌝ }
+    ensures { λ r. ⌜ Lays (textOf (now (s .entry))) (now (out .entry)) from (now (out .exit)) r ⌝ }
 {
     let mut at = from;
     let mut i = 0;
@@ -63,7 +64,7 @@ pub fn put_text(s: &[u8], out: &mut [u8], from: usize) -> usize
 
 // The bytes that a text says, as many as there is room for: how many that is.
 pub fn read_text(s: &[u8], out: &mut [u8]) -> usize
-    ensures reads { λ r. ⌜ Reads (textOf (now (s .entry))) (now (out .entry)) 0 (now (out .exit)) r ⌝ }
+    ensures reads { λ r. ⌜ Lays (textOf (now (s .entry))) (now (out .entry)) 0 (now (out .exit)) r ⌝ }
     ensures counts { λ r. ⌜ Counts r (now (out .exit)) ⌝ }
 {
     put_text(s, out, 0)

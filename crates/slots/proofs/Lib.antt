@@ -1,4 +1,4 @@
 pub mod SlotLaws
-pub mod FindLaws
+pub mod CompileLaws
 pub mod WholeLaws
 pub mod SlotBound

@@ -18,7 +18,7 @@ use Rattle.index.specs.Sound.{Sound}
 use Rattle.directory.proofs.HasLaws.{list-proper}
 use Rattle.question.specs.Grammar.{Tree, word, pair, part, treeWords}
 use Rattle.question.specs.Meaning.{combine}
-use Rattle.slots.specs.Slots.{slotHas, slotFits}
+use Rattle.slots.specs.Slots.{slotHas, slotSatisfies}
 use Rattle.slots.specs.Bound.{slotIntervals, slotsIntervals}
 
 -- ---- one slot
@@ -72,15 +72,15 @@ tests-together index entries s k (suc n) = ap₂ (λ (a b : ℕ). a + b) (slot-l
 
 -- ---- what fits changes only where a slot does, and nothing fits where no slot has it
 
-pub fits-still : (v : ℕ → ℕ → Bool) (t : Tree) (k x : ℕ) → ((j : ℕ) → k ≤ j → j < k + length (treeWords t) → v j x ≡ v j (x + 1)) → slotFits v t k x ≡ slotFits v t k (x + 1)
-unfolding slotFits treeWords
-fits-still v (word w) k x f = f k (omega arith) (omega arith)
-fits-still v (pair o a b) k x f =
+pub satisfies-still : (v : ℕ → ℕ → Bool) (t : Tree) (k x : ℕ) → ((j : ℕ) → k ≤ j → j < k + length (treeWords t) → v j x ≡ v j (x + 1)) → slotSatisfies v t k x ≡ slotSatisfies v t k (x + 1)
+unfolding slotSatisfies treeWords
+satisfies-still v (word w) k x f = f k (omega arith) (omega arith)
+satisfies-still v (pair o a b) k x f =
     let l = length-append (treeWords a) (treeWords b) in
     ap₂ (combine o)
-    (fits-still v a k x (λ j h g. f j h (omega arith)))
-    (fits-still v b (k + length (treeWords a)) x (λ j h g. f j (omega arith) (omega arith)))
-fits-still v (part t) k x f = fits-still v t k x f
+    (satisfies-still v a k x (λ j h g. f j h (omega arith)))
+    (satisfies-still v b (k + length (treeWords a)) x (λ j h g. f j (omega arith) (omega arith)))
+satisfies-still v (part t) k x f = satisfies-still v t k x f
 
 -- ---- the sum, slot by slot
 

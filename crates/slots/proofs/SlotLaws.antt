@@ -1,4 +1,4 @@
--- Laws of slots: the list of a slot's word, and what fits a tree by what its slots have.
+-- Laws of slots: the list of a slot's word, and what satisfies a tree by what its slots have.
 use mathlib.Core.Path.{_≡_, refl}
 use Prim.Native.Nat.{ℕ, _+_, _≤_, _<_}
 use mathlib.Core.Bool.{Bool, false}
@@ -6,40 +6,38 @@ use mathlib.Core.List.{List}
 use lib.ListN.{length, getD}
 use borrow.Author.Tests.{lt-ltb, le-ltb}
 use Rattle.list.specs.Interval.{names}
-use Rattle.list.specs.Reading.{listIn}
-use Rattle.index.specs.Format.{wordCount, singlesOf, lowerOf, upperOf, listOf}
+use Rattle.index.specs.Format.{wordCount, listOf}
 use Rattle.question.specs.declared.token.Op.{Op}
 use Rattle.question.specs.declared.token.Op.the-variants.{And, Or, Not}
 use Rattle.question.specs.Grammar.{Tree, word, pair, part, treeWords}
 use Rattle.question.specs.Meaning.{combine}
-use Rattle.slots.specs.Slots.{slotHas, slotFits}
+use Rattle.slots.specs.Slots.{slotHas, slotSatisfies}
 
 -- ---- the list of a slot
 
 module _ (index entries : List ℕ) (k : ℕ) where
-  pub slot-lists : getD entries k 0 < wordCount index → (x : ℕ) →
-      slotHas index entries k x ≡ names (listIn (singlesOf index (getD entries k 0)) (lowerOf index (getD entries k 0)) (upperOf index (getD entries k 0))) x
-  unfolding slotHas listOf
+  pub slot-lists : getD entries k 0 < wordCount index → (x : ℕ) → slotHas index entries k x ≡ names (listOf index (getD entries k 0)) x
+  unfolding slotHas
   slot-lists h x = rw (lt-ltb (getD entries k 0) (wordCount index) h)
 
   pub slot-lacks : wordCount index ≤ getD entries k 0 → (x : ℕ) → slotHas index entries k x ≡ false
   unfolding slotHas
   slot-lacks h x = rw (le-ltb (getD entries k 0) (wordCount index) h)
 
--- ---- what fits a tree
+-- ---- what satisfies a tree
 
 module _ (v : ℕ → ℕ → Bool) (k x : ℕ) where
-  pub slot-word : (w : List ℕ) → slotFits v (word w) k x ≡ v k x
-  unfolding slotFits
+  pub slot-word : (w : List ℕ) → slotSatisfies v (word w) k x ≡ v k x
+  unfolding slotSatisfies
   slot-word w = refl
 
-  pub slot-part : (t : Tree) → slotFits v (part t) k x ≡ slotFits v t k x
-  unfolding slotFits
+  pub slot-part : (t : Tree) → slotSatisfies v (part t) k x ≡ slotSatisfies v t k x
+  unfolding slotSatisfies
   slot-part t = refl
 
   -- j is the slot of b's first word
-  pub slot-pair : (o : Op) (a b : Tree) (j : ℕ) → j ≡ k + length (treeWords a) → slotFits v (pair o a b) k x ≡ combine o (slotFits v a k x) (slotFits v b j x)
-  unfolding slotFits
+  pub slot-pair : (o : Op) (a b : Tree) (j : ℕ) → j ≡ k + length (treeWords a) → slotSatisfies v (pair o a b) k x ≡ combine o (slotSatisfies v a k x) (slotSatisfies v b j x)
+  unfolding slotSatisfies
   slot-pair o a b j e = rw e
 
 -- a record that no slot has fits no tree
@@ -48,8 +46,8 @@ combine-none And b e = refl
 combine-none Or b e = e
 combine-none Not b e = refl
 
-pub slots-none : (v : ℕ → ℕ → Bool) (x : ℕ) → ((k : ℕ) → v k x ≡ false) → (t : Tree) (k : ℕ) → slotFits v t k x ≡ false
-unfolding slotFits
+pub slots-none : (v : ℕ → ℕ → Bool) (x : ℕ) → ((k : ℕ) → v k x ≡ false) → (t : Tree) (k : ℕ) → slotSatisfies v t k x ≡ false
+unfolding slotSatisfies
 slots-none v x h (word w) k = h k
-slots-none v x h (pair o a b) k = rw (slots-none v x h a k) (combine-none o (slotFits v b (k + length (treeWords a)) x) (slots-none v x h b (k + length (treeWords a))))
+slots-none v x h (pair o a b) k = rw (slots-none v x h a k) (combine-none o (slotSatisfies v b (k + length (treeWords a)) x) (slots-none v x h b (k + length (treeWords a))))
 slots-none v x h (part t) k = slots-none v x h t k

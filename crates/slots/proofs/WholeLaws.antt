@@ -7,28 +7,34 @@ use mathlib.Core.List.{List, []}
 use lib.ListN.{length, getD}
 use Rattle.directory.specs.Has.{has}
 use Rattle.question.specs.Grammar.{Tree, word, pair, part, treeWords, fromLeft}
-use Rattle.question.specs.Meaning.{combine, fits}
+use Rattle.question.specs.Meaning.{combine, satisfies}
 use Rattle.question.specs.Reading.{parses, parsed}
-use Rattle.question.proofs.MeaningLaws.{fitsBy, fits-by}
-use Rattle.slots.specs.Slots.{slotHas, slotFits}
-use Rattle.slots.specs.Find.{Slots}
+use Rattle.question.proofs.RuleLaws.{from-left-keeps}
+use Rattle.question.proofs.TreeWords.{accepted-words}
+use Rattle.question.proofs.MeaningLaws.{satisfiesBy, satisfies-by}
+use Rattle.slots.specs.Slots.{slotHas, slotSatisfies}
+use Rattle.slots.specs.declared.compile.Compiled.{Compiled}
+use Rattle.slots.specs.Compile.{Compiles}
 
 -- what fits by the slots is what fits by the words, where each slot has what is said of its word
 
-slot-fits-by : (v : ℕ → ℕ → Bool) (t : Tree) (k x : ℕ) → slotFits v t k x ≡ fitsBy (λ i. v i x) k t
-unfolding slotFits fitsBy
-slot-fits-by v (word w) k x = refl
-slot-fits-by v (pair o a b) k x = ap₂ (combine o) (slot-fits-by v a k x) (slot-fits-by v b (k + length (treeWords a)) x)
-slot-fits-by v (part t) k x = slot-fits-by v t k x
+slot-satisfies-by : (v : ℕ → ℕ → Bool) (t : Tree) (k x : ℕ) → slotSatisfies v t k x ≡ satisfiesBy (λ i. v i x) k t
+unfolding slotSatisfies satisfiesBy
+slot-satisfies-by v (word w) k x = refl
+slot-satisfies-by v (pair o a b) k x = ap₂ (combine o) (slot-satisfies-by v a k x) (slot-satisfies-by v b (k + length (treeWords a)) x)
+slot-satisfies-by v (part t) k x = slot-satisfies-by v t k x
 
-pub slot-fits : (v : ℕ → ℕ → Bool) (had : List ℕ → ℕ → Bool) (t : Tree) (x : ℕ) → ((i : ℕ) → i < length (treeWords t) → v i x ≡ had (getD (treeWords t) i []) x) →
-    slotFits v t 0 x ≡ fits had t x
-slot-fits v had t x h =
-    slot-fits-by v t 0 x ∙ fits-by had x (λ i. v i x) 0 t (λ i l. let z : 0 + i ≡ i = omega arith in ap (λ (n : ℕ). v n x) z ∙ h i l)
+pub slot-satisfies : (v : ℕ → ℕ → Bool) (had : List ℕ → ℕ → Bool) (t : Tree) (x : ℕ) → ((i : ℕ) → i < length (treeWords t) → v i x ≡ had (getD (treeWords t) i []) x) →
+    slotSatisfies v t 0 x ≡ satisfies had t x
+slot-satisfies v had t x h =
+    slot-satisfies-by v t 0 x ∙ satisfies-by had x (λ i. v i x) 0 t (λ i l. let z : 0 + i ≡ i = omega arith in ap (λ (n : ℕ). v n x) z ∙ h i l)
 
--- so of an accepted question, with the slots of its words
-pub asked-fits : (s : List ℕ) (t : Tree) (n : ℕ) → parsed fromLeft s ≡ parses t n → (index entries₀ entries : List ℕ) (count : ℕ) → Slots index s entries₀ entries count →
-    (x : ℕ) → slotFits (slotHas index entries) t 0 x ≡ fits (has index) t x
-asked-fits s t n is index entries₀ entries count slots x =
-    let c = slots .count t n is in
-    slot-fits (slotHas index entries) (has index) t x (λ i h. slots .have t n is i (omega (arith, c .1)) x)
+-- each slot has what the index has of the tree's word
+abbrev pub TreeSlots : List ℕ → List ℕ → Tree → Type 0
+TreeSlots index entries t = (i : ℕ) → i < length (treeWords t) → (x : ℕ) → slotHas index entries i x ≡ has index (getD (treeWords t) i []) x
+
+pub compiled-slots : {index s codes codes′ entries entries′ : List ℕ} {r : Compiled} → Compiles index s codes codes′ entries entries′ r →
+    (t : Tree) (n : ℕ) → parsed fromLeft s ≡ parses t n → (r .slots ≡ length (treeWords t)) × TreeSlots index entries′ t
+compiled-slots {s = s} c t n e =
+    let w = accepted-words fromLeft from-left-keeps s t n e .0 in
+    (c .count ∙ ap length w, λ i h x. rw w at (c .have i (omega (arith, c .count, ap length w)) x))

@@ -1,3 +1,3 @@
 pub mod Slots
-pub mod Find
+pub mod Compile
 pub mod Bound

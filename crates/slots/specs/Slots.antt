@@ -1,10 +1,11 @@
 -- Each word of a question has a slot, its place in reading order; a slot keeps the word's entry number.
-use Prim.Native.Nat.{ℕ, _+_}
+use Prim.Native.Nat.{_*_, ℕ, _+_}
 use mathlib.Core.Path.{_≡_}
 use mathlib.Core.Bool.{Bool, false, cond}
 use mathlib.Core.List.{List}
 use lib.Dec.{ltb}
 use lib.ListN.{length, getD}
+use Rattle.limits.specs.Limits.{questionWordsMax}
 use Rattle.list.specs.Interval.{names}
 use Rattle.index.specs.Format.{wordCount, listOf}
 use Rattle.index.specs.Sound.{Sound}
@@ -18,11 +19,11 @@ slotHas index entries k x = cond (ltb (getD entries k 0) (wordCount index)) (nam
 -- what slots are read by: a sound index, the entries of 16 slots, and a hint of two numbers for each
 pub record ReadBy (index entries hints : List ℕ) : Type 0 where
   pub sound : Sound index
-  pub entries-long : length entries ≡ 16
-  pub hints-long : length hints ≡ 32
+  pub entries-long : length entries ≡ questionWordsMax
+  pub hints-long : length hints ≡ 2 * questionWordsMax
 
--- whether record x fits a tree whose first word has slot k, by what each slot has
-unfoldable pub slotFits : (ℕ → ℕ → Bool) → Tree → ℕ → ℕ → Bool
-slotFits v (word w) k x = v k x
-slotFits v (pair o a b) k x = combine o (slotFits v a k x) (slotFits v b (k + length (treeWords a)) x)
-slotFits v (part t) k x = slotFits v t k x
+-- whether record x satisfies a tree whose first word has slot k, by what each slot has
+unfoldable pub slotSatisfies : (ℕ → ℕ → Bool) → Tree → ℕ → ℕ → Bool
+slotSatisfies v (word w) k x = v k x
+slotSatisfies v (pair o a b) k x = combine o (slotSatisfies v a k x) (slotSatisfies v b (k + length (treeWords a)) x)
+slotSatisfies v (part t) k x = slotSatisfies v t k x

@@ -2,14 +2,17 @@
 ghost use mathlib.Core.Path.{_≡_};
 ghost use Prim.Native.Nat.{_≤_, _<_};
 ghost use lib.ListN.{length};
+ghost use Rattle.limits.specs.Limits.{questionWordsMax};
 ghost use Rattle.index.specs.Sound.{Sound};
 ghost use Rattle.slots.specs.Bound.{slotIntervals, slotsIntervals};
 use directory::parts::interval_count;
 use index::trailer::word_count;
 
 fn slot_intervals(index: &[u8], entries: &[usize], k: usize) -> usize
-    requires { ⌜ Sound (now index) × (k < length (now entries)) ⌝ }
-    ensures { λ r. ⌜ (r ≡ slotIntervals (now (index .entry)) (now (entries .entry)) k) × (r ≤ 4194304) ⌝ }
+    requires sound { ⌜ Sound (now index) ⌝ }
+    requires slot { ⌜ k < length (now entries) ⌝ }
+    ensures is { λ r. ⌜ r ≡ slotIntervals (now (index .entry)) (now (entries .entry)) k ⌝ }
+    ensures few { λ r. ⌜ r ≤ 4194304 ⌝ }
 {
     let entry = entries[k];
     if word_count(index) <= entry {
@@ -20,7 +23,9 @@ fn slot_intervals(index: &[u8], entries: &[usize], k: usize) -> usize
 
 // Of the first `count` slots.
 pub fn slots_sum(index: &[u8], entries: &[usize], count: usize) -> usize
-    requires { ⌜ Sound (now index) × (count ≤ length (now entries)) × (count ≤ 16) ⌝ }
+    requires sound { ⌜ Sound (now index) ⌝ }
+    requires slots { ⌜ count ≤ length (now entries) ⌝ }
+    requires few { ⌜ count ≤ questionWordsMax ⌝ }
     ensures { λ r. ⌜ r ≡ slotsIntervals (now (index .entry)) (now (entries .entry)) 0 count ⌝ }
 {
     let mut sum = 0;

@@ -1,4 +1,4 @@
 // A slot for each word of a question, in reading order: it keeps the word's entry number.
 
 pub mod bound;
-pub mod find;
+pub mod compile;

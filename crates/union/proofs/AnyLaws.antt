@@ -31,12 +31,15 @@ any-out index (i ∷ es) x f = rw (f 0 (omega arith)) (any-out index es x (λ j 
 
 -- ---- in none
 
-module _ (index entries : List ℕ) (places : List Place) (most : ℕ) (r : AllRead index entries places most) where
+-- no mark that is due is of a lower bound below m
+abbrev pub DueFrom : List ℕ → List ℕ → List Place → ℕ → Type 0
+DueFrom index entries places m = (i b : ℕ) (bs : List ℕ) → i < length entries → dueAt index entries places i ≡ b ∷ bs → lowerMark m ≤ b
+
+module _ {index entries : List ℕ} {places : List Place} {most : ℕ} (r : AllRead index entries places most) where
   -- nothing is in below the least
-  pub none-below : (m : ℕ) → ((i b : ℕ) (bs : List ℕ) → i < length entries → dueAt index entries places i ≡ b ∷ bs → lowerMark m ≤ b) →
-      (x : ℕ) → most ≤ x + 1 → x < m → inAny index entries x ≡ false
-  none-below m f x h g = any-out index entries x (λ i w. let q = r i w in let k = q .1 in quiet-below index entries places i (q .0) (q .2) m (λ b bs e. f i b bs w e) x (omega arith) g)
+  pub none-below : (m : ℕ) → DueFrom index entries places m → (x : ℕ) → most ≤ x + 1 → x < m → inAny index entries x ≡ false
+  none-below m f x h g = any-out index entries x (λ i w. quiet-below (r .list i w) m (λ b bs e. f i b bs w e) x h g)
 
   -- every list is used up
   pub none-left : ((i : ℕ) → i < length entries → dueAt index entries places i ≡ []) → (x : ℕ) → most ≤ x + 1 → inAny index entries x ≡ false
-  none-left f x h = any-out index entries x (λ i w. let q = r i w in let k = q .1 in quiet-end index entries places i (q .0) (q .2) (f i w) x (omega arith))
+  none-left f x h = any-out index entries x (λ i w. quiet-end (r .list i w) (f i w) x h)

@@ -2,15 +2,17 @@
 ghost use mathlib.Core.Path.{_≡_};
 ghost use mathlib.Core.Bool.{true};
 ghost use Prim.Native.Nat.{max, _≤_};
-ghost use lib.ListN.{length};
+ghost use Rattle.limits.specs.Limits.{recordMax};
 ghost use Rattle.list.specs.Ginix.{unionOf};
-ghost use Rattle.list.specs.Interval.{top};
 ghost use Rattle.merge.specs.Request.{SoundRequest, listsOf};
 ghost use Rattle.merge.specs.Put.{Fitting, PutWhere};
-ghost use Rattle.merge.specs.Sweep.{Sweeps};
+ghost use Rattle.list.specs.Answer.{HasRoom, Sweeps};
 ghost use Rattle.union.specs.Active.{isApart, Joined};
+use limits::JOIN_MAX;
 use list::answer::Tally;
 use list::reading::Interval;
+use merge::keys::BOUND;
+use merge::keys::LISTS;
 use merge::keys::fill;
 use merge::keys::refill;
 use merge::places::all_at_start;
@@ -26,7 +28,7 @@ fn larger(a: u32, b: u32) -> u32
 
 // Whether the next interval neither overlaps the active one nor touches it.
 fn apart(active: Interval, next: Interval) -> bool
-    requires { ⌜ active .upper ≤ top ⌝ }
+    requires { ⌜ active .upper ≤ recordMax ⌝ }
     ensures { λ r. ⌜ r ≡ isApart active next ⌝ }
 {
     active.upper + 1 < next.lower
@@ -34,7 +36,7 @@ fn apart(active: Interval, next: Interval) -> bool
 
 // The active interval behind the next one, from which it is not apart, or at which it begins anew.
 fn joined(active: Interval, next: Interval) -> Interval
-    requires { ⌜ active .upper ≤ top ⌝ }
+    requires { ⌜ active .upper ≤ recordMax ⌝ }
     ensures { λ r. ⌜ Joined active next r ⌝ }
 {
     let upper = larger(active.upper, next.upper);
@@ -59,7 +61,8 @@ fn put_before(
     active: Interval,
     next: Interval,
 ) -> Tally
-    requires { ⌜ (active .upper ≤ top) × (isApart active next ≡ true → Fitting writing (now out) tally active) ⌝ }
+    requires high { ⌜ active .upper ≤ recordMax ⌝ }
+    requires fits { ⌜ (isApart active next ≡ true → Fitting writing (now out) tally active) ⌝ }
     ensures { λ r. ⌜ PutWhere (isApart active next) writing (now (out .entry)) (now (out .exit)) tally active r ⌝ }
 {
     if apart(active, next) {
@@ -70,10 +73,11 @@ fn put_before(
 
 // Counts, and writes, the union of the lists of a request.
 pub fn sweep_active(index: &[u8], entries: &[u32], writing: bool, out: &mut [u32]) -> Tally
-    requires { ⌜ SoundRequest (now index) (now entries) × (writing ≡ true → length (unionOf (listsOf (now index) (now entries))) ≤ length (now out)) ⌝ }
+    requires sound { ⌜ SoundRequest (now index) (now entries) ⌝ }
+    requires room { ⌜ HasRoom (unionOf (listsOf (now index) (now entries))) writing (now out) ⌝ }
     ensures { λ r. ⌜ Sweeps (unionOf (listsOf (now (index .entry)) (now (entries .entry)))) writing (now (out .entry)) (now (out .exit)) r ⌝ }
 {
-    let mut keys = [0; 16];
+    let mut keys = [0; JOIN_MAX];
     fill(index, entries, &mut keys);
     let mut size = entries.len();
     let mut places = all_at_start();
@@ -82,13 +86,13 @@ pub fn sweep_active(index: &[u8], entries: &[u32], writing: bool, out: &mut [u32
         records: 0,
     };
     // the least lower bound is in: the first interval joins it
-    let first = keys[0] / 32;
+    let first = keys[0] / BOUND;
     let mut active = Interval {
         lower: first,
         upper: first,
     };
     while 0 < size {
-        let j = (keys[0] % 16) as usize;
+        let j = (keys[0] % LISTS) as usize;
         let entry = entries[j] as usize;
         let next = next_interval(index, entry, places[j]);
         tally = put_before(out, writing, tally, active, next);

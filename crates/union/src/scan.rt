@@ -1,16 +1,17 @@
 // The union by the scan line: a counter goes up at each lower bound and down behind each upper one.
 ghost use mathlib.Core.Path.{_≡_};
-ghost use mathlib.Core.Bool.{true};
 ghost use Prim.Native.Nat.{_≤_};
 ghost use lib.Dec.{eqb};
-ghost use lib.ListN.{length};
 ghost use Rattle.list.specs.Ginix.{unionOf};
 ghost use Rattle.merge.specs.Request.{SoundRequest, listsOf};
 ghost use Rattle.merge.specs.Put.{Fitting, PutWhere, upTo};
-ghost use Rattle.merge.specs.Sweep.{Sweeps};
+ghost use Rattle.list.specs.Answer.{HasRoom, Sweeps};
 ghost use Rattle.union.specs.Scan.{lowerFrom};
+use limits::JOIN_MAX;
 use list::answer::Tally;
 use list::reading::Interval;
+use merge::keys::BOUND;
+use merge::keys::LISTS;
 use merge::keys::fill;
 use merge::keys::refill;
 use merge::keys::to_upper;
@@ -34,7 +35,8 @@ fn put_closed(
     lower: u32,
     x: u32,
 ) -> Tally
-    requires { ⌜ (1 ≤ x) × (count ≡ 0 → Fitting writing (now out) tally (upTo lower x)) ⌝ }
+    requires begun { ⌜ 1 ≤ x ⌝ }
+    requires fits { ⌜ (count ≡ 0 → Fitting writing (now out) tally (upTo lower x)) ⌝ }
     ensures { λ r. ⌜ PutWhere (eqb count 0) writing (now (out .entry)) (now (out .exit)) tally (upTo lower x) r ⌝ }
 {
     if count == 0 {
@@ -49,10 +51,11 @@ fn put_closed(
 
 // Counts, and writes, the union of the lists of a request.
 pub fn sweep_scan(index: &[u8], entries: &[u32], writing: bool, out: &mut [u32]) -> Tally
-    requires { ⌜ SoundRequest (now index) (now entries) × (writing ≡ true → length (unionOf (listsOf (now index) (now entries))) ≤ length (now out)) ⌝ }
+    requires sound { ⌜ SoundRequest (now index) (now entries) ⌝ }
+    requires room { ⌜ HasRoom (unionOf (listsOf (now index) (now entries))) writing (now out) ⌝ }
     ensures { λ r. ⌜ Sweeps (unionOf (listsOf (now (index .entry)) (now (entries .entry)))) writing (now (out .entry)) (now (out .exit)) r ⌝ }
 {
-    let mut keys = [0; 16];
+    let mut keys = [0; JOIN_MAX];
     fill(index, entries, &mut keys);
     let mut size = entries.len();
     let mut places = all_at_start();
@@ -64,15 +67,15 @@ pub fn sweep_scan(index: &[u8], entries: &[u32], writing: bool, out: &mut [u32])
     let mut lower = 0;
     while 0 < size {
         let key = keys[0];
-        let j = (key % 16) as usize;
+        let j = (key % LISTS) as usize;
         let entry = entries[j] as usize;
-        if key / 16 % 2 == 0 {
-            lower = begun(count, lower, key / 32);
+        if key / LISTS % 2 == 0 {
+            lower = begun(count, lower, key / BOUND);
             count += 1;
             to_upper(index, entry, places[j], j, &mut keys, size);
         } else {
             count -= 1;
-            tally = put_closed(out, writing, tally, count, lower, key / 32);
+            tally = put_closed(out, writing, tally, count, lower, key / BOUND);
             places = moved_on(index, entry, places, j);
             size = refill(index, entry, places[j], j, &mut keys, size);
         }

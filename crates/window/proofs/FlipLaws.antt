@@ -9,19 +9,15 @@ use lib.ListN.{length}
 use Rattle.list.specs.Stretches.{turned, stretches}
 use Rattle.list.proofs.StretchLaws.{turned-same, turned-append, turned-length}
 use Rattle.window.specs.Bit.{set?}
-use Rattle.window.specs.Flips.{odd, flips, before}
-
-pub flips-none : (p : ℕ → Bool) (b : Bool) (x : ℕ) → flips p b x 0 ≡ []
-unfolding flips
-flips-none p b x = refl
+use Rattle.window.specs.Flips.{odd, flips, lastIn}
 
 -- ---- in two parts
 
-pub before-next : (p : ℕ → Bool) (x k : ℕ) → before p (p x) (x + 1) k ≡ p (x + k)
+pub before-next : (p : ℕ → Bool) (x k : ℕ) → lastIn p (p x) (x + 1) k ≡ p (x + k)
 before-next p x zero = ap p (omega arith)
 before-next p x (suc k) = let e : x + 1 + k ≡ x + suc k = omega arith in ap p e
 
-pub flips-add : (p : ℕ → Bool) (b : Bool) (x m k : ℕ) → flips p b x (m + k) ≡ flips p b x m ++ flips p (before p b x m) (x + m) k
+pub flips-add : (p : ℕ → Bool) (b : Bool) (x m k : ℕ) → flips p b x (m + k) ≡ flips p b x m ++ flips p (lastIn p b x m) (x + m) k
 unfolding flips
 flips-add p b x zero k = rw (zero-add k, add-zero x)
 flips-add p b x (suc m) k =
@@ -30,7 +26,7 @@ flips-add p b x (suc m) k =
     (ap (turned b (p x) x) (flips-add p (p x) (x + 1) m k ∙ rw (before-next p x m, e))
     ∙ turned-append b (p x) x (flips p (p x) (x + 1) m) (flips p (p (x + m)) (x + suc m) k))
 
-pub stretches-add : (p : ℕ → Bool) (b : Bool) (x m k : ℕ) → stretches p b x (m + k) ≡ flips p b x m ++ stretches p (before p b x m) (x + m) k
+pub stretches-add : (p : ℕ → Bool) (b : Bool) (x m k : ℕ) → stretches p b x (m + k) ≡ flips p b x m ++ stretches p (lastIn p b x m) (x + m) k
 unfolding flips stretches
 stretches-add p b x zero k = rw (zero-add k, add-zero x)
 stretches-add p b x (suc m) k =
@@ -79,7 +75,7 @@ pub stretches-past : (p : ℕ → Bool) (b : Bool) (x k m : ℕ) → ((i : ℕ) 
 unfolding stretches
 stretches-past p b x k m h =
     stretches-add p b x k m
-    ∙ ap (λ (r : List ℕ). flips p b x k ++ r) (stretches-out p (before p b x k) (x + k) m h)
+    ∙ ap (λ (r : List ℕ). flips p b x k ++ r) (stretches-out p (lastIn p b x k) (x + k) m h)
     ∙ sym (stretches-add p b x k 0)
     ∙ ap (stretches p b x) (add-zero k)
 
@@ -104,7 +100,7 @@ parity-turn false true t x k r e f = rw (one-more k x r) at (f (k + 1) (odd-next
 parity-turn true false t x k r e f = rw (one-more k (x - 1) r) at (f (k + 1) (odd-next k ∙ ap not e))
 parity-turn true true t x k r e f = f k e
 
-pub flips-parity : (p : ℕ → Bool) (b : Bool) (x m k : ℕ) → odd k ≡ b → odd (k + length (flips p b x m)) ≡ before p b x m
+pub flips-parity : (p : ℕ → Bool) (b : Bool) (x m k : ℕ) → odd k ≡ b → odd (k + length (flips p b x m)) ≡ lastIn p b x m
 unfolding flips
 flips-parity p b x zero k e = rw (add-zero k) e
 flips-parity p b x (suc m) k e =

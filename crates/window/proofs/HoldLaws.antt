@@ -33,7 +33,7 @@ holds-combined f p q x xs ys zs e u h g = record {
 pub zero-off : (i : ℕ) → on 0 i ≡ false
 zero-off i = on-high 0 i (pow-pos i)
 
-zeros-at : (k i : ℕ) → getD {A = ℕ} (replicate k 0) i 0 ≡ 0
+pub zeros-at : (k i : ℕ) → getD {A = ℕ} (replicate k 0) i 0 ≡ 0
 zeros-at zero i = refl
 zeros-at (suc k) zero = refl
 zeros-at (suc k) (suc i) = zeros-at k i

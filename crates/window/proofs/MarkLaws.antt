@@ -57,7 +57,8 @@ cleared-odd n e =
 cleared-even : (n : ℕ) → n % 2 ≡ 0 → cleared n ≡ cleared (n / 2) * 2
 cleared-even n e =
     let f : (n - 1) / 2 ≡ n / 2 - 1 = omega arith in
-    and-step n (n - 1) ∙ ap₂ (λ (x y : ℕ). bitAnd (n / 2) x * 2 + min y ((n - 1) % 2)) f e ∙ ap (λ (y : ℕ). bitAnd (n / 2) (n / 2 - 1) * 2 + y) (zero-min ((n - 1) % 2)) ∙ add-zero (cleared (n / 2) * 2)
+    and-step n (n - 1) ∙ ap₂ (λ (x y : ℕ). bitAnd (n / 2) x * 2 + min y ((n - 1) % 2)) f e
+    ∙ ap (λ (y : ℕ). bitAnd (n / 2) (n / 2 - 1) * 2 + y) (zero-min ((n - 1) % 2)) ∙ add-zero (cleared (n / 2) * 2)
 
 places-clear : (d at n : ℕ) → n % 2 ≡ 0 → places (suc d) at n ≡ places d (at + 1) (n / 2)
 unfolding places

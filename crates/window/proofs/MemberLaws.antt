@@ -9,7 +9,7 @@ use lib.ListN.{length, getD, length-append}
 use Rattle.list.specs.Stretches.{recordsFrom}
 use Rattle.list.proofs.RecordLaws.{recordsFrom-same, recordsFrom-parts}
 use Rattle.window.specs.Bit.{on}
-use Rattle.window.specs.Window.{bitAt, member, Holds}
+use Rattle.window.specs.Window.{bitAt, member, membersOf, Holds}
 use Rattle.window.specs.Flips.{flips}
 use Rattle.window.proofs.MarkLaws.{places-records, places-count}
 use Rattle.window.proofs.FlipLaws.{flips-agree}
@@ -34,12 +34,22 @@ records-held p x k ws l h =
 
 -- ---- a turn of the loop that counts the records
 
-pub records-turn : (p : ℕ → Bool) (x w : ℕ) → w < 2 ^ 64 → ((i : ℕ) → i < 64 → on w i ≡ p (x + i)) →
-    (n m : ℕ) → n ≡ 64 + m → length (recordsFrom p x n) ≡ ones w + length (recordsFrom p (x + 64) m)
-records-turn p x w f h n m e =
-    ap (λ (k : ℕ). length (recordsFrom p x k)) e ∙ ap length (recordsFrom-parts p x 64 m) ∙ length-append (recordsFrom p x 64) (recordsFrom p (x + 64) m)
-    ∙ ap (λ (k : ℕ). k + length (recordsFrom p (x + 64) m)) (ap length (sym (places-records p 64 x w h)) ∙ places-count 64 x w f)
+-- the records of the words from i on
+abbrev pub membersLeft : List ℕ → ℕ → ℕ → List ℕ
+membersLeft ws x i = recordsFrom (member ws x) (x + 64 * i) (64 * (length ws - i))
 
-pub records-none : (p : ℕ → Bool) (x : ℕ) → recordsFrom p x 0 ≡ []
+pub members-all : (ws : List ℕ) (x : ℕ) → membersLeft ws x 0 ≡ membersOf ws x
+members-all ws x = let e : length ws - 0 ≡ length ws = omega arith in let f : x + 64 * 0 ≡ x = omega arith in rw (e, f)
+
+pub members-none : (ws : List ℕ) (x i : ℕ) → length ws ≤ i → membersLeft ws x i ≡ []
 unfolding recordsFrom
-records-none p x = refl
+members-none ws x i h = let e : length ws - i ≡ 0 = omega arith in rw e
+
+pub members-turn : (ws : List ℕ) (x i : ℕ) → i < length ws → getD ws i 0 < 2 ^ 64 → length (membersLeft ws x i) ≡ ones (getD ws i 0) + length (membersLeft ws x (i + 1))
+members-turn ws x i h f =
+    let e : 64 * (length ws - i) ≡ 64 + 64 * (length ws - (i + 1)) = omega arith in
+    let z : x + 64 * i + 64 ≡ x + 64 * (i + 1) = omega arith in
+    let first : length (recordsFrom (member ws x) (x + 64 * i) 64) ≡ ones (getD ws i 0) =
+    ap length (sym (places-records (member ws x) 64 (x + 64 * i) (getD ws i 0) (λ j g. member-word ws x (x + 64 * i) i j refl g)))
+    ∙ places-count 64 (x + 64 * i) (getD ws i 0) f in
+    rw (e, recordsFrom-parts (member ws x) (x + 64 * i) 64 (64 * (length ws - (i + 1))), length-append, first, z)

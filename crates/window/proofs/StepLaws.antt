@@ -13,20 +13,18 @@ use Rattle.laws.proofs.Lists.{sets-append}
 use Rattle.list.specs.Stretches.{turned, stretches, cellsOf, recordsFrom}
 use Rattle.list.proofs.StretchLaws.{stretches-end}
 use Rattle.list.proofs.SweepLaws.{Swept, members-on, members-all, members-none}
-use Rattle.window.specs.Window.{member, Holds}
-use Rattle.window.specs.Flips.{odd, flips, before}
+use Rattle.window.specs.Window.{membersOf, Holds}
+use Rattle.window.specs.Flips.{odd, flips, windowCells, lastIn}
 use Rattle.window.proofs.FlipLaws.{stretches-past, flips-parity}
 use Rattle.window.proofs.MemberLaws.{records-held}
 use Rattle.window.proofs.SweepLaws.{part-turn, window-part, jump-part}
 use Rattle.window.specs.Steps.{PutCells, Constant, Stepped}
 
--- ---- cells put behind those that are done
+-- ---- no cell put behind those that are done
 
-pub put-wrote : (vs : List ℕ) (k : ℕ) (writing : Bool) (out out′ : List ℕ) (r : ℕ) → writing ≡ true → out′ ≡ sets out k vs → r ≡ k + length vs → PutCells vs k writing out out′ r
-put-wrote vs k writing out out′ r w e c = record { count = c; written = rw w e }
-
-pub put-counted : (vs : List ℕ) (k : ℕ) (writing : Bool) (out : List ℕ) (r : ℕ) → writing ≡ false → r ≡ k + length vs → PutCells vs k writing out out r
-put-counted vs k writing out r w c = record { count = c; written = rw w }
+pub put-none : (k : ℕ) (writing : Bool) (out : List ℕ) → PutCells [] k writing out out k
+put-none k true out = record { count = omega arith; written = refl }
+put-none k false out = record { count = omega arith; written = refl }
 
 -- ---- a jump and a window as steps
 
@@ -34,30 +32,26 @@ constant-records : (p : ℕ → Bool) (x y : ℕ) (v : Bool) → 1 ≤ x → x <
 constant-records p x y true h g c = omega (arith, members-on p x y h (omega arith), members-all p x y h (omega arith) c)
 constant-records p x y false h g c = omega (arith, members-on p x y h (omega arith), members-none p x y h (omega arith) c)
 
-pub stepped-jump : (p : ℕ → Bool) (v : Bool) (x y k recs : ℕ) (writing : Bool) (out out′ : List ℕ) (k′ recs′ : ℕ) → 1 ≤ x → x < y → Constant p x y v →
+-- a step whose cells are vs, and whose records are those of p
+stepped : {p : ℕ → Bool} {x m k recs : ℕ} {writing : Bool} {vs out out′ : List ℕ} {k′ recs′ : ℕ} → vs ≡ flips p (odd k) x m →
+    PutCells vs k writing out out′ k′ → recs′ ≡ recs + length (recordsFrom p x m) → Stepped p x m writing k recs out out′ k′ recs′
+stepped j put e = let here = rw j at put in record { cells = here .count; records = e; written = here .written }
+
+pub stepped-jump : {p : ℕ → Bool} {v : Bool} {x y k recs : ℕ} {writing : Bool} {out out′ : List ℕ} {k′ recs′ : ℕ} → 1 ≤ x → x < y → Constant p x y v →
     PutCells (turned (odd k) v x []) k writing out out′ k′ → recs′ ≡ recs + cond v (y - x) 0 → Stepped p x (y - x) writing k recs out out′ k′ recs′
-stepped-jump p v x y k recs writing out out′ k′ recs′ h g c put e =
-    let j : turned (odd k) v x [] ≡ flips p (odd k) x (y - x) = jump-part p v x k (y - x) (omega arith) (λ i l. c (x + i) (omega arith) (omega arith)) in
-    record {
-      cells = put .count ∙ ap (λ (vs : List ℕ). k + length vs) j;
-      records = e ∙ ap (λ (m : ℕ). recs + m) (sym (constant-records p x y v h g c));
-      written = put .written ∙ ap (λ (vs : List ℕ). cond writing (sets out k vs) out) j;
-    }
+stepped-jump {p} {v} {x} {y} {k} {recs} h g c put e =
+    stepped (jump-part p v x k (y - x) (omega arith) (λ i l. c (x + i) (omega arith) (omega arith))) put
+    (e ∙ ap (λ (m : ℕ). recs + m) (sym (constant-records p x y v h g c)))
 
 pub stepped-window : (p : ℕ → Bool) (x k recs : ℕ) (ws : List ℕ) (writing : Bool) (out out′ : List ℕ) (k′ recs′ : ℕ) → Holds p x ws →
-    PutCells (flips (member ws x) (odd k) x (64 * length ws)) k writing out out′ k′ → recs′ ≡ recs + length (recordsFrom (member ws x) x (64 * length ws)) →
-    Stepped p x (64 * length ws) writing k recs out out′ k′ recs′
+    PutCells (windowCells ws x k) k writing out out′ k′ → recs′ ≡ recs + length (membersOf ws x) → Stepped p x (64 * length ws) writing k recs out out′ k′ recs′
 stepped-window p x k recs ws writing out out′ k′ recs′ h put e =
-    let j = window-part p x k (64 * length ws) ws refl h in
-    record {
-      cells = put .count ∙ ap (λ (vs : List ℕ). k + length vs) j;
-      records = e ∙ ap (λ (rs : List ℕ). recs + length rs) (records-held p x (64 * length ws) ws (omega arith) h);
-      written = put .written ∙ ap (λ (vs : List ℕ). cond writing (sets out k vs) out) j;
-    }
+    stepped (window-part p x k (64 * length ws) ws refl h) put
+    (e ∙ ap (λ (rs : List ℕ). recs + length rs) (records-held p x (64 * length ws) ws (omega arith) h))
 
 -- ---- one step of a sweep
 
-before-last : (p : ℕ → Bool) (b : Bool) (x m y : ℕ) → x + m ≡ y + 1 → 1 ≤ m → before p b x m ≡ p y
+before-last : (p : ℕ → Bool) (b : Bool) (x m y : ℕ) → x + m ≡ y + 1 → 1 ≤ m → lastIn p b x m ≡ p y
 before-last p b x zero y e h = absurd (omega arith)
 before-last p b x (suc m) y e h = ap p (omega arith)
 
@@ -95,6 +89,18 @@ module _ {p : ℕ → Bool} {n : ℕ} {writing : Bool} {out₀ out : List ℕ} {
         length-sets out₀ 0 (s .done),
       )
 
+  -- and the sweep goes on behind them, from y on, where b says whether y - 1 is in
+  more-swept : (vs : List ℕ) {b : Bool} {y recs′ : ℕ} → stretches p (odd k) x (n + 1 - x) ≡ vs ++ stretches p b y (n + 1 - y) →
+      recs′ ≡ length (recordsFrom p 1 (y - 1)) → (1 ≤ y) × (y ≤ n + 1) → Swept p n writing out₀ (cond writing (sets out k vs) out) b y (k + length vs) recs′
+  more-swept vs {b} {y} e members near = record {
+    done = s .done ++ vs;
+    count = more-length vs;
+    left = s .left ∙ ap (λ (r : List ℕ). s .done ++ r) e ∙ sym (append-assoc (s .done) vs (stretches p b y (n + 1 - y)));
+    written = more-written vs;
+    members = members;
+    near = near;
+  }
+
   module _ (ends : (y : ℕ) → n < y → p y ≡ false) (m : ℕ) (some : 1 ≤ m) (xn : x ≤ n) where
     abbrev vs : List ℕ
     vs = flips p (odd k) x m
@@ -102,23 +108,19 @@ module _ {p : ℕ → Bool} {n : ℕ} {writing : Bool} {out₀ out : List ℕ} {
     abbrev next : ℕ
     next = min (x + m) (n + 1)
 
-    past-left : n + 1 < x + m → stretches p (odd k) x (n + 1 - x) ≡ vs ++ []
-    past-left h =
-        let l : n + 1 - x + (m - (n + 1 - x)) ≡ m = omega arith in
-        let o : odd (k + length vs) ≡ false = flips-parity p (odd k) x m k refl ∙ before-last p (odd k) x m (x + m - 1) (omega arith) some ∙ ends (x + m - 1) (omega arith) in
-        sym (stretches-past p (odd k) x (n + 1 - x) (m - (n + 1 - x)) (λ i g. ends (x + (n + 1 - x) + i) (omega arith)))
-        ∙ ap (stretches p (odd k) x) l
-        ∙ part-turn p x m m k (omega arith) vs refl
-        ∙ ap (λ (r : List ℕ). vs ++ r) (stretches-none p (odd (k + length vs)) (x + m) (m - m) o (omega arith))
-
+    -- where the step goes past n, nothing is left and nothing is open
     step-left : stretches p (odd k) x (n + 1 - x) ≡ vs ++ stretches p (odd (k + length vs)) next (n + 1 - next)
     step-left = leb-cases (x + m) (n + 1)
         (λ h. let e : min (x + m) (n + 1) ≡ x + m = omega arith in
         let f : n + 1 - (x + m) ≡ n + 1 - x - m = omega arith in
-        rw (e, f) (part-turn p x m (n + 1 - x) k (omega arith) vs refl))
-        (λ h. let e : min (x + m) (n + 1) ≡ n + 1 = omega arith in
+        rw (e, f) (part-turn p x m (n + 1 - x) k (omega arith)))
+        (λ h. let l : n + 1 - x + (m - (n + 1 - x)) ≡ m = omega arith in
         let o : odd (k + length vs) ≡ false = flips-parity p (odd k) x m k refl ∙ before-last p (odd k) x m (x + m - 1) (omega arith) some ∙ ends (x + m - 1) (omega arith) in
-        past-left h ∙ ap (λ (r : List ℕ). vs ++ r) (sym (stretches-none p (odd (k + length vs)) next (n + 1 - next) o (omega arith))))
+        sym (stretches-past p (odd k) x (n + 1 - x) (m - (n + 1 - x)) (λ i g. ends (x + (n + 1 - x) + i) (omega arith)))
+        ∙ ap (stretches p (odd k) x) l
+        ∙ part-turn p x m m k (omega arith)
+        ∙ ap (λ (r : List ℕ). vs ++ r)
+        (stretches-none p (odd (k + length vs)) (x + m) (m - m) o (omega arith) ∙ sym (stretches-none p (odd (k + length vs)) next (n + 1 - next) o (omega arith))))
 
     step-members : recs + length (recordsFrom p x m) ≡ length (recordsFrom p 1 (next - 1))
     step-members =
@@ -133,20 +135,8 @@ module _ {p : ℕ → Bool} {n : ℕ} {writing : Bool} {out₀ out : List ℕ} {
     pub step-room : writing ≡ true → length (cellsOf p n) ≤ length out₀ → k + length (flips p (odd k) x m) ≤ length out
     step-room w h = more-room vs (stretches p (odd (k + length vs)) next (n + 1 - next)) step-left w h
 
-    step-swept : Swept p n writing out₀ (cond writing (sets out k vs) out) (odd (k + length vs)) next (k + length vs) (recs + length (recordsFrom p x m))
-    step-swept = record {
-      done = s .done ++ vs;
-      count = more-length vs;
-      left =
-          s .left ∙ ap (λ (r : List ℕ). s .done ++ r) step-left
-          ∙ sym (append-assoc (s .done) vs (stretches p (odd (k + length vs)) next (n + 1 - next)));
-      written = more-written vs;
-      members = step-members;
-      near = (let a = s .near in omega arith, omega arith);
-    }
-
     pub swept-step : {out′ : List ℕ} {k′ recs′ : ℕ} → Stepped p x m writing k recs out out′ k′ recs′ → Swept p n writing out₀ out′ (odd k′) (min (x + m) (n + 1)) k′ recs′
-    swept-step t = rw (t .cells, t .records, t .written) step-swept
+    swept-step t = rw (t .cells, t .records, t .written) (more-swept vs step-left step-members (let a = s .near in omega arith, omega arith))
 
 -- ---- the end: a stretch that is still open ends with n
 
@@ -163,12 +153,4 @@ module _ {p : ℕ → Bool} {n : ℕ} {writing : Bool} {out₀ out : List ℕ} {
   close-room w h = more-room s last (stretches p false (n + 1) (n + 1 - (n + 1))) end-left w h
 
   pub swept-close : {out′ : List ℕ} {r : ℕ} → PutCells (turned (odd k) false (n + 1) []) k writing out out′ r → Swept p n writing out₀ out′ false (n + 1) r recs
-  swept-close put = record {
-    done = s .done ++ last;
-    count = more-length s last ∙ sym (put .count);
-    left =
-        s .left ∙ ap (λ (r : List ℕ). s .done ++ r) end-left ∙ sym (append-assoc (s .done) last (stretches p false (n + 1) (n + 1 - (n + 1))));
-    written = put .written ∙ more-written s last;
-    members = s .members;
-    near = s .near;
-  }
+  swept-close put = rw (put .count, put .written) (more-swept s last end-left (s .members) (s .near))

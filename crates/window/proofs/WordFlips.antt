@@ -8,16 +8,18 @@ use mathlib.Core.List.{List, [], _∷_, _++_}
 use mathlib.Core.Bool.{Bool, true, false, _||_, or-false}
 use lib.Bits.{bitOr, bitXor, or-lt, xor-lt}
 use lib.Count.{trailingZeros, ones, ones-le}
-use lib.ListN.{length, set, length-append}
+use lib.ListN.{length, getD, set, length-append}
 use lib.Pow.{pow-pos, shr-lt}
 use lib.Seq.{sets}
 use Rattle.laws.proofs.Lists.{sets-one, sets-append}
 use Rattle.list.specs.Stretches.{turned, consIf}
 use Rattle.window.specs.Bit.{on, set?}
-use Rattle.window.specs.Flips.{odd, flips, before, marks, cellsAt}
+use Rattle.window.specs.Window.{member}
+use Rattle.window.specs.Flips.{odd, flips, windowCells, lastIn, marks, cellsAt}
 use Rattle.window.proofs.BitLaws.{differs, on-or, on-xor, on-suc, on-zero, on-low, on-up, on-below, on-high}
-use Rattle.window.proofs.MarkLaws.{places, marks-places, cleared, marks-next, marks-none}
+use Rattle.window.proofs.MarkLaws.{places, marks-places, marks-count, cleared, marks-next, marks-none}
 use Rattle.window.proofs.FlipLaws.{flips-add, flips-parity, before-next}
+use Rattle.window.proofs.MemberLaws.{member-word}
 
 -- ---- a truth value as a digit
 
@@ -50,15 +52,22 @@ digit-small b i = rw (pow-suc 2 i) (let q = pow-pos i in let r = digit-le b in o
 abbrev pub flipped : ℕ → ℕ → ℕ
 flipped w c = bitXor w (bitOr c (w * 2 ^ 1 % 2 ^ 64))
 
-pub flipped-fits : (w c : ℕ) → w < 2 ^ 64 → c < 2 → flipped w c < 2 ^ 64
+flipped-fits : (w c : ℕ) → w < 2 ^ 64 → c < 2 → flipped w c < 2 ^ 64
 flipped-fits w c h l = xor-lt 64 w (bitOr c (w * 2 ^ 1 % 2 ^ 64)) h (or-lt 64 c (w * 2 ^ 1 % 2 ^ 64) (omega arith) (mod-lt (w * 2 ^ 1) (pow-pos 64)))
 
 -- so it has at most 64
 pub flipped-few : (w k c : ℕ) → w < 2 ^ 64 → c ≡ k % 2 → ones (flipped w c) ≤ 64
 flipped-few w k c h e = ones-le 64 (flipped w c) (flipped-fits w c h (omega arith))
 
+-- the places of a word's flips, where k cells are written
+abbrev pub flipMarks : ℕ → ℕ → List ℕ
+flipMarks w k = marks (flipped w (k % 2))
+
+pub flip-count : (w k : ℕ) → w < 2 ^ 64 → length (flipMarks w k) ≡ ones (flipped w (k % 2))
+flip-count w k h = marks-count (flipped w (k % 2)) (flipped-fits w (k % 2) h (omega arith))
+
 on-flipped : (p : ℕ → Bool) (b : Bool) (x w : ℕ) → ((i : ℕ) → i < 64 → on w i ≡ p (x + i)) →
-    (i : ℕ) → i < 64 → on (flipped w (digit b)) i ≡ differs (p (x + i)) (before p b x i)
+    (i : ℕ) → i < 64 → on (flipped w (digit b)) i ≡ differs (p (x + i)) (lastIn p b x i)
 on-flipped p b x w h zero l =
     on-xor w (bitOr (digit b) (w * 2 ^ 1 % 2 ^ 64)) 0
     ∙ ap₂ differs (h 0 l)
@@ -81,7 +90,7 @@ turn x k at true false ms r e f = rw (e, f (k + 1) (omega arith))
 turn x k at true true ms r e f = f k e
 
 cells-flips : (p : ℕ → Bool) (b : Bool) (x k d at n : ℕ) → k % 2 ≡ digit b →
-    ((i : ℕ) → i < d → on n i ≡ differs (p (x + at + i)) (before p b (x + at) i)) →
+    ((i : ℕ) → i < d → on n i ≡ differs (p (x + at + i)) (lastIn p b (x + at) i)) →
     cellsAt x k (places d at n) ≡ flips p b (x + at) d
 unfolding places flips cellsAt
 cells-flips p b x k zero at n e h = refl
@@ -101,37 +110,21 @@ cells-length x k (m ∷ ms) = ap suc (cells-length x (k + 1) ms)
 
 -- one word w of p from x on, where k cells are written
 module _ (p : ℕ → Bool) (x k w : ℕ) (h : (i : ℕ) → i < 64 → on w i ≡ p (x + i)) where
-  word-cells : cellsAt x k (marks (flipped w (k % 2))) ≡ flips p (odd k) x 64
+  word-cells : cellsAt x k (flipMarks w k) ≡ flips p (odd k) x 64
   word-cells =
       let z : x + 0 ≡ x = omega arith in
-      let g : (i : ℕ) → i < 64 → on (flipped w (k % 2)) i ≡ differs (p (x + 0 + i)) (before p (odd k) (x + 0) i) =
+      let g : (i : ℕ) → i < 64 → on (flipped w (k % 2)) i ≡ differs (p (x + 0 + i)) (lastIn p (odd k) (x + 0) i) =
       rw z (λ i l. ap (λ (c : ℕ). on (flipped w c) i) (digit-odd k) ∙ on-flipped p (odd k) x w h i l) in
       ap (cellsAt x k) (marks-places (flipped w (k % 2)))
       ∙ cells-flips p (odd k) x k 64 0 (flipped w (k % 2)) (digit-odd k) g
       ∙ ap (λ (n : ℕ). flips p (odd k) n 64) z
 
-  word-count : length (marks (flipped w (k % 2))) ≡ length (flips p (odd k) x 64)
-  word-count = sym (cells-length x k (marks (flipped w (k % 2)))) ∙ ap length word-cells
+  word-last : lastIn p (odd k) x 64 ≡ odd (k + length (flipMarks w k))
+  word-last = sym (rw (← cells-length x k (flipMarks w k), word-cells) (flips-parity p (odd k) x 64 k refl))
 
-  word-last : before p (odd k) x 64 ≡ odd (k + length (marks (flipped w (k % 2))))
-  word-last = sym (rw word-count (flips-parity p (odd k) x 64 k refl))
-
-  word-turn : (n m : ℕ) → n ≡ 64 + m → flips p (odd k) x n ≡
-      cellsAt x k (marks (flipped w (k % 2))) ++ flips p (odd (k + length (marks (flipped w (k % 2))))) (x + 64) m
-  word-turn n m e =
-      ap (flips p (odd k) x) e ∙ flips-add p (odd k) x 64 m ∙ ap₂ (λ (xs : List ℕ) (b : Bool). xs ++ flips p b (x + 64) m) (sym word-cells) word-last
-
-  -- what is left to count and to write, one word on
-  pub count-turn : (n m : ℕ) → n ≡ 64 + m → k + length (flips p (odd k) x n) ≡
-      k + length (marks (flipped w (k % 2))) + length (flips p (odd (k + length (marks (flipped w (k % 2))))) (x + 64) m)
-  count-turn n m e = rw (word-turn n m e, length-append) (let q = cells-length x k (marks (flipped w (k % 2))) in omega arith)
-
-  pub write-turn : (out : List ℕ) (n m : ℕ) → n ≡ 64 + m → sets out k (flips p (odd k) x n) ≡
-      sets (sets out k (cellsAt x k (marks (flipped w (k % 2))))) (k + length (marks (flipped w (k % 2))))
-      (flips p (odd (k + length (marks (flipped w (k % 2))))) (x + 64) m)
-  write-turn out n m e =
-      rw (word-turn n m e) (sets-append out k (cellsAt x k (marks (flipped w (k % 2)))) (flips p (odd (k + length (marks (flipped w (k % 2))))) (x + 64) m)
-      ∙ rw (cells-length x k (marks (flipped w (k % 2)))))
+  -- the cells of the numbers from x on, one word on
+  word-turn : (m : ℕ) → flips p (odd k) x (64 + m) ≡ cellsAt x k (flipMarks w k) ++ flips p (odd (k + length (flipMarks w k))) (x + 64) m
+  word-turn m = flips-add p (odd k) x 64 m ∙ ap₂ (λ (xs : List ℕ) (b : Bool). xs ++ flips p b (x + 64) m) (sym word-cells) word-last
 
 -- the top bit of a word is the carry into the next
 top-bit : (w : ℕ) → w < 2 ^ 64 → w / 2 ^ 63 ≡ digit (on w 63)
@@ -141,9 +134,42 @@ top-bit w h =
     let e : w / 2 ^ 63 % 2 ≡ w / 2 ^ 63 = omega arith in
     digit-of (w / 2 ^ 63) l ∙ sym (ap (λ (x : ℕ). digit (set? x)) e)
 
-pub word-carry : (p : ℕ → Bool) (x k w : ℕ) → ((i : ℕ) → i < 64 → on w i ≡ p (x + i)) → w < 2 ^ 64 → w / 2 ^ 63 ≡ (k + length (marks (flipped w (k % 2)))) % 2
-word-carry p x k w h f =
-    top-bit w f ∙ ap digit (h 63 (omega arith) ∙ word-last p x k w h) ∙ sym (digit-odd (k + length (marks (flipped w (k % 2)))))
+-- ---- a turn of the loops over a window's words
+
+-- the cells of the words from i on of a window whose first bit is record x, where k cells are written
+abbrev pub cellsLeft : List ℕ → ℕ → ℕ → ℕ → List ℕ
+cellsLeft ws x k i = flips (member ws x) (odd k) (x + 64 * i) (64 * (length ws - i))
+
+pub left-all : (ws : List ℕ) (x k : ℕ) → cellsLeft ws x k 0 ≡ windowCells ws x k
+left-all ws x k = let e : length ws - 0 ≡ length ws = omega arith in let f : x + 64 * 0 ≡ x = omega arith in rw (e, f)
+
+pub left-none : (ws : List ℕ) (x k i : ℕ) → length ws ≤ i → cellsLeft ws x k i ≡ []
+unfolding flips
+left-none ws x k i h = let e : length ws - i ≡ 0 = omega arith in rw e
+
+module _ (ws : List ℕ) (x k i : ℕ) (h : i < length ws) where
+  left-turn : cellsLeft ws x k i ≡ cellsAt (x + 64 * i) k (flipMarks (getD ws i 0) k) ++ cellsLeft ws x (k + length (flipMarks (getD ws i 0) k)) (i + 1)
+  left-turn =
+      let e : 64 * (length ws - i) ≡ 64 + 64 * (length ws - (i + 1)) = omega arith in
+      let z : x + 64 * i + 64 ≡ x + 64 * (i + 1) = omega arith in
+      rw e (rw z at (word-turn (member ws x) (x + 64 * i) k (getD ws i 0) (λ j g. member-word ws x (x + 64 * i) i j refl g) (64 * (length ws - (i + 1)))))
+
+  pub left-count : k + length (cellsLeft ws x k i) ≡
+      k + length (flipMarks (getD ws i 0) k) + length (cellsLeft ws x (k + length (flipMarks (getD ws i 0) k)) (i + 1))
+  left-count = rw (left-turn, length-append) (let q = cells-length (x + 64 * i) k (flipMarks (getD ws i 0) k) in omega arith)
+
+  pub left-write : (out : List ℕ) → sets out k (cellsLeft ws x k i) ≡
+      sets (sets out k (cellsAt (x + 64 * i) k (flipMarks (getD ws i 0) k))) (k + length (flipMarks (getD ws i 0) k))
+      (cellsLeft ws x (k + length (flipMarks (getD ws i 0) k)) (i + 1))
+  left-write out =
+      rw left-turn (sets-append out k (cellsAt (x + 64 * i) k (flipMarks (getD ws i 0) k)) (cellsLeft ws x (k + length (flipMarks (getD ws i 0) k)) (i + 1))
+      ∙ rw (cells-length (x + 64 * i) k (flipMarks (getD ws i 0) k)))
+
+pub left-carry : (ws : List ℕ) (k i : ℕ) → getD ws i 0 < 2 ^ 64 → getD ws i 0 / 2 ^ 63 ≡ (k + length (flipMarks (getD ws i 0) k)) % 2
+left-carry ws k i f =
+    let word : (j : ℕ) → j < 64 → on (getD ws i 0) j ≡ member ws 0 (64 * i + j) = λ j g. member-word ws 0 (64 * i) i j (omega arith) g in
+    top-bit (getD ws i 0) f ∙ ap digit (word 63 (omega arith) ∙ word-last (member ws 0) (64 * i) k (getD ws i 0) word)
+    ∙ sym (digit-odd (k + length (flipMarks (getD ws i 0) k)))
 
 -- ---- a turn of the loop that writes one word's cells
 

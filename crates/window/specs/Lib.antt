@@ -3,3 +3,4 @@ pub mod Window
 pub mod Filled
 pub mod Flips
 pub mod Steps
+pub mod Tuning

@@ -1,12 +1,16 @@
 -- One step over the records from x on, for any test: its cells are counted, or written.
 use Prim.Native.Nat.{ℕ, _+_, _≤_, _<_}
 use mathlib.Core.Path.{_≡_}
-use mathlib.Core.Bool.{Bool, cond}
+use mathlib.Core.Bool.{Bool, true, cond}
 use mathlib.Core.List.{List}
 use lib.ListN.{length}
 use lib.Seq.{sets}
 use Rattle.list.specs.Stretches.{recordsFrom}
 use Rattle.window.specs.Flips.{odd, flips}
+
+-- where the list is written, the cells vs have room behind the first k
+abbrev pub RoomFor : Bool → List ℕ → ℕ → List ℕ → Type 0
+RoomFor writing vs k out = writing ≡ true → k + length vs ≤ length out
 
 -- the cells vs behind the first k: they are counted, and where the list is written, written
 pub record PutCells (vs : List ℕ) (k : ℕ) (writing : Bool) (out out′ : List ℕ) (k′ : ℕ) : Type 0 where

@@ -4,6 +4,7 @@ use Prim.Native.Nat.{ℕ, _+_, _-_, _*_, _/_, _%_, _<_}
 use mathlib.Core.List.{List}
 use mathlib.Core.Bool.{Bool, not, _&&_}
 use lib.ListN.{length, getD}
+use Rattle.list.specs.Stretches.{recordsFrom}
 use Rattle.window.specs.Bit.{on}
 
 -- bit n of the words
@@ -14,9 +15,17 @@ bitAt ws n = on (getD ws (n / 64) 0) (n % 64)
 unfoldable pub member : List ℕ → ℕ → ℕ → Bool
 member ws x n = bitAt ws (n - x)
 
+-- the records of a window whose first bit is record x
+abbrev pub membersOf : List ℕ → ℕ → List ℕ
+membersOf ws x = recordsFrom (member ws x) x (64 * length ws)
+
 -- a window whose first bit is record x says of each of its records what p says
 pub record Holds (p : ℕ → Bool) (x : ℕ) (ws : List ℕ) : Type 0 where
   pub each : (n : ℕ) → n < 64 * length ws → bitAt ws n ≡ p (x + n)
+
+-- each bit of the word u is f of the bits of v and w
+abbrev pub CombinedWord : (Bool → Bool → Bool) → ℕ → ℕ → ℕ → Type 0
+CombinedWord f v w u = (i : ℕ) → on u i ≡ f (on v i) (on w i)
 
 -- each bit of zs is f of the bits of xs and ys
 pub record Combined (f : Bool → Bool → Bool) (xs ys zs : List ℕ) : Type 0 where

@@ -15,7 +15,8 @@ pub fn set_bit(ws: &mut [u64], a: u32)
 
 // Sets the bits from a to b, both of them too.
 pub fn fill_range(ws: &mut [u64], a: u32, b: u32)
-    requires { ⌜ (a ≤ b) × (b < 64 * length (now ws)) ⌝ }
+    requires order { ⌜ a ≤ b ⌝ }
+    requires within { ⌜ b < 64 * length (now ws) ⌝ }
     ensures { λ _. ⌜ Filled (now (ws .entry)) a (b + 1) (now (ws .exit)) ⌝ }
 {
     let i = (a / 64) as usize;

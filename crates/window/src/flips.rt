@@ -3,16 +3,15 @@ ghost use mathlib.Core.Path.{_≡_};
 ghost use Prim.Native.Nat.{ℕ, _+_, _*_, _^_, _<_, _≤_};
 ghost use lib.ListN.{length};
 ghost use lib.Seq.{sets};
-ghost use mathlib.Core.List.{[]};
-ghost use Rattle.list.specs.Stretches.{turned};
-ghost use Rattle.window.specs.Window.{member};
-ghost use Rattle.window.specs.Flips.{odd, flips, marks, cellsAt};
+ghost use mathlib.Core.Bool.{true};
+ghost use Rattle.window.specs.Flips.{windowCells, marks, cellsAt};
+ghost use Rattle.window.specs.Steps.{PutCells};
 
 // How many cells there are with those of a window, whose first bit is any record base, where k0 come before it. The carry from w >> 63 lets
 // the loop run on vectors, which one from k % 2 would not.
 pub fn count_flips(ws: &[u64], k0: usize) -> usize
     requires { ⌜ k0 + 64 * length (now ws) < 2 ^ 64 ⌝ }
-    ensures { λ r. ⌜ ((base : ℕ) → r ≡ k0 + length (flips (member (now (ws .entry)) base) (odd k0) base (64 * length (now (ws .entry))))) ⌝ }
+    ensures { λ r. ⌜ ((base : ℕ) → r ≡ k0 + length (windowCells (now (ws .entry)) base k0)) ⌝ }
 {
     let mut k = k0;
     let mut c = (k0 % 2) as u64;
@@ -28,8 +27,11 @@ pub fn count_flips(ws: &[u64], k0: usize) -> usize
 
 // Writes the cells of the flips that x0 marks in the word whose first bit is record base, from cell k0 on.
 fn write_marks(x0: u64, base: u32, k0: usize, out: &mut [u32]) -> usize
-    requires { ⌜ (1 ≤ base) × (base + 64 < 2 ^ 32) × (k0 + length (marks x0) ≤ length (now out)) ⌝ }
-    ensures { λ r. ⌜ (now (out .exit) ≡ sets (now (out .entry)) k0 (cellsAt base k0 (marks x0))) × (r ≡ k0 + length (marks x0)) ⌝ }
+    requires begun { ⌜ 1 ≤ base ⌝ }
+    requires fits { ⌜ base + 64 < 2 ^ 32 ⌝ }
+    requires room { ⌜ k0 + length (marks x0) ≤ length (now out) ⌝ }
+    ensures writes { λ _. ⌜ now (out .exit) ≡ sets (now (out .entry)) k0 (cellsAt base k0 (marks x0)) ⌝ }
+    ensures counts { λ r. ⌜ r ≡ k0 + length (marks x0) ⌝ }
 {
     let mut x = x0;
     let mut k = k0;
@@ -44,8 +46,10 @@ fn write_marks(x0: u64, base: u32, k0: usize, out: &mut [u32]) -> usize
 
 // Writes the cells of a window, whose first bit is record base, from cell k0 on, and answers how many there are then.
 pub fn write_flips(ws: &[u64], base: u32, k0: usize, out: &mut [u32]) -> usize
-    requires { ⌜ (1 ≤ base) × (base + 64 * length (now ws) < 2 ^ 32) × (k0 + length (flips (member (now ws) base) (odd k0) base (64 * length (now ws))) ≤ length (now out)) ⌝ }
-    ensures { λ r. ⌜ (now (out .exit) ≡ sets (now (out .entry)) k0 (flips (member (now (ws .entry)) base) (odd k0) base (64 * length (now (ws .entry))))) × (r ≡ k0 + length (flips (member (now (ws .entry)) base) (odd k0) base (64 * length (now (ws .entry))))) ⌝ }
+    requires begun { ⌜ 1 ≤ base ⌝ }
+    requires fits { ⌜ base + 64 * length (now ws) < 2 ^ 32 ⌝ }
+    requires room { ⌜ k0 + length (windowCells (now ws) base k0) ≤ length (now out) ⌝ }
+    ensures { λ r. ⌜ PutCells (windowCells (now (ws .entry)) base k0) k0 true (now (out .entry)) (now (out .exit)) r ⌝ }
 {
     let mut k = k0;
     let mut at = base;
@@ -58,24 +62,4 @@ pub fn write_flips(ws: &[u64], base: u32, k0: usize, out: &mut [u32]) -> usize
         i += 1;
     }
     k
-}
-
-// Writes the cell that x brings, if any, where the records from x on are all in or all out, and answers how many there are then.
-pub fn write_turn(inside: bool, x: u32, k: usize, out: &mut [u32]) -> usize
-    requires { ⌜ (1 ≤ x) × (k + length (turned (odd k) inside x []) ≤ length (now out)) ⌝ }
-    ensures { λ r. ⌜ (now (out .exit) ≡ sets (now (out .entry)) k (turned (odd k) inside x [])) × (r ≡ k + length (turned (odd k) inside x [])) ⌝ }
-{
-    let open = k % 2;
-    if inside {
-        if open == 1 {
-            return k;
-        }
-        out[k] = x;
-        return k + 1;
-    }
-    if open == 0 {
-        return k;
-    }
-    out[k] = x - 1;
-    k + 1
 }

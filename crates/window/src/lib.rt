@@ -1,7 +1,7 @@
 // Sets of records by windows: 8,192 records at a time, as bits in words of 64.
 
-pub mod combine;
 pub mod fill;
 pub mod flips;
 pub mod members;
 pub mod steps;
+pub mod tuning;

@@ -10,6 +10,7 @@ use lib.ListN.{length, getD, drop}
 use borrow.Author.Tests.{eqb-true, eqb-false, ltb-true, ltb-false, lt-ltb, le-ltb, eq-eqb, ne-eqb, le-leb, lt-leb}
 use Rattle.laws.proofs.Tests.{true-false, and-both, both-and, or-either, by-test}
 use Rattle.laws.proofs.Lists.{drop-next, drop-none}
+use Rattle.limits.specs.Limits.{wordMax}
 use Rattle.word.specs.declared.Operator.{Operator}
 use Rattle.word.specs.declared.Operator.the-variants.{And, Or, Not, Neither}
 use Rattle.word.specs.declared.Order.{Order}
@@ -138,15 +139,15 @@ same-three (x ∷ y ∷ []) a b c h = absurd (omega arith)
 same-three (x ∷ y ∷ z ∷ []) a b c h = and-three (eqb x a) (eqb y b) (eqb z c)
 same-three (x ∷ y ∷ z ∷ u ∷ r) a b c h = absurd (omega arith)
 
-pub operator-two : (w : List ℕ) → length w ≡ 2 → operatorOf w ≡ cond (eqb (getD w 0 0) 111 && eqb (getD w 1 0) 114) Or Neither
+pub operator-two : (w : List ℕ) → length w ≡ 2 → (t : Bool) → eqb (getD w 0 0) 111 && eqb (getD w 1 0) 114 ≡ t → operatorOf w ≡ cond t Or Neither
 unfolding operatorOf isAnd isOr isNot
-operator-two w h =
-    rw (differ-length w (97 ∷ 110 ∷ 100 ∷ []) (λ e. omega arith), differ-length w (110 ∷ 111 ∷ 116 ∷ []) (λ e. omega arith), same-two w 111 114 h)
+operator-two w h t e =
+    rw (differ-length w (97 ∷ 110 ∷ 100 ∷ []) (λ e. omega arith), differ-length w (110 ∷ 111 ∷ 116 ∷ []) (λ e. omega arith), same-two w 111 114 h, e)
 
-pub operator-three : (w : List ℕ) → length w ≡ 3 → operatorOf w
-    ≡ cond (eqb (getD w 0 0) 97 && eqb (getD w 1 0) 110 && eqb (getD w 2 0) 100) And (cond (eqb (getD w 0 0) 110 && eqb (getD w 1 0) 111 && eqb (getD w 2 0) 116) Not Neither)
+pub operator-three : (w : List ℕ) → length w ≡ 3 → (s t : Bool) → eqb (getD w 0 0) 97 && eqb (getD w 1 0) 110 && eqb (getD w 2 0) 100 ≡ s →
+    eqb (getD w 0 0) 110 && eqb (getD w 1 0) 111 && eqb (getD w 2 0) 116 ≡ t → operatorOf w ≡ cond s And (cond t Not Neither)
 unfolding operatorOf isAnd isOr isNot
-operator-three w h = rw (differ-length w (111 ∷ 114 ∷ []) (λ e. omega arith), same-three w 97 110 100 h, same-three w 110 111 116 h)
+operator-three w h s t d e = rw (differ-length w (111 ∷ 114 ∷ []) (λ e. omega arith), same-three w 97 110 100 h, same-three w 110 111 116 h, d, e)
 
 pub operator-other : (w : List ℕ) → (length w ≡ 2 → ⊥) → (length w ≡ 3 → ⊥) → operatorOf w ≡ Neither
 unfolding operatorOf isAnd isOr isNot
@@ -210,15 +211,7 @@ order-is-same a b h = same-equal a b (go (same a b) (before a b) h)
     go false true e = absurd (let z : _≡_ {A = ℕ} 0 1 = cc in omega arith)
     go false false e = absurd (let z : _≡_ {A = ℕ} 0 1 = cc in omega arith)
 
-pub order-is-before : (a b : List ℕ) → orderOf a b ≡ Before → before a b ≡ true
-unfolding orderOf
-order-is-before a b h = go (same a b) (before a b) h
-  where
-    go : (s t : Bool) → cond s Same (cond t Before Behind) ≡ Before → t ≡ true
-    go true t e = absurd (let z : _≡_ {A = ℕ} 0 1 = cc in omega arith)
-    go false true e = refl
-    go false false e = absurd (let z : _≡_ {A = ℕ} 0 1 = cc in omega arith)
-
+-- cited by nothing: it pins that the one answer left says the order the other way round
 pub order-is-behind : (a b : List ℕ) → orderOf a b ≡ Behind → before b a ≡ true
 unfolding orderOf
 order-is-behind a b h = go (same a b) (before a b) (before b a) h (before-total a b)
@@ -229,20 +222,15 @@ order-is-behind a b h = go (same a b) (before a b) (before b a) h (before-total 
     go false false u e f = f
 
 -- what an answer excludes
-pub order-same-not : (a b : List ℕ) → orderOf a b ≡ Same → before a b ≡ false
-order-same-not a b e = let q : a ≡ b = order-is-same a b e in rw q (before-irreflexive b)
-
-pub order-behind-not : (a b : List ℕ) → orderOf a b ≡ Behind → before a b ≡ false
-order-behind-not a b e =
-    by-test (before a b)
-    (λ t. true-false (sym (before-transitive a b a t (order-is-behind a b e)) ∙ before-irreflexive a))
-    (λ t. t)
+equal-order : (a b : List ℕ) → a ≡ b → orderOf a b ≡ Same
+unfolding orderOf
+equal-order a b e = rw (e, same-self b)
 
 pub order-before-differ : (a b : List ℕ) → orderOf a b ≡ Before → a ≡ b → ⊥
-order-before-differ a b o e = let t : before b b ≡ true = rw e at (order-is-before a b o) in true-false (sym t ∙ before-irreflexive b)
+order-before-differ a b o e = let z : _≡_ {A = ℕ} 0 1 = cc (equal-order a b e) in omega arith
 
 pub order-behind-differ : (a b : List ℕ) → orderOf a b ≡ Behind → a ≡ b → ⊥
-order-behind-differ a b o e = let t : before b b ≡ true = rw e at (order-is-behind a b o) in true-false (sym t ∙ before-irreflexive b)
+order-behind-differ a b o e = let z : _≡_ {A = ℕ} 0 1 = cc (equal-order a b e) in omega arith
 
 -- whether an answer is that the first stands before the second
 abbrev pub ascends : Order → Bool
@@ -266,14 +254,14 @@ pub word-short : (w : List ℕ) → length w < 1 → isWord w ≡ false
 unfolding isWord
 word-short w h = rw (lt-leb 1 (length w) h)
 
-pub word-long : (w : List ℕ) → 32 < length w → isWord w ≡ false
+pub word-long : (w : List ℕ) → wordMax < length w → isWord w ≡ false
 unfolding isWord
-word-long w h = rw (le-leb 1 (length w) (omega arith), lt-leb (length w) 32 h)
+word-long w h = rw (le-leb 1 (length w) (omega arith), lt-leb (length w) wordMax h)
 
-pub word-bytes-fail : (w : List ℕ) → 1 ≤ length w → length w ≤ 32 → allWordBytes w ≡ false → isWord w ≡ false
+pub word-bytes-fail : (w : List ℕ) → 1 ≤ length w → length w ≤ wordMax → allWordBytes w ≡ false → isWord w ≡ false
 unfolding isWord
-word-bytes-fail w h k e = rw (le-leb 1 (length w) h, le-leb (length w) 32 k, e)
+word-bytes-fail w h k e = rw (le-leb 1 (length w) h, le-leb (length w) wordMax k, e)
 
-pub word-else : (w : List ℕ) → 1 ≤ length w → length w ≤ 32 → allWordBytes w ≡ true → isWord w ≡ not (isOperator w)
+pub word-else : (w : List ℕ) → 1 ≤ length w → length w ≤ wordMax → allWordBytes w ≡ true → isWord w ≡ not (isOperator w)
 unfolding isWord
-word-else w h k e = rw (le-leb 1 (length w) h, le-leb (length w) 32 k, e)
+word-else w h k e = rw (le-leb 1 (length w) h, le-leb (length w) wordMax k, e)

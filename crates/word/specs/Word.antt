@@ -4,6 +4,7 @@ use mathlib.Core.Bool.{Bool, true, false, not, cond, _&&_, _||_}
 use mathlib.Core.List.{List, [], _∷_}
 use lib.Dec.{eqb, leb, ltb}
 use lib.ListN.{length}
+use Rattle.limits.specs.Limits.{wordMax}
 use Rattle.word.specs.declared.Operator.{Operator}
 use Rattle.word.specs.declared.Operator.the-variants.{And, Or, Not, Neither}
 use Rattle.word.specs.declared.Order.{Order}
@@ -49,7 +50,7 @@ isOperator w = isAnd w || isOr w || isNot w
 
 -- Reference 2: whether the bytes are a word; how it stands to others is no part of that
 unfoldable pub isWord : List ℕ → Bool
-isWord w = between 1 32 (length w) && allWordBytes w && not (isOperator w)
+isWord w = between 1 wordMax (length w) && allWordBytes w && not (isOperator w)
 
 -- Reference 6.1: which operator a run is, if any
 unfoldable pub operatorOf : List ℕ → Operator

@@ -12,6 +12,7 @@ ghost use Rattle.word.specs.Word.{
   orderOf,
 };
 ghost use Rattle.word.specs.declared.Order.the-variants.{Before, Behind};
+use limits::WORD_MAX;
 
 // Which of the operators some word bytes are, if any.
 pub enum Operator {
@@ -87,7 +88,7 @@ pub fn is_word(s: &[u8]) -> bool
     if s.len() < 1 {
         return false;
     }
-    if s.len() > 32 {
+    if s.len() > WORD_MAX {
         return false;
     }
     if !word_bytes(s) {

@@ -14,37 +14,16 @@ Inv-loop index checked input cells₀ out₀ number₀ from₀ cells out number 
 abbrev μ-loop : tie.MeasureT-loop
 μ-loop index checked input cells₀ out₀ number₀ from₀ cells out number from = length input - from
 
-loop-holds : tie.Need-loop-holds Inv-loop μ-loop
-loop-holds c = (omega arith, omega arith, refl, refl)
-
 write-answer-requires : tie.Need-write-answer-requires Inv-loop μ-loop
 write-answer-requires c κs =
     let turn = c .before .before .before .before .before in
-    (turn .before .before .before .before .before .pre .0, omega arith, omega arith)
-
-slice-aggregate-write-whole : tie.Need-slice-aggregate-write-whole Inv-loop μ-loop
-slice-aggregate-write-whole c = c .before .before .before .before .before .write-answer .ensures .1 .1
-
-same-length : tie.Need-same-length Inv-loop μ-loop
-same-length c = omega arith
-
-same-length-2 : tie.Need-same-length-2 Inv-loop μ-loop
-same-length-2 c = omega arith
-
-loop-again : tie.Need-loop-again Inv-loop μ-loop
-loop-again c = (omega arith, omega arith, omega arith, omega arith)
-
-same-length-3 : tie.Need-same-length-3 Inv-loop μ-loop
-same-length-3 c = c .before .loop .inv .2
-
-same-length-4 : tie.Need-same-length-4 Inv-loop μ-loop
-same-length-4 c = c .before .loop .inv .3
+    (turn .before .before .before .before .before .pre .0, (omega arith, omega arith))
 
 pub answer-lines-spec : {M : Type 1} → statement M
 answer-lines-spec =
     tie.close
     (tie.spec
-    Inv-loop μ-loop loop-holds (λ c κs. search needs) (λ c. search needs) (λ c. search needs) (λ c. search needs)
-    write-answer-requires (λ c. search needs) slice-aggregate-write-whole (λ c κs. search needs) same-length
-    same-length-2 (λ c. search needs) (λ c. search needs) (λ c. search needs) (λ c. search needs) loop-again
-    same-length-3 same-length-4 (λ c. search needs))
+    Inv-loop μ-loop (λ c. (omega arith, omega arith, refl, refl)) (λ c κs. search needs) (λ c. search needs) (λ c. search needs) (λ c. search needs)
+    write-answer-requires (λ c. search needs) (λ c. c .before .before .before .before .before .write-answer .ensures .1 .1) (λ c κs. search needs)
+    (λ c. omega arith) (λ c. omega arith) (λ c. search needs) (λ c. search needs) (λ c. search needs) (λ c. search needs)
+    (λ c. (omega arith, omega arith, omega arith, omega arith)) (λ c. c .before .loop .inv .2) (λ c. c .before .loop .inv .3) (λ c. search needs))

@@ -1,97 +1,62 @@
 -- Each turn adds one single; they ascend, so all before `from` lie below the window and all from the first behind it on lie behind it.
-use Prim.Native.Nat.{ℕ, _-_, _≤_, _<_}
+use Prim.Native.Nat.{_-_, _≤_, _<_}
 use native.Mathlib.Omega.{arith}
-use mathlib.Core.List.{List}
-use lib.ListN.{length, getD}
+use lib.ListN.{length}
 use borrow.Author.Needs.{needs}
 use Rattle.list.specs.Cell.{numbersIn}
-use Rattle.list.specs.Seek.{countBelow}
+use Rattle.list.specs.Among.{among}
 use Rattle.list.proofs.CellLaws.{numbersIn-length}
-use Rattle.list.proofs.SeekLaws.{count-length, count-ahead}
-use Rattle.fill.proofs.FillingLaws.{SinglesFilling, singles-start, singles-step, singles-done, singles-past}
+use Rattle.fill.proofs.FillingLaws.{singles-side, SideFilling, side-start, side-order, side-step, side-done, side-past}
 use Rattle.fill.proofs.fill_singles.Statement.{statement}
 use Rattle.fill.proofs.fill_singles.Tie as tie
 
 abbrev Inv-loop : tie.InvT-loop
-Inv-loop singles base ws₀ end count p₀ ws p =
-    (p .0 ≤ length (numbersIn singles)) × (countBelow base (numbersIn singles) ≤ p .0) × SinglesFilling (numbersIn singles) base ws₀ (p .0) ws
+Inv-loop singles base ws₀ end count p₀ ws p = SideFilling (among (numbersIn singles)) (numbersIn singles) (numbersIn singles) base ws₀ (p .0) ws
 
 abbrev μ-loop : tie.MeasureT-loop
 μ-loop singles base ws₀ end count p₀ ws p = count - p .0
 
-loop-holds : tie.Need-loop-holds Inv-loop μ-loop
-loop-holds c =
-    let st = c .before .before in
-    let S = numbersIn (st .args .singles .now) in
-    let from = st .pre .1 in
-    (omega (arith, count-length (st .args .base) S), omega arith, singles-start S (st .pre .0) (st .args .base) (st .args .ws .now) (st .args .ws .now) (st .args .from .0) from)
+abbrev Loop : Type 0
+Loop = tie.At-loop Inv-loop μ-loop
 
-number-at-requires : tie.Need-number-at-requires Inv-loop μ-loop
-number-at-requires c κs =
-    let long = numbersIn-length (c .before .before .before .before .before .args .singles .now) in
-    let test = c .if1 .taken in
-    omega arith
+abbrev begun : Loop → tie.Start Inv-loop μ-loop
+begun c = c .before .before .before
 
--- the single of a turn is one of the singles, and does not lie below base
-abbrev Ahead : List ℕ → ℕ → ℕ → ℕ → Type 0
-Ahead S p base s = (p < length S) × (base ≤ s)
+-- the single that a turn reads is one of the singles
+abbrev Read : Type 0
+Read = tie.After-number-at Inv-loop μ-loop
 
-ahead : (c : tie.After-number-at Inv-loop μ-loop) →
-    Ahead (numbersIn (c .before .before .before .before .before .before .args .singles .now)) (c .before .before .before .loop .p .0) (c .before .before .before .before .before .before .args .base) (c .number-at .result)
-ahead c =
-    let at = c .before .before .before in
-    let l = at .loop in
-    let st = at .before .before .before in
-    let S = numbersIn (st .args .singles .now) in
-    let long = numbersIn-length (st .args .singles .now) in
-    let test = c .before .if1 .taken in
-    let read = c .number-at .ensures in
-    let w = count-ahead 0 (st .args .base) S (st .pre .0) (l .p .0) (omega arith) (l .inv .1) in
-    (omega arith, omega arith)
+stands : (c : Read) → let l = c .before .before .before in l .loop .p .0 < length (numbersIn (begun l .args .singles .now))
+stands c = let test = c .before .if1 .taken in omega (arith, numbersIn-length (begun (c .before .before .before) .args .singles .now))
+
+-- and does not lie below base
+ahead : (c : Read) → begun (c .before .before .before) .args .base ≤ c .number-at .result
+ahead c = let l = c .before .before .before in side-order (singles-side (begun l .pre .0)) (l .loop .inv) (stands c) (c .number-at .ensures) (c .number-at .ensures) .1
 
 returns : tie.Need-returns Inv-loop μ-loop
 returns c =
-    let at = c .before .before .before .before in
-    let l = at .loop in
-    let st = at .before .before .before in
-    let a = st .args in
-    let r = c .before .number-at in
+    let l = c .before .before .before .before in
     let test = c .if2 .taken in
-    singles-past (numbersIn (a .singles .now)) (st .pre .0) (a .base) (a .ws .now) (l .ws) (l .p .0) (r .result) (ahead (c .before) .0) (r .ensures) (omega arith) (l .inv .2)
-
-set-bit-requires : tie.Need-set-bit-requires Inv-loop μ-loop
-set-bit-requires c κs =
-    let read = c .before .before in
-    let w = ahead read in
-    let f = read .before .before .before .loop .inv .2 .long in
-    omega arith
+    side-past (singles-side (begun l .pre .0)) (l .loop .inv) (c .before .number-at .ensures) (omega arith)
 
 loop-again : tie.Need-loop-again Inv-loop μ-loop
 loop-again c =
     let read = c .before .before .before .before .before .before in
-    let at = read .before .before .before in
-    let l = at .loop in
-    let st = at .before .before .before in
-    let a = st .args in
-    let r = read .number-at in
-    let w = ahead read in
-    (omega arith, omega arith, singles-step (numbersIn (a .singles .now)) (st .pre .0) (a .base) (a .ws .now) (l .ws) (l .p .0) (r .result) _ (w .0) (r .ensures) (w .1) (l .inv .2) (c .before .before .before .set-bit .ensures))
+    let l = read .before .before .before in
+    side-step (singles-side (begun l .pre .0)) (l .loop .inv) (stands read) (read .number-at .ensures) (read .number-at .ensures) (c .before .before .before .set-bit .ensures)
 
 returns-2 : tie.Need-returns-2 Inv-loop μ-loop
 returns-2 c =
-    let at = c .before .before in
-    let l = at .loop in
-    let st = at .before .before .before in
-    let a = st .args in
-    let long = numbersIn-length (a .singles .now) in
+    let l = c .before .before in
     let test = c .if1 .left in
-    singles-done (numbersIn (a .singles .now)) (st .pre .0) (a .base) (a .ws .now) (l .ws) (l .p .0) (omega arith) (l .inv .2)
+    side-done (singles-side (begun l .pre .0)) (l .loop .inv) (omega (arith, numbersIn-length (begun l .args .singles .now)))
 
 pub fill-singles-spec : {M : Type 1} → statement M
 fill-singles-spec =
     tie.close
     (tie.spec
-    Inv-loop μ-loop (λ c. search needs) (λ c. search needs) (λ c. search needs) loop-holds number-at-requires
-    (λ c. c .before .before .before .before .loop .inv .2 .long) returns
-    (λ c. let w = ahead (c .before .before) in omega arith) set-bit-requires (λ c. search needs) (λ c. search needs)
-    loop-again (λ c. c .before .before .loop .inv .2 .long) returns-2)
+    Inv-loop μ-loop (λ c. search needs) (λ c. search needs) (λ c. search needs)
+    (λ c. let start = c .before .before in side-start (singles-side (start .pre .0)) (start .pre .1 .0)) (λ c κs. let test = c .if1 .taken in omega arith)
+    (λ c. c .before .before .before .before .loop .inv .filling .long) returns (λ c. omega (arith, ahead (c .before .before)))
+    (λ c κs. omega (arith, ahead (c .before .before), c .before .before .before .before .before .loop .inv .filling .long))
+    (λ c. search needs) (λ c. search needs) loop-again (λ c. c .before .before .loop .inv .filling .long) returns-2)

@@ -9,25 +9,18 @@ use Rattle.heap.proofs.drop_least.Tie as tie
 
 replace-least-requires : tie.Need-replace-least-requires
 replace-least-requires c κs =
-    let at = c .before .before .before .before in
-    let a = at .args in
-    (search needs, search needs, heap-fewer (a .size - 1) (a .size) (now (a .heap)) (omega arith) (at .pre .1) (at .pre .2))
+    let start = c .before .before .before .before in
+    let a = start .args in
+    (search needs, (search needs, heap-fewer (a .size - 1) (a .size) (now (a .heap)) (omega arith) (start .pre .1 .0) (start .pre .1 .1)))
 
 returns : tie.Need-returns
 returns c =
-    let at = c .before .before .before .before .before .before .before in
-    let a = at .args in
-    drop-replaced (a .size) (now (a .heap)) (at .pre .0) (at .pre .1) (c .before .before .replace-least .last .0) (c .before .before .replace-least .ensures)
-
-returns-2 : tie.Need-returns-2
-returns-2 c =
-    let at = c .before .before in
-    let a = at .args in
-    drop-only (a .size) (now (a .heap)) (at .pre .0) (at .pre .1) (at .pre .2) (c .if1 .left)
+    let asked = c .before .before .before .before .before .before .before .pre in
+    drop-replaced (asked .0) (asked .1 .0) (c .before .before .replace-least .ensures)
 
 pub drop-least-spec : {M : Type 1} → statement M
 drop-least-spec =
     tie.close
     (tie.spec
     (λ c. search needs) (λ c. search needs) (λ c. search needs) replace-least-requires (λ c. search needs) returns
-    returns-2)
+    (λ c. let asked = c .before .before .pre in drop-only (asked .0) (asked .1 .0) (asked .1 .1) (c .if1 .left)))

@@ -5,8 +5,8 @@ use borrow.Author.Needs.{needs}
 use Rattle.naburain.proofs.naburain_lookup.Statement.{statement}
 use Rattle.naburain.proofs.naburain_lookup.Tie as tie
 
-returns : tie.Need-returns
-returns c = c .lookup-result .ensures ∙ ap lookupResult (c .before .look-up .ensures)
-
 pub naburain-lookup-spec : {M : Type 1} → statement M
-naburain-lookup-spec = tie.close (tie.spec (λ c κs. search needs) (λ c κs. search needs) returns)
+naburain-lookup-spec =
+    tie.close
+    (tie.spec
+    (λ c κs. search needs) (λ c κs. search needs) (λ c. c .lookup-result .ensures ∙ ap lookupResult (c .before .look-up .ensures)))

@@ -29,5 +29,5 @@ pub naburain-word-spec : {M : Type 1} → statement M
 naburain-word-spec =
     tie.close
     (tie.spec
-    (λ c κs. search needs) (λ c. search needs) sound-entry-requires (λ c. search needs) (λ c κs. search needs)
-    (λ c κs. search needs) returns returns-2)
+    (λ c κs. search needs) (λ c. search needs) sound-entry-requires (λ c. search needs) (λ c κs. search needs) (λ c κs. search needs) returns
+    returns-2)

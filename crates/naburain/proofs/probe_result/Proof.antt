@@ -3,14 +3,9 @@ use borrow.Author.Needs.{needs}
 use Rattle.naburain.proofs.probe_result.Statement.{statement}
 use Rattle.naburain.proofs.probe_result.Tie as tie
 
-returns : tie.Need-returns
-returns c = rw (c .before .answer .given .1)
-
-returns-2 : tie.Need-returns-2
-returns-2 c = rw (c .before .before .before .answer2 .given .1, c .before .number-of .ensures, c .value-of .ensures)
-
 pub probe-result-spec : {M : Type 1} → statement M
 probe-result-spec =
     tie.close
     (tie.spec
-    (λ c. search needs) (λ c. search needs) (λ c κs. search needs) (λ c κs. search needs) returns returns-2)
+    (λ c. search needs) (λ c. search needs) (λ c κs. search needs) (λ c κs. search needs) (λ c. rw (c .before .answer .given .1))
+    (λ c. rw (c .before .before .before .answer2 .given .1, c .before .number-of .ensures, c .value-of .ensures)))

@@ -1,22 +1,20 @@
 -- By the outcome of the check.
-use mathlib.Core.Path.{sym, _∙_}
+use mathlib.Core.Path.{_≡_, sym, _∙_}
 use borrow.Author.Needs.{needs}
-use denote.Ref.{now}
+use Rattle.index.specs.declared.Checked.the-variants.{Good}
+use Rattle.ask.specs.Output.{fileCheck}
 use Rattle.ask.proofs.OutputLaws.{file-sound}
 use Rattle.ask.proofs.answer.answer_line.Statement.{statement}
 use Rattle.ask.proofs.answer.answer_line.Tie as tie
 
-answer-question-requires : tie.Need-answer-question-requires
-answer-question-requires c κs =
-    let told = c .before in
-    let start = told .before .before .before .before .before in
-    file-sound (now (start .args .index)) (sym (start .pre) ∙ told .enum-told .given .1)
+-- the file is checked, and good
+good : (t : tie.After-enum-told) → fileCheck (t .before .before .before .before .before .args .index .now) ≡ Good
+good t = sym (t .before .before .before .before .before .pre) ∙ t .enum-told .given .1
 
 returns : tie.Need-returns
 returns c =
     let called = c .before .before in
-    let told = called .before .before in
-    let e = sym (told .before .before .before .before .before .pre) ∙ told .enum-told .given .1 in
+    let e = good (called .before .before) in
     record { answer = rw e (called .answer-question .ensures .answer); cells = rw e (called .answer-question .ensures .cells) }
 
 returns-2 : tie.Need-returns-2
@@ -29,4 +27,4 @@ pub answer-line-spec : {M : Type 1} → statement M
 answer-line-spec =
     tie.close
     (tie.spec
-    (λ c. search needs) answer-question-requires (λ c. search needs) (λ c. search needs) returns returns-2)
+    (λ c. search needs) (λ c κs. file-sound _ (good (c .before))) (λ c. search needs) (λ c. search needs) returns returns-2)

@@ -10,7 +10,7 @@ write-line-requires c κs =
     let called = c .before .before .before .before in
     let start = called .before .before .before .before .before .before in
     let p = called .answer-line .ensures in
-    (omega (arith, answer-within _ _ _ _ _ p), omega (arith, line-room _ _ _ _ _ p (start .args .number) (omega arith)))
+    (omega (arith, answer-within p), omega (arith, line-room p (start .args .number) (omega arith)))
 
 returns : tie.Need-returns
 returns c =
@@ -18,10 +18,7 @@ returns c =
     let called = written .before .before .before .before .before in
     let start = called .before .before .before .before .before .before in
     let w = written .write-line .ensures in
-    (rw (question-line _ _ _ _ _ (called .answer-line .ensures) (start .args .number) (start .pre .1)) at w, written-counts _ _ _ _ w)
+    (rw (question-line (called .answer-line .ensures) (start .args .number) (start .pre .1 .0)) at w, written-counts w)
 
 pub write-answer-spec : {M : Type 1} → statement M
-write-answer-spec =
-    tie.close
-    (tie.spec
-    (λ c κs. search needs) write-line-requires (λ c. search needs) (λ c. search needs) returns)
+write-answer-spec = tie.close (tie.spec (λ c κs. search needs) write-line-requires (λ c. search needs) (λ c. search needs) returns)

@@ -7,11 +7,9 @@ use mir.Facts.{toZ-ofZ}
 use Rattle.ask.proofs.transfer.is_interrupted.Statement.{statement}
 use Rattle.ask.proofs.transfer.is_interrupted.Tie as tie
 
-returns : tie.Need-returns
-returns c = λ yes. rw (toZ-ofZ (c .before .before .fits .got)) at (c .before .if1 .taken)
-
-returns-2 : tie.Need-returns-2
-returns-2 c = λ yes. absurd (let z : _≡_ {A = ℕ} 0 1 = cc in omega arith)
-
 pub is-interrupted-spec : {M : Type 1} → statement M
-is-interrupted-spec = tie.close (tie.spec (λ c κs. search needs) returns returns-2)
+is-interrupted-spec =
+    tie.close
+    (tie.spec
+    (λ c κs. search needs) (λ c yes. rw (toZ-ofZ (c .before .before .fits .got)) at (c .before .if1 .taken))
+    (λ c yes. absurd (let z : _≡_ {A = ℕ} 0 1 = cc in omega arith)))

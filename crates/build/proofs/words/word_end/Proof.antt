@@ -25,7 +25,7 @@ returns c =
     let at = c .before .before .before in
     let bytes = now (at .before .args .words) in
     let e = word-end-here bytes (at .loop .end) (c .before .before .loop-test .taken) (c .if1 .taken) in
-    (omega arith, omega arith, omega arith)
+    (omega arith, (omega arith, omega arith))
 
 loop-again : tie.Need-loop-again Inv-loop μ-loop
 loop-again c =
@@ -39,7 +39,7 @@ returns-2 c =
     let at = c .before in
     let bytes = now (at .before .args .words) in
     let e = word-end-none bytes (at .loop .end) (c .loop-test .left) in
-    (omega arith, omega arith, omega arith)
+    (omega arith, (omega arith, omega arith))
 
 pub word-end-spec : {M : Type 1} → statement M
 word-end-spec =

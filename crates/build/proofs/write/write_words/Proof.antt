@@ -1,16 +1,16 @@
 -- The invariant: what is to be written is what is left to write. Rests on one word of the pass (EnterLaws).
-use mathlib.Core.Path.{_≡_, refl, sym, ap, _∙_}
-use Prim.Native.Nat.{_-_, _+_}
+use mathlib.Core.Path.{_≡_, refl, sym, _∙_}
+use Prim.Native.Nat.{_-_, _+_, _≤_}
 use native.Mathlib.Omega.{arith}
 use mathlib.Core.List.{[]}
-use lib.ListN.{length, drop, getD, take}
+use lib.ListN.{length, drop, getD}
+use lib.Seq.{length-sets}
 use denote.Ref.{now}
 use borrow.Author.Needs.{needs}
-use Rattle.convert.specs.Convert.{intervalsOf}
 use Rattle.build.specs.Lent.{wordsFrom, lentWords, listsFrom}
 use Rattle.build.specs.Passes.{allEntered}
 use Rattle.build.proofs.ListsLaws.{list-good, list-within}
-use Rattle.build.proofs.EnterLaws.{Entering, enter-start, enter-end, word-ended, enter-within, enter-on, enter-left, entered-length}
+use Rattle.build.proofs.EnterLaws.{Entering, enter-start, enter-end, word-ended, enter-within, enter-on, enter-left}
 use Rattle.build.proofs.write.write_words.Statement.{statement}
 use Rattle.build.proofs.write.write_words.Tie as tie
 
@@ -25,129 +25,61 @@ abbrev μ-loop : tie.MeasureT-loop
 
 loop-holds : tie.Need-loop-holds Inv-loop μ-loop
 unfolding lentWords
-loop-holds c =
-    let start = c .before .before .before .before in
-    (refl, enter-start (now (start .args .words)) (now (start .args .counts)) (now (start .args .numbers)) (length (now (start .args .out))) (start .args .from) (start .pre .1) (start .pre .2), refl)
+loop-holds c = let start = c .before .before .before .before in (refl, enter-start (start .pre .1 .0) (start .pre .1 .1), refl)
 
-cast-last : tie.Need-cast-last Inv-loop μ-loop
-cast-last c = omega (arith, c .shared-slice-known4 .given (c .before .before .before .loop .i))
+-- ---- the word of the turn
 
-add-last : tie.Need-add-last Inv-loop μ-loop
-add-last c =
-    let at = c .before .before .before .loop in
-    let start = c .before .before .before .before .before .before .before .before in
-    let words = now (start .args .words) in
-    let counts = now (start .args .counts) in
-    let numbers = now (start .args .numbers) in
-    let room = length (now (start .args .out)) in
-    let within = list-within counts numbers (at .i) (at .first) (at .first + getD counts (at .i) 0) (omega arith) (at .inv .1 .number) refl (start .pre .0) in
-    omega arith
+abbrev Turn : Type 0
+Turn = tie.After-word-end Inv-loop μ-loop
 
-mul-write-word : tie.Need-mul-write-word Inv-loop μ-loop
-mul-write-word c =
-    let at = c .before .before .before .before .before .loop in
-    let start = c .before .before .before .before .before .before .before .before .before .before in
-    let words = now (start .args .words) in
-    let counts = now (start .args .counts) in
-    let numbers = now (start .args .numbers) in
-    let room = length (now (start .args .out)) in
-    let within = list-within counts numbers (at .i) (at .first) (at .first + getD counts (at .i) 0) (omega arith) (at .inv .1 .number) refl (start .pre .0) in
-    omega arith
+abbrev begin : Turn → tie.Start Inv-loop μ-loop
+begin c = c .before .before .before .before .before .before .before
 
-sub-write-word-2 : tie.Need-sub-write-word-2 Inv-loop μ-loop
-sub-write-word-2 c =
-    let at = c .before .before .before .before .before .loop in
-    let start = c .before .before .before .before .before .before .before .before .before .before in
-    let words = now (start .args .words) in
-    let counts = now (start .args .counts) in
-    let numbers = now (start .args .numbers) in
-    let room = length (now (start .args .out)) in
-    let within = list-within counts numbers (at .i) (at .first) (at .first + getD counts (at .i) 0) (omega arith) (at .inv .1 .number) refl (start .pre .0) in
-    omega arith
-
-part-write-word-start-2 : tie.Need-part-write-word-start-2 Inv-loop μ-loop
-part-write-word-start-2 c =
-    let at = c .before .before .before .before .before .loop in
-    let start = c .before .before .before .before .before .before .before .before .before .before in
-    let words = now (start .args .words) in
-    let counts = now (start .args .counts) in
-    let numbers = now (start .args .numbers) in
-    let room = length (now (start .args .out)) in
-    let within = list-within counts numbers (at .i) (at .first) (at .first + getD counts (at .i) 0) (omega arith) (at .inv .1 .number) refl (start .pre .0) in
-    omega arith
-
-part-write-word-end-2 : tie.Need-part-write-word-end-2 Inv-loop μ-loop
-part-write-word-end-2 c =
-    let at = c .before .before .before .before .before .loop in
-    let start = c .before .before .before .before .before .before .before .before .before .before in
-    let words = now (start .args .words) in
-    let counts = now (start .args .counts) in
-    let numbers = now (start .args .numbers) in
-    let room = length (now (start .args .out)) in
-    let within = list-within counts numbers (at .i) (at .first) (at .first + getD counts (at .i) 0) (omega arith) (at .inv .1 .number) refl (start .pre .0) in
-    omega arith
+-- its list lies within the numbers
+within : (c : Turn) → c .before .before .loop .first + getD (now (begin c .args .counts)) (c .before .before .loop .i) 0 ≤ length (now (begin c .args .numbers))
+within c = let at = c .before .before .loop in list-within (begin c .pre .0) (at .i) (c .before .loop-test .taken) (at .inv .1 .number) refl
 
 write-word-requires : tie.Need-write-word-requires Inv-loop μ-loop
 write-word-requires c κs =
-    let at = c .before .before .before .before .before .before .loop in
-    let start = c .before .before .before .before .before .before .before .before .before .before .before in
-    let words = now (start .args .words) in
-    let counts = now (start .args .counts) in
-    let numbers = now (start .args .numbers) in
-    let room = length (now (start .args .out)) in
-    let end = c .before .before .before .before .word-end in
-    let last = (at .first + getD counts (at .i) 0) in (
-      list-good counts numbers (at .i) (at .first) last (omega arith) (at .inv .1 .number) refl (start .pre .0),
-      rw (at .inv .0) (enter-within words counts numbers room (at .at) (at .start) (at .first) (at .i) (at .inv .1) (end .result) last (end .ensures .0) (end .ensures .2) refl (omega arith)),
-    )
+    let t = c .before .before .before .before in
+    let at = t .before .before .loop in
+    let end = t .word-end .ensures in
+    let some = t .before .loop-test .taken in
+    (list-good (begin t .pre .0) (at .i) some (at .inv .1 .number) refl, rw (at .inv .0) (enter-within (at .inv .1) (end .0) (end .1 .1) refl some))
+
+-- behind the word
+abbrev turn : tie.After-slice-known2 Inv-loop μ-loop → Turn
+turn c = c .before .before .before .before .before .before .before
 
 add-start : tie.Need-add-start Inv-loop μ-loop
 add-start c =
-    let at = c .before .before .before .before .before .before .before .before .before .loop in
-    let start = c .before .before .before .before .before .before .before .before .before .before .before .before .before .before in
-    let words = now (start .args .words) in
-    let counts = now (start .args .counts) in
-    let numbers = now (start .args .numbers) in
-    let room = length (now (start .args .out)) in
-    let end = c .before .before .before .before .before .before .before .word-end in
-    let last = (at .first + getD counts (at .i) 0) in
-    let within = word-ended words counts numbers room (at .at) (at .start) (at .first) (at .i) (at .inv .1) (end .result) last (end .ensures .0) (end .ensures .2) refl (omega arith) in
+    let t = turn c in
+    let end = t .word-end .ensures in
+    let ended = word-ended (t .before .before .loop .inv .1) (end .0) (end .1 .1) refl (t .before .loop-test .taken) in
     omega arith
 
 loop-again : tie.Need-loop-again Inv-loop μ-loop
 loop-again c =
-    let at = c .before .before .before .before .before .before .before .before .before .loop in
-    let start = c .before .before .before .before .before .before .before .before .before .before .before .before .before .before in
-    let words = now (start .args .words) in
-    let counts = now (start .args .counts) in
-    let numbers = now (start .args .numbers) in
-    let room = length (now (start .args .out)) in
-    let end = c .before .before .before .before .before .before .before .word-end in
-    let last = (at .first + getD counts (at .i) 0) in
-    let wrote = c .before .before .write-word in (
-      rw (wrote .ensures .0) (entered-length (at .out) (at .at) (take (end .result - at .start) (drop (at .start) words)) (intervalsOf (take (last - at .first) (drop (at .first) numbers))) ∙ at .inv .0),
-      rw (wrote .ensures .1) (enter-on words counts numbers room (at .at) (at .start) (at .first) (at .i) (at .inv .1) (end .result) last (end .ensures .0) (end .ensures .2) refl (omega arith)),
-      rw (wrote .ensures .0, wrote .ensures .1) (at .inv .2 ∙ enter-left words counts numbers room (at .at) (at .start) (at .first) (at .i) (at .inv .1) (end .result) last (end .ensures .0) (end .ensures .2) refl (omega arith) (at .out)),
+    let t = turn c in
+    let at = t .before .before .loop in
+    let end = t .word-end .ensures in
+    let some = t .before .loop-test .taken in
+    let wrote = c .before .before .write-word .ensures in (
+      rw (wrote .0) (simp length-sets (at .inv .0)),
+      rw (wrote .1) (enter-on (at .inv .1) (end .0) (end .1 .1) refl some),
+      rw (wrote .0, wrote .1) (at .inv .2 ∙ enter-left (at .inv .1) (end .0) (end .1 .1) refl some (at .out)),
     )
 
-same-length : tie.Need-same-length Inv-loop μ-loop
-same-length c = c .before .loop .inv .0
-
 returns : tie.Need-returns Inv-loop μ-loop
-returns c =
-    let at = c .before .loop in
-    let start = c .before .before .before .before .before .before in
-    let words = now (start .args .words) in
-    let counts = now (start .args .counts) in
-    let numbers = now (start .args .numbers) in
-    let room = length (now (start .args .out)) in
-    sym (at .inv .2 ∙ enter-end words counts numbers room (at .at) (at .start) (at .first) (at .i) (at .inv .1) (c .loop-test .left) (at .out))
+returns c = let at = c .before .loop in sym (at .inv .2 ∙ enter-end (at .inv .1) (c .loop-test .left) (at .out))
 
 pub write-words-spec : {M : Type 1} → statement M
 write-words-spec =
     tie.close
     (tie.spec
-    Inv-loop μ-loop loop-holds (λ c κs. search needs) (λ c. search needs) (λ c. search needs) cast-last add-last
-    (λ c. search needs) (λ c. search needs) (λ c. search needs) mul-write-word sub-write-word-2 part-write-word-start-2
-    part-write-word-end-2 write-word-requires add-start (λ c. search needs) (λ c. search needs) loop-again same-length
-    returns)
+    Inv-loop μ-loop loop-holds (λ c κs. search needs) (λ c. search needs) (λ c. search needs)
+    (λ c. omega (arith, c .shared-slice-known4 .given (c .before .before .before .loop .i))) (λ c. omega (arith, within (c .before)))
+    (λ c. search needs) (λ c. search needs) (λ c. search needs) (λ c. omega (arith, within (c .before .before .before)))
+    (λ c. omega (arith, within (c .before .before .before))) (λ c. omega (arith, within (c .before .before .before)))
+    (λ c. omega (arith, within (c .before .before .before))) write-word-requires add-start (λ c. search needs) (λ c. search needs)
+    loop-again (λ c. c .before .loop .inv .0) returns)

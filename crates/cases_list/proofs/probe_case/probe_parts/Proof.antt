@@ -5,13 +5,10 @@ use borrow.Author.Needs.{needs}
 use Rattle.cases_list.proofs.probe_case.probe_parts.Statement.{statement}
 use Rattle.cases_list.proofs.probe_case.probe_parts.Tie as tie
 
-probe-list-requires : tie.Need-probe-list-requires
-probe-list-requires c κs = (sym (c .before .is-kept .ensures) ∙ c .if3 .taken, omega arith, omega arith)
-
 pub probe-parts-spec : {M : Type 1} → statement M
 probe-parts-spec =
     tie.close
     (tie.spec
     (λ c. search needs) (λ c. search needs) (λ c κs. search needs)
-    probe-list-requires
-    (λ c. search needs) (λ c κs. search needs) (λ c κs. search needs) (λ c κs. search needs) (λ c. search needs) (λ c. search needs))
+    (λ c κs. (sym (c .before .is-kept .ensures) ∙ c .if3 .taken, (omega arith, omega arith))) (λ c. search needs) (λ c κs. search needs)
+    (λ c κs. search needs) (λ c κs. search needs) (λ c. search needs) (λ c. search needs))

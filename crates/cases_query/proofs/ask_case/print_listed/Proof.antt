@@ -5,14 +5,9 @@ use borrow.Author.Needs.{needs}
 use Rattle.cases_query.proofs.ask_case.print_listed.Statement.{statement}
 use Rattle.cases_query.proofs.ask_case.print_listed.Tie as tie
 
-slice-aggregate-print-intervals : tie.Need-slice-aggregate-print-intervals
-slice-aggregate-print-intervals c = simp length-take (omega arith)
-
 pub print-listed-spec : {M : Type 1} → statement M
 print-listed-spec =
     tie.close
     (tie.spec
-    (λ c. search needs)
-    slice-aggregate-print-intervals
-    (λ c κs. search needs) (λ c. search needs) (λ c. search needs) (λ c. search needs) (λ c. search needs) (λ c κs. search needs) (λ c. search needs)
-    (λ c. search needs))
+    (λ c. search needs) (λ c. simp length-take (omega arith)) (λ c κs. search needs) (λ c. search needs) (λ c. search needs) (λ c. search needs)
+    (λ c. search needs) (λ c κs. search needs) (λ c. search needs) (λ c. search needs))

@@ -2,19 +2,20 @@
 use mathlib.Core.Path.{_≡_}
 use Prim.Native.Nat.{_≤_, _-_, _+_}
 use native.Mathlib.Omega.{arith}
-use lib.ListN.{length, drop, getD}
+use lib.ListN.{length, drop}
 use denote.Ref.{now}
 use borrow.Author.Needs.{needs}
-use Rattle.list.specs.Interval.{top, records}
-use Rattle.list.proofs.ProperLaws.{ProperFrom, proper-weaker}
-use Rattle.convert.proofs.IntervalLaws.{good-proper, good-proper-from, proper-next}
+use Rattle.limits.specs.Limits.{recordMax}
+use Rattle.list.specs.Interval.{records}
+use Rattle.list.proofs.ProperLaws.{ProperFrom}
+use Rattle.convert.proofs.IntervalLaws.{Next, good-proper, good-proper-from, proper-next, next-rest}
 use Rattle.convert.proofs.SpanLaws.{records-at, records-end, records-small}
 use Rattle.convert.proofs.to_numbers.count_numbers.Statement.{statement}
 use Rattle.convert.proofs.to_numbers.count_numbers.Tie as tie
 
 abbrev Inv-loop : tie.InvT-loop
 Inv-loop cells n₀ i₀ n i =
-    (i ≤ length cells) × ProperFrom top 0 (drop i cells) × (n + records (drop i cells) ≡ records cells) × (records cells ≤ top)
+    (i ≤ length cells) × ProperFrom recordMax 0 (drop i cells) × (n + records (drop i cells) ≡ records cells) × (records cells ≤ recordMax)
 
 abbrev μ-loop : tie.MeasureT-loop
 μ-loop cells n₀ i₀ n i = length cells - i
@@ -22,41 +23,16 @@ abbrev μ-loop : tie.MeasureT-loop
 loop-holds : tie.Need-loop-holds Inv-loop μ-loop
 loop-holds c =
     let cells = now (c .args .cells) in
-    (search needs, good-proper-from cells (c .pre), omega arith, records-small top cells (good-proper cells (c .pre)))
+    (search needs, good-proper-from cells (c .pre), omega arith, records-small recordMax cells (good-proper cells (c .pre)))
 
-shared-slice-read-n : tie.Need-shared-slice-read-n Inv-loop μ-loop
-shared-slice-read-n c =
-    let at = c .before .before in
-    let w = proper-next top 0 (at .loop .i) (now (at .before .args .cells)) (omega arith) (at .loop .inv .1) in
-    omega arith
-
-sub-n : tie.Need-sub-n Inv-loop μ-loop
-sub-n c =
-    let at = c .before .before .before in
-    let w = proper-next top 0 (at .loop .i) (now (at .before .args .cells)) (omega arith) (at .loop .inv .1) in
-    omega arith
-
-add-n-2 : tie.Need-add-n-2 Inv-loop μ-loop
-add-n-2 c =
-    let at = c .before .before .before in
-    let w = proper-next top 0 (at .loop .i) (now (at .before .args .cells)) (omega arith) (at .loop .inv .1) in
-    omega arith
-
-add-n-3 : tie.Need-add-n-3 Inv-loop μ-loop
-add-n-3 c =
-    let at = c .before .before .before in
-    let cells = now (at .before .args .cells) in
-    let w = proper-next top 0 (at .loop .i) cells (omega arith) (at .loop .inv .1) in
-    omega (arith, records-at cells (at .loop .i) (w .whole))
+-- the interval of the turn
+next : (c : tie.In-loop Inv-loop μ-loop) → Next recordMax 0 (c .before .loop .i) (now (c .before .before .args .cells))
+next c = proper-next (omega arith) (c .before .loop .inv .1)
 
 loop-again : tie.Need-loop-again Inv-loop μ-loop
 loop-again c =
-    let at = c .before .before .before in
-    let cells = now (at .before .args .cells) in
-    let i = at .loop .i in
-    let w = proper-next top 0 i cells (omega arith) (at .loop .inv .1) in
-    let more = proper-weaker top top 0 (getD cells (i + 1) 0 + 2) (drop (i + 2) cells) (omega arith) (omega arith) (w .rest) in
-    (omega arith, more, omega (arith, records-at cells i (w .whole)), at .loop .inv .3)
+    let w = next (c .before .before) in
+    (omega arith, next-rest w, omega (arith, records-at w), c .before .before .before .loop .inv .3)
 
 returns : tie.Need-returns Inv-loop μ-loop
 returns c =
@@ -67,6 +43,7 @@ pub count-numbers-spec : {M : Type 1} → statement M
 count-numbers-spec =
     tie.close
     (tie.spec
-    Inv-loop μ-loop loop-holds (λ c. search needs) (λ c. search needs) shared-slice-read-n (λ c. search needs)
-    (λ c. search needs) sub-n add-n-2 add-n-3 (λ c. search needs) (λ c. search needs) loop-again (λ c. search needs)
-    returns)
+    Inv-loop μ-loop loop-holds (λ c. search needs) (λ c. search needs) (λ c. omega (arith, next (c .before) .whole)) (λ c. search needs)
+    (λ c. search needs) (λ c. omega (arith, next (c .before .before) .forward)) (λ c. omega (arith, next (c .before .before) .within))
+    (λ c. let w = next (c .before .before) in omega (arith, records-at w)) (λ c. search needs) (λ c. search needs) loop-again
+    (λ c. search needs) returns)

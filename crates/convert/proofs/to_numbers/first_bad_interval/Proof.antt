@@ -1,7 +1,9 @@
 -- The invariant: the first bad interval is the first from place i on. Rests on how a search goes on (FirstLaws) and when an interval is bad (IntervalLaws).
 use mathlib.Core.Path.{_≡_, refl, sym, ap, _∙_}
-use Prim.Native.Nat.{_≤_, _-_, _+_, _/_}
+use Prim.Native.Nat.{ℕ, _≤_, _-_, _+_, _/_}
 use native.Mathlib.Omega.{arith}
+use mathlib.Core.Bool.{true}
+use mathlib.Core.List.{List}
 use lib.ListN.{length}
 use denote.Ref.{now}
 use borrow.Author.Needs.{needs}
@@ -9,7 +11,7 @@ use Rattle.refusal.specs.declared.Found.the-variants.{At}
 use Rattle.refusal.specs.First.{firstFrom}
 use Rattle.refusal.proofs.FirstLaws.{first-start, first-hit, first-miss, first-end}
 use Rattle.convert.specs.Convert.{leastLower, badInterval, badIntervalOf}
-use Rattle.convert.proofs.IntervalLaws.{bad-interval-cut, bad-interval-low, bad-interval-backward, bad-interval-high, good-interval, least-lower-next}
+use Rattle.convert.proofs.IntervalLaws.{Tested, bad-interval-cut, bad-interval-low, bad-interval-backward, bad-interval-high, good-interval, least-lower-next}
 use Rattle.convert.proofs.to_numbers.first_bad_interval.Statement.{statement}
 use Rattle.convert.proofs.to_numbers.first_bad_interval.Tie as tie
 
@@ -27,37 +29,37 @@ loop-holds c =
     let cells = now (c .args .cells) in
     (search needs, refl, first-start (badInterval cells) ((length cells + 1) / 2))
 
+-- ---- the interval of the turn
+
+abbrev Turn : Type 0
+Turn = tie.In-loop Inv-loop μ-loop
+
+abbrev cells : Turn → List ℕ
+cells c = now (c .before .before .args .cells)
+
+hit : (c : Turn) → badInterval (cells c) (c .before .loop .i) ≡ true → At (c .before .loop .i) ≡ badIntervalOf (cells c)
+hit c bad = sym (c .before .loop .inv .2 ∙ first-hit (badInterval (cells c)) (c .before .loop .i) ((length (cells c) + 1) / 2) (omega arith) bad)
+
+tested : (c : Turn) → Tested (cells c) (c .before .loop .i) (c .before .loop .least)
+tested c = record { least-is = c .before .loop .inv .1; whole = omega arith }
+
 returns : tie.Need-returns Inv-loop μ-loop
-returns c =
-    let at = c .before .before .before .before in
-    let cells = now (at .before .args .cells) in
-    let i = at .loop .i in
-    let bad = bad-interval-low cells i (at .loop .least) (at .loop .inv .1) (omega arith) (c .if1 .taken) in
-    sym (at .loop .inv .2 ∙ first-hit (badInterval cells) i ((length cells + 1) / 2) (omega arith) bad)
+returns c = let t = c .before .before .before in hit t (bad-interval-low (tested t) (c .if1 .taken))
 
 returns-2 : tie.Need-returns-2 Inv-loop μ-loop
-returns-2 c =
-    let at = c .before .before .before .before .before in
-    let cells = now (at .before .args .cells) in
-    let i = at .loop .i in
-    let bad = bad-interval-backward cells i (at .loop .least) (at .loop .inv .1) (omega arith) (c .before .if1 .left) (c .if2 .taken) in
-    sym (at .loop .inv .2 ∙ first-hit (badInterval cells) i ((length cells + 1) / 2) (omega arith) bad)
+returns-2 c = let t = c .before .before .before .before in hit t (bad-interval-backward (tested t) (c .before .if1 .left) (c .if2 .taken))
 
 returns-3 : tie.Need-returns-3 Inv-loop μ-loop
 returns-3 c =
-    let at = c .before .before .before .before .before .before in
-    let cells = now (at .before .args .cells) in
-    let i = at .loop .i in
-    let bad = bad-interval-high cells i (at .loop .least) (at .loop .inv .1) (omega arith) (c .before .before .if1 .left) (c .before .if2 .left) (c .if3 .taken) in
-    sym (at .loop .inv .2 ∙ first-hit (badInterval cells) i ((length cells + 1) / 2) (omega arith) bad)
+    let t = c .before .before .before .before .before in
+    hit t (bad-interval-high (tested t) (c .before .before .if1 .left) (c .before .if2 .left) (c .if3 .taken))
 
 loop-again : tie.Need-loop-again Inv-loop μ-loop
 loop-again c =
-    let at = c .before .before .before .before .before .before in
-    let cells = now (at .before .args .cells) in
-    let i = at .loop .i in
-    let good = good-interval cells i (at .loop .least) (at .loop .inv .1) (omega arith) (c .before .before .if1 .left) (c .before .if2 .left) (c .if3 .left) in
-    (search needs, sym (least-lower-next cells i), at .loop .inv .2 ∙ first-miss (badInterval cells) i ((length cells + 1) / 2) (omega arith) good)
+    let t = c .before .before .before .before .before in
+    let i = t .before .loop .i in
+    let good = good-interval (tested t) (c .before .before .if1 .left) (c .before .if2 .left) (c .if3 .left) in
+    (search needs, sym (least-lower-next (cells t) i), t .before .loop .inv .2 ∙ first-miss (badInterval (cells t)) i ((length (cells t) + 1) / 2) (omega arith) good)
 
 returns-4 : tie.Need-returns-4 Inv-loop μ-loop
 returns-4 c =

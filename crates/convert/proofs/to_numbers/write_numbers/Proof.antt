@@ -1,6 +1,6 @@
 -- The invariant: what is to be stored from cell 0 is what is left to store from cell k. Rests on a proper list's intervals one by one (IntervalLaws, SpanLaws).
 use mathlib.Core.Path.{_≡_, refl, sym, ap, _∙_}
-use mathlib.Core.List.{List, _++_}
+use mathlib.Core.List.{List}
 use Prim.Native.Nat.{ℕ, _≤_, _-_, _+_}
 use native.Mathlib.Omega.{arith}
 use lib.ListN.{length, drop, getD}
@@ -8,9 +8,11 @@ use lib.Seq.{sets, length-sets}
 use denote.Ref.{now}
 use borrow.Author.Needs.{needs}
 use Rattle.laws.proofs.Lists.{sets-front}
-use Rattle.list.specs.Interval.{top, records}
-use Rattle.list.proofs.ProperLaws.{ProperFrom, proper-weaker}
-use Rattle.convert.proofs.IntervalLaws.{good-proper, good-proper-from, proper-next}
+use Rattle.limits.specs.Limits.{recordMax}
+use Rattle.list.specs.Interval.{records}
+use Rattle.list.proofs.ProperLaws.{ProperFrom}
+use Rattle.convert.specs.Front.{inFront}
+use Rattle.convert.proofs.IntervalLaws.{Next, good-proper, good-proper-from, proper-next, next-rest}
 use Rattle.convert.proofs.SpanLaws.{countUp, spans, spans-at, spans-end, spans-length, spans-records, sets-range, records-at}
 use Rattle.convert.proofs.to_numbers.write_numbers.Statement.{statement}
 use Rattle.convert.proofs.to_numbers.write_numbers.Tie as tie
@@ -18,7 +20,7 @@ use Rattle.convert.proofs.to_numbers.write_numbers.Tie as tie
 abbrev Inv-loop : tie.InvT-loop
 Inv-loop cells out₀ k₀ i₀ out k i =
     (i ≤ length cells)
-    × ProperFrom top 0 (drop i cells)
+    × ProperFrom recordMax 0 (drop i cells)
     × (length out ≡ length out₀)
     × (k + records (drop i cells) ≤ length out)
     × (sets out₀ 0 (spans cells) ≡ sets out k (spans (drop i cells)))
@@ -31,70 +33,31 @@ loop-holds c =
     let start = c .before .before in
     (search needs, good-proper-from (now (start .args .cells)) (start .pre .0), refl, omega (arith, start .pre .1), refl)
 
-shared-slice-read-end : tie.Need-shared-slice-read-end Inv-loop μ-loop
-shared-slice-read-end c =
-    let at = c .before .before .before in
-    let cells = now (at .before .before .before .args .cells) in
-    let w = proper-next top 0 (at .loop .i) cells (omega arith) (at .loop .inv .1) in
-    omega arith
-
-add-end-2 : tie.Need-add-end-2 Inv-loop μ-loop
-add-end-2 c =
-    let at = c .before .before .before in
-    let cells = now (at .before .before .before .args .cells) in
-    let w = proper-next top 0 (at .loop .i) cells (omega arith) (at .loop .inv .1) in
-    omega arith
+-- the interval of the turn
+next : (c : tie.In-loop Inv-loop μ-loop) → Next recordMax 0 (c .before .loop .i) (now (c .before .before .before .before .args .cells))
+next c = proper-next (omega arith) (c .before .loop .inv .1)
 
 write-range-requires : tie.Need-write-range-requires Inv-loop μ-loop
-write-range-requires c κs =
-    let at = c .before .before .before .before in
-    let cells = now (at .before .before .before .args .cells) in
-    let w = proper-next top 0 (at .loop .i) cells (omega arith) (at .loop .inv .1) in
-    let room = records-at cells (at .loop .i) (w .whole) in
-    (omega arith, omega arith)
+write-range-requires c κs = let w = next (c .before .before .before) in (omega arith, omega (arith, records-at w))
 
-sub-k : tie.Need-sub-k Inv-loop μ-loop
-sub-k c =
-    let at = c .before .before .before .before .before .before .before in
-    let cells = now (at .before .before .before .args .cells) in
-    let w = proper-next top 0 (at .loop .i) cells (omega arith) (at .loop .inv .1) in
-    omega arith
-
-cast-k : tie.Need-cast-k Inv-loop μ-loop
-cast-k c =
-    let at = c .before .before .before .before .before .before .before in
-    let cells = now (at .before .before .before .args .cells) in
-    let w = proper-next top 0 (at .loop .i) cells (omega arith) (at .loop .inv .1) in
-    omega arith
-
-add-k : tie.Need-add-k Inv-loop μ-loop
-add-k c =
-    let at = c .before .before .before .before .before .before .before in
-    let cells = now (at .before .before .before .args .cells) in
-    let w = proper-next top 0 (at .loop .i) cells (omega arith) (at .loop .inv .1) in
-    omega (arith, records-at cells (at .loop .i) (w .whole))
+-- behind the range
+abbrev turn : tie.After-slice-known2 Inv-loop μ-loop → tie.In-loop Inv-loop μ-loop
+turn c = c .before .before .before .before .before .before
 
 loop-again : tie.Need-loop-again Inv-loop μ-loop
 loop-again c =
-    let at = c .before .before .before .before .before .before .before in
-    let cells = now (at .before .before .before .args .cells) in
-    let w = proper-next top 0 (at .loop .i) cells (omega arith) (at .loop .inv .1) in
-    let i = at .loop .i in
-    let rest = drop (i + 2) cells in
-    let size = getD cells (i + 1) 0 + 1 - getD cells i 0 in
-    let more = proper-weaker top top 0 (getD cells (i + 1) 0 + 2) rest (omega arith) (omega arith) (w .rest) in
-    let wrote = c .before .before .write-range .ensures in
-    let same = ap length wrote ∙ length-sets (at .loop .out) (at .loop .k) (countUp (getD cells i 0) size) in
-    let next = ap (sets (at .loop .out) (at .loop .k)) (spans-at cells i (w .whole)) in (
+    let w = next (turn c) in
+    let at = turn c .before .loop in
+    let cells = now (turn c .before .before .before .before .args .cells) in
+    let size = getD cells (at .i + 1) 0 + 1 - getD cells (at .i) 0 in
+    let wrote = c .before .before .write-range in
+    let range = sets-range (at .out) (wrote .last .0) (at .k) (getD cells (at .i) 0) size (spans (drop (at .i + 2) cells)) (wrote .ensures) in (
       omega arith,
-      more,
-      same ∙ at .loop .inv .2,
-      omega (arith, records-at cells i (w .whole)),
-      at .loop .inv .4 ∙ next ∙ sets-range (at .loop .out) (c .before .before .write-range .last .0) (at .loop .k) (getD cells i 0) size (spans rest) wrote,
+      next-rest w,
+      ap length (wrote .ensures) ∙ length-sets (at .out) (at .k) (countUp (getD cells (at .i) 0) size) ∙ at .inv .2,
+      omega (arith, records-at w),
+      at .inv .4 ∙ ap (sets (at .out) (at .k)) (spans-at w) ∙ range,
     )
-
-same-length : tie.Need-same-length Inv-loop μ-loop
-same-length c = c .before .loop .inv .2
 
 returns : tie.Need-returns Inv-loop μ-loop
 returns c =
@@ -105,12 +68,13 @@ returns c =
     let e = spans-end cells (at .loop .i) (c .loop-test .left) in
     sym (at .loop .inv .4 ∙ ap (sets (at .loop .out) (at .loop .k)) e)
     ∙ sets-front (spans cells) out (omega (arith, spans-length cells, start .pre .1))
-    ∙ ap (λ (numbers : List ℕ). numbers ++ drop (length numbers) out) (spans-records top cells (good-proper cells (start .pre .0)))
+    ∙ ap (λ (numbers : List ℕ). inFront numbers out) (spans-records recordMax cells (good-proper cells (start .pre .0)))
 
 pub write-numbers-spec : {M : Type 1} → statement M
 write-numbers-spec =
     tie.close
     (tie.spec
     Inv-loop μ-loop loop-holds (λ c. search needs) (λ c. search needs) (λ c. search needs) (λ c. search needs)
-    shared-slice-read-end add-end-2 write-range-requires sub-k cast-k add-k (λ c. search needs) (λ c. search needs)
-    loop-again same-length returns)
+    (λ c. omega (arith, next (c .before .before) .whole)) (λ c. omega (arith, next (c .before .before) .within)) write-range-requires
+    (λ c. omega (arith, next (turn c) .forward)) (λ c. omega (arith, next (turn c) .within)) (λ c. let w = next (turn c) in omega (arith, records-at w))
+    (λ c. search needs) (λ c. search needs) loop-again (λ c. c .before .loop .inv .2) returns)

@@ -26,13 +26,11 @@ loop-holds c = (search needs, search needs, omega arith, refl, refl)
 
 loop-again : tie.Need-loop-again Inv-loop μ-loop
 loop-again c =
-    let at = c .before in
-    let x = at .loop .x in
-    let end = at .before .args .end in
-    (search needs, search needs, omega arith, simp length-set (at .loop .inv .3), at .loop .inv .4 ∙ ap (sets (at .loop .out) (at .loop .at)) (range-at x end (c .loop-test .taken)) ∙ sets-one (at .loop .out) (at .loop .at) x (countUp (x + 1) (end - (x + 1))))
-
-same-length : tie.Need-same-length Inv-loop μ-loop
-same-length c = c .before .loop .inv .3
+    let at = c .before .loop in
+    let end = c .before .before .args .end in
+    let next = ap (sets (at .out) (at .at)) (range-at (at .x) end (c .loop-test .taken)) in
+    let one = sets-one (at .out) (at .at) (at .x) (countUp (at .x + 1) (end - (at .x + 1))) in
+    (search needs, search needs, omega arith, simp length-set (at .inv .3), at .inv .4 ∙ next ∙ one)
 
 returns : tie.Need-returns Inv-loop μ-loop
 returns c =
@@ -44,4 +42,4 @@ write-range-spec =
     tie.close
     (tie.spec
     Inv-loop μ-loop loop-holds (λ c. search needs) (λ c. search needs) (λ c. search needs) (λ c. search needs)
-    (λ c. search needs) loop-again same-length returns)
+    (λ c. search needs) loop-again (λ c. c .before .loop .inv .3) returns)

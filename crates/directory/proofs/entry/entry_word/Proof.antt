@@ -10,7 +10,8 @@ use borrow.Author.Needs.{needs}
 word-of-requires : tie.Need-word-of-requires
 word-of-requires c κs =
     let a = c .before .before .before .before .args in
-    entry-good (a .index .now) (a .entry) (sym (c .before .before .entry-refusal .ensures) ∙ c .enum-told .given .1)
+    let e = entry-good (a .index .now) (a .entry) (sym (c .before .before .entry-refusal .ensures) ∙ c .enum-told .given .1) in
+    search needs
 
 returns : tie.Need-returns
 returns c =

@@ -3,6 +3,7 @@ use Prim.Native.Nat.{_+_, _-_, _/_, _≤_}
 use mathlib.Core.Path.{sym, _∙_}
 use native.Mathlib.Omega.{arith}
 use borrow.Author.Needs.{needs}
+use Rattle.limits.specs.Limits.{wordsMax}
 use Rattle.word.specs.Word.{before}
 use Rattle.index.specs.Format.{wordCount}
 use Rattle.directory.specs.Has.{wordPlace}
@@ -11,7 +12,7 @@ use Rattle.directory.proofs.find.find_place.Statement.{statement}
 use Rattle.directory.proofs.find.find_place.Tie as tie
 
 abbrev Inv-loop : tie.InvT-loop
-Inv-loop index word low₀ high₀ low high = (low ≤ wordPlace index word) × (wordPlace index word ≤ high) × (high ≤ wordCount index) × (high ≤ 65535)
+Inv-loop index word low₀ high₀ low high = (low ≤ wordPlace index word) × (wordPlace index word ≤ high) × (high ≤ wordCount index) × (high ≤ wordsMax)
 
 abbrev μ-loop : tie.MeasureT-loop
 μ-loop index word low₀ high₀ low high = high - low
@@ -25,8 +26,7 @@ loop-holds c =
 
 stands-before-requires : tie.Need-stands-before-requires Inv-loop μ-loop
 stands-before-requires c κs =
-    let l = c .before .loop in
-    (c .before .before .before .before .before .pre, omega (arith, l .inv .2))
+    record { sound = c .before .before .before .before .before .pre; below = omega (arith, c .before .loop .inv .2) }
 
 loop-again : tie.Need-loop-again Inv-loop μ-loop
 loop-again c =

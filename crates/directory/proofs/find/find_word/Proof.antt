@@ -1,7 +1,11 @@
 -- The word stands at its place or nowhere, and one comparison tells.
-use Prim.Native.Nat.{_<_}
-use mathlib.Core.Path.{sym, _∙_}
+use Prim.Native.Nat.{ℕ, _<_}
+use mathlib.Core.Path.{_≡_, sym, _∙_}
+use mathlib.Core.List.{List}
 use native.Mathlib.Omega.{arith}
+use Rattle.refusal.specs.declared.Found.the-variants.{Nowhere}
+use Rattle.refusal.specs.First.{first}
+use Rattle.word.specs.Word.{same}
 use Rattle.word.proofs.WordLaws.{order-is-same, order-before-differ, order-behind-differ}
 use Rattle.index.specs.Format.{wordCount, wordOf}
 use Rattle.directory.proofs.HasLaws.{entry-found, place-nowhere}
@@ -16,37 +20,36 @@ returns c =
     let n = c .before .word-count .ensures .0 in
     sym (place-nowhere (start .args .index .now) (start .pre) (start .args .word .now) (found .find-place .result) (found .find-place .ensures) (λ h q. omega (arith, c .if1 .taken)))
 
+-- the word at its place has been compared
+abbrev placed : tie.After-order-at → tie.After-find-place
+placed c = c .before .before .before
+
+abbrev begin : tie.After-order-at → tie.Start
+begin c = placed c .before .before .before
+
+abbrev index : tie.After-order-at → List ℕ
+index c = begin c .args .index .now
+
+abbrev word : tie.After-order-at → List ℕ
+word c = begin c .args .word .now
+
 returns-2 : tie.Need-returns-2
 returns-2 c =
-    let found = c .before .before .before .before .before in
-    let start = found .before .before .before in
-    let index = start .args .index .now in
-    let word = start .args .word .now in
-    let p = found .find-place .result in
-    let n = c .before .before .before .before .word-count .ensures .0 in
-    let e = sym (c .before .before .order-at .ensures) ∙ c .enum-told .given .1 in
-    let h : p < wordCount index = rw n at (c .before .before .before .if1 .left) in
-    sym (entry-found index (start .pre) word p h (order-is-same (wordOf index p) word e))
+    let o = c .before .before in
+    let p = placed o .find-place .result in
+    let h : p < wordCount (index o) = rw (o .before .before .word-count .ensures .0) at (o .before .if1 .left) in
+    sym (entry-found (index o) (begin o .pre) (word o) p h (order-is-same (wordOf (index o) p) (word o) (sym (o .order-at .ensures) ∙ c .enum-told .given .1)))
+
+-- another word stands there
+other : (c : tie.After-order-at) → (wordOf (index c) (placed c .find-place .result) ≡ word c → ⊥) →
+    first (λ j. same (wordOf (index c) j) (word c)) (wordCount (index c)) ≡ Nowhere
+other c n = place-nowhere (index c) (begin c .pre) (word c) _ (placed c .find-place .ensures) (λ h. n)
 
 returns-3 : tie.Need-returns-3
-returns-3 c =
-    let found = c .before .before .before .before .before in
-    let start = found .before .before .before in
-    let index = start .args .index .now in
-    let word = start .args .word .now in
-    let p = found .find-place .result in
-    let e = sym (c .before .before .order-at .ensures) ∙ c .enum-told2 .given .1 in
-    sym (place-nowhere index (start .pre) word p (found .find-place .ensures) (λ h q. order-before-differ (wordOf index p) word e q))
+returns-3 c = let o = c .before .before in sym (other o (order-before-differ _ _ (sym (o .order-at .ensures) ∙ c .enum-told2 .given .1)))
 
 returns-4 : tie.Need-returns-4
-returns-4 c =
-    let found = c .before .before .before .before .before in
-    let start = found .before .before .before in
-    let index = start .args .index .now in
-    let word = start .args .word .now in
-    let p = found .find-place .result in
-    let e = sym (c .before .before .order-at .ensures) ∙ c .enum-told3 .given .1 in
-    sym (place-nowhere index (start .pre) word p (found .find-place .ensures) (λ h q. order-behind-differ (wordOf index p) word e q))
+returns-4 c = let o = c .before .before in sym (other o (order-behind-differ _ _ (sym (o .order-at .ensures) ∙ c .enum-told3 .given .1)))
 
 pub find-word-spec : {M : Type 1} → statement M
 find-word-spec =

@@ -17,15 +17,14 @@ probe-parts-requires : tie.Need-probe-parts-requires
 probe-parts-requires c κs =
     let start = c .before .before .before in
     let g = range-good (start .args .a) (start .args .b) (sym (c .before .bad-range .ensures) ∙ c .if1 .left) in
-    (start .pre .0, start .pre .1, g .0, g .1)
+    (start .pre, g)
 
 returns-2 : tie.Need-returns-2
 returns-2 c =
     let a = c .before .before .before .before .args in
     let l = listOf (a .index .now) (a .i) in
-    let e = c .probe-parts .ensures in
     range-counted (a .a) (a .b) (belowCount (a .a) l) (overlapCount (a .a) (a .b) l) (c .probe-parts .result)
-    (sym (c .before .before .bad-range .ensures) ∙ c .before .if1 .left) (e .0) (e .1)
+    (sym (c .before .before .bad-range .ensures) ∙ c .before .if1 .left) (c .probe-parts .ensures .0) (c .probe-parts .ensures .1)
 
 pub probe-sound-spec : {M : Type 1} → statement M
 probe-sound-spec = tie.close (tie.spec (λ c κs. search needs) returns probe-parts-requires returns-2)

@@ -1,15 +1,16 @@
 -- By the laws of reading codes and of senses. The measure is the brackets that may still open; in the loop, what is left of the codes.
 use Prim.Native.Nat.{ℕ, _+_, _-_, _*_, _<_, _≤_}
 use native.Mathlib.Omega.{arith}
-use mathlib.Core.Path.{_≡_, sym, _∙_}
-use lib.ListN.{length, getD}
+use mathlib.Core.Path.{sym, _∙_}
+use lib.ListN.{length}
 use borrow.Author.Needs.{needs}
 use borrow.Author.Tests.{not-true, not-false}
-use Rattle.codes.specs.Code.{opCode, opOf}
+use Rattle.codes.specs.Code.{wordCode, openCode, closeCode, opCode, opOf}
 use Rattle.evaluate.specs.Look.{Tells}
-use Rattle.codes.proofs.CodeLaws.{op-range, operator-code, operator-none}
-use Rattle.codes.proofs.ReadsLaws.{code-within, operand-none, operand-word, operand-many, operand-deep, operand-part, operand-unclosed, Level, level-start, level-step, level-end}
-use Rattle.evaluate.proofs.PairedSenses.{tells-word, tells-part, tells-pair}
+use Rattle.codes.proofs.CodeLaws.{operator-none}
+use Rattle.codes.proofs.ReadsLaws.{operand-none, operand-word, operand-many, operand-deep, operand-part, operand-unclosed, Level, level-start, level-step, level-end}
+use Rattle.evaluate.proofs.EvalLaws.{Here, code-here, operator-here}
+use Rattle.evaluate.proofs.PairedSenses.{tells-word, tells-part, tells-pair, looks-none}
 use borrow.Fn.Kinds.{In}
 use borrow.Fn.PlainCycle.{Measures, is, falls, and}
 use Rattle.evaluate.proofs.look.look_level.Reads as look-level
@@ -21,11 +22,11 @@ use Rattle.evaluate.proofs.look.+look_level+look_operand+look_part.Lts-
 use Rattle.evaluate.proofs.look.look_part.Reads as look-part
 use Rattle.evaluate.proofs.look.look_part.Kinds as look-part-kinds
 use Rattle.evaluate.proofs.look.+look_level+look_operand+look_part.Lts-look_part as look-part-lts
-use Rattle.codes.proofs.read.code_at.Reads as code-at-reads
-use Rattle.codes.proofs.read.is_operator.Reads as is-operator-reads
-use Rattle.evaluate.proofs.senses.sense_of.Reads as sense-of-reads
-use Rattle.evaluate.proofs.look.unread.Reads as unread-reads
-use Rattle.evaluate.proofs.sense_pair.pair_senses.Reads as pair-senses-reads
+use Rattle.codes.proofs.read.code_at.Reads as code-at
+use Rattle.codes.proofs.read.is_operator.Reads as is-operator
+use Rattle.evaluate.proofs.senses.sense_of.Reads as sense-of
+use Rattle.evaluate.proofs.look.unread.Reads as unread
+use Rattle.evaluate.proofs.sense_pair.pair_senses.Reads as pair-senses
 use Rattle.evaluate.proofs.look.+look_level+look_operand+look_part.{statement}
 use Rattle.evaluate.proofs.look.+look_level+look_operand+look_part.Tie.{close}
 
@@ -58,13 +59,13 @@ look-part-below t = and 2 look-part-kinds.ps (falls 2 look-part-kinds.ps _<_ μ-
 
 -- what the calls of each promise
 abbrev level-claims : ℕ → look-level-lts.Claims
-level-claims t = (look-operand-below t, look-operand.Post, code-at-reads.Asked, code-at-reads.Learnt, is-operator-reads.Asked, is-operator-reads.Learnt, pair-senses-reads.Asked, pair-senses-reads.Learnt)
+level-claims t = (look-operand-below t, look-operand.Post, code-at.Asked, code-at.Learnt, is-operator.Asked, is-operator.Learnt, pair-senses.Asked, pair-senses.Learnt)
 
 abbrev operand-claims : ℕ → look-operand-lts.Claims
-operand-claims t = (code-at-reads.Asked, code-at-reads.Learnt, look-part-below t, look-part.Post, unread-reads.Asked, unread-reads.Learnt, sense-of-reads.Asked, sense-of-reads.Learnt)
+operand-claims t = (code-at.Asked, code-at.Learnt, look-part-below t, look-part.Post, unread.Asked, unread.Learnt, sense-of.Asked, sense-of.Learnt)
 
 abbrev part-claims : ℕ → look-part-lts.Claims
-part-claims t = (code-at-reads.Asked, code-at-reads.Learnt, unread-reads.Asked, unread-reads.Learnt, look-level-below t, look-level.Post)
+part-claims t = (code-at.Asked, code-at.Learnt, unread.Asked, unread.Learnt, look-level-below t, look-level.Post)
 
 abbrev look-level-Inv-loop : look-level-lts.InvT-loop
 look-level-Inv-loop codes i k d senses at₀ slot₀ inside₀ until₀ at slot inside until =
@@ -73,224 +74,172 @@ look-level-Inv-loop codes i k d senses at₀ slot₀ inside₀ until₀ at slot 
 abbrev look-level-μ-loop : look-level-lts.MeasureT-loop
 look-level-μ-loop codes i k d senses at₀ slot₀ inside₀ until₀ at slot inside until = length codes - at
 
--- where the loop goes on an operator stands
-abbrev GoesOn : ℕ → Type 0
-GoesOn t = look-level-lts.Else1 (level-claims t) (look-level-at t) look-level.Post look-level-Inv-loop look-level-μ-loop
+-- ---- a level
 
-operator-here : (t : ℕ) (c : GoesOn t) → let code = c .before .before .code-at .result in
-    (code ≡ opCode (opOf code)) × (c .before .before .before .loop .at < length (c .before .before .before .before .before .before .before .args .codes .now))
-operator-here t c =
-    let code = c .before .before .code-at in
-    let is = operator-code (code .result) (sym (c .before .is-operator .ensures) ∙ not-false (c .before .is-operator .result) (c .if1 .left)) in
-    (is, code-within (c .before .before .before .before .before .before .before .args .codes .now) (c .before .before .before .loop .at) (let r = op-range (opOf (code .result)) in let w = code .ensures in omega arith))
+module _ (t : ℕ) where
+  abbrev Loop : Type 0
+  Loop = look-level-lts.At-loop (level-claims t) (look-level-at t) look-level.Post look-level-Inv-loop look-level-μ-loop
 
-look-level-loop-holds : (t : ℕ) → look-level-lts.Need-loop-holds (level-claims t) (look-level-at t) look-level.Post look-level-Inv-loop look-level-μ-loop
-look-level-loop-holds t c =
-    let a = c .before .before .before .args in
-    let first = c .look-operand in
-    let r = first .result in
-    (first .ensures .ahead, first .ensures .inside, level-start (a .codes .now) (a .d) (a .k) (a .i) (r .code) (r .slot) _ (first .ensures .reads))
+  abbrev begun : Loop → look-level-lts.Start (level-claims t) (look-level-at t) look-level.Post look-level-Inv-loop look-level-μ-loop
+  begun c = c .before .before .before .before
 
-look-level-returns : (t : ℕ) → look-level-lts.Need-returns (level-claims t) (look-level-at t) look-level.Post look-level-Inv-loop look-level-μ-loop
-look-level-returns t c =
-    let a = c .before .before .before .before .before .before .before .args in
-    let at = c .before .before .before .loop in
-    let none = operator-none (c .before .before .code-at .result) (sym (c .before .is-operator .ensures) ∙ not-true (c .before .is-operator .result) (c .if1 .taken)) in
-    record {
-      ahead = at .inv .0;
-      inside = at .inv .1;
-      reads = level-end (a .codes .now) (a .d) (a .k) (a .i) (at .at) (at .slot) _ (at .inv .2) (λ o e. none o (c .before .before .code-at .ensures ∙ e));
-    }
+  -- where the loop goes on an operator stands
+  operator : (c : look-level-lts.Else1 (level-claims t) (look-level-at t) look-level.Post look-level-Inv-loop look-level-μ-loop) →
+      let l = c .before .before .before in Here (begun l .args .codes .now) (l .loop .at) (opCode (opOf (c .before .before .code-at .result)))
+  operator c =
+      let l = c .before .before .before in
+      operator-here (begun l .args .codes .now) (l .loop .at) (c .before .before .code-at .ensures)
+      (sym (c .before .is-operator .ensures) ∙ not-false (c .before .is-operator .result) (c .if1 .left))
 
-look-level-add-look-operand : (t : ℕ) → look-level-lts.Need-add-look-operand (level-claims t) (look-level-at t) look-level.Post look-level-Inv-loop look-level-μ-loop
-look-level-add-look-operand t c = omega (arith, operator-here t c .1)
+  level-loop-holds : look-level-lts.Need-loop-holds (level-claims t) (look-level-at t) look-level.Post look-level-Inv-loop look-level-μ-loop
+  level-loop-holds c =
+      let a = c .before .before .before .args in
+      let first = c .look-operand in
+      let r = first .result in
+      (first .ensures .ahead, first .ensures .inside, level-start (a .codes .now) (a .d) (a .k) (a .i) (r .code) (r .slot) _ (first .ensures .reads))
 
-look-level-look-operand-requires-2 : (t : ℕ) → look-level-lts.Need-look-operand-requires-2 (level-claims t) (look-level-at t) look-level.Post look-level-Inv-loop look-level-μ-loop
-look-level-look-operand-requires-2 t c κs = (omega arith, (omega (arith, operator-here t c .1), c .before .before .before .before .before .before .before .pre .1 .1))
+  level-returns : look-level-lts.Need-returns (level-claims t) (look-level-at t) look-level.Post look-level-Inv-loop look-level-μ-loop
+  level-returns c =
+      let a = begun (c .before .before .before) .args in
+      let at = c .before .before .before .loop in
+      let none = operator-none (c .before .before .code-at .result) (sym (c .before .is-operator .ensures) ∙ not-true (c .before .is-operator .result) (c .if1 .taken)) in
+      record {
+        ahead = at .inv .0;
+        inside = at .inv .1;
+        reads = level-end (a .codes .now) (a .d) (a .k) (a .i) (at .at) (at .slot) _ (at .inv .2) (λ o e. none o (c .before .before .code-at .ensures ∙ e));
+      }
 
-look-level-loop-less : (t : ℕ) → look-level-lts.Need-loop-less (level-claims t) (look-level-at t) look-level.Post look-level-Inv-loop look-level-μ-loop
-look-level-loop-less t c =
-    let next = c .before .look-operand2 .ensures in
-    omega (arith, operator-here t (c .before .before) .1, next .ahead, next .inside)
-
-look-level-loop-again : (t : ℕ) → look-level-lts.Need-loop-again (level-claims t) (look-level-at t) look-level.Post look-level-Inv-loop look-level-μ-loop
-look-level-loop-again t c =
-    let a = c .before .before .before .before .before .before .before .before .before .args in
-    let at = c .before .before .before .before .before .loop in
-    let operator = operator-here t (c .before .before) in
-    let code = c .before .before .before .before .code-at in
-    let o = opOf (code .result) in
-    let next = c .before .look-operand2 in
-    let n = next .result in
-    let r = c .pair-senses .result in (
-      omega (arith, next .ensures .ahead),
-      next .ensures .inside,
-      level-step (a .codes .now) (a .d) (a .k) (a .i) (at .at) (at .slot) (n .code) (n .slot) _ _ _ o (sym (code .ensures) ∙ operator .0) (at .inv .2) (next .ensures .reads)
-          (λ x y h s u. tells-pair (a .senses .now) (a .k) (r .inside) (r .until) o x y (at .slot) h (at .inside) (n .inside) (at .until) (n .until) (c .pair-senses .ensures o (operator .0)) s u),
-    )
+  level-loop-again : look-level-lts.Need-loop-again (level-claims t) (look-level-at t) look-level.Post look-level-Inv-loop look-level-μ-loop
+  level-loop-again c =
+      let on = c .before .before in
+      let a = begun (on .before .before .before) .args in
+      let at = on .before .before .before .loop in
+      let code = on .before .before .code-at in
+      let o = opOf (code .result) in
+      let next = c .before .look-operand2 in
+      let n = next .result in
+      let r = c .pair-senses .result in (
+        omega (arith, next .ensures .ahead),
+        next .ensures .inside,
+        level-step (a .codes .now) (a .d) (a .k) (a .i) (at .at) (at .slot) (n .code) (n .slot) _ _ _ o (operator on .0) (at .inv .2) (next .ensures .reads)
+            (λ x y h s u. tells-pair (a .senses .now) (a .k) (r .inside) (r .until) o x y (at .slot) h (at .inside) (n .inside) (at .until) (n .until)
+            (c .pair-senses .ensures o (code .ensures ∙ operator on .0)) s u),
+      )
 
 -- ---- an operand
 
--- where it is no part, a word stands there
-abbrev AtWord : ℕ → Type 0
-AtWord t = look-operand-lts.Else1 (operand-claims t) (look-operand-at t) look-operand.Post
+module _ (t : ℕ) where
+  -- where it is no part, a word stands there
+  abbrev AtWord : Type 0
+  AtWord = look-operand-lts.Else1 (operand-claims t) (look-operand-at t) look-operand.Post
 
-word-here : (t : ℕ) (c : AtWord t) → let a = c .before .before .before .before .args in (getD (a .codes .now) (a .i) 6 ≡ 0) × (a .i < length (a .codes .now))
-word-here t c =
-    let a = c .before .before .before .before .args in
-    let here : getD (a .codes .now) (a .i) 6 ≡ 0 = sym (c .before .code-at .ensures) ∙ c .if1 .left in
-    (here, code-within (a .codes .now) (a .i) (omega arith))
+  word-here : (c : AtWord) → let a = c .before .before .before .before .args in Here (a .codes .now) (a .i) wordCode
+  word-here c = let a = c .before .before .before .before .args in code-here (a .codes .now) (a .i) (c .before .code-at .ensures) (c .if1 .left) (omega arith)
 
-look-operand-look-part-requires : (t : ℕ) → look-operand-lts.Need-look-part-requires (operand-claims t) (look-operand-at t) look-operand.Post
-look-operand-look-part-requires t c κs =
-    let start = c .before .before .before .before in
-    (omega arith, (start .pre .1 .0, start .pre .1 .1, λ e. c .if1 .taken (c .before .code-at .ensures ∙ e)))
+  operand-look-part-requires : look-operand-lts.Need-look-part-requires (operand-claims t) (look-operand-at t) look-operand.Post
+  operand-look-part-requires c κs =
+      let pre = c .before .before .before .before .pre .1 in
+      (omega arith, (pre .0, (pre .1, λ e. c .if1 .taken (c .before .code-at .ensures ∙ e))))
 
-look-operand-returns-2 : (t : ℕ) → look-operand-lts.Need-returns-2 (operand-claims t) (look-operand-at t) look-operand.Post
-look-operand-returns-2 t c =
-    let start = c .before .before .before .before .before .before in
-    let a = start .args in
-    let r = c .unread in
-    record {
-      ahead = omega (arith, r .ensures);
-      inside = omega (arith, start .pre .1 .0, r .ensures);
-      reads = λ f. operand-many (a .codes .now) f (a .d) (a .k) (a .i) (word-here t (c .before .before) .0) (r .result .code) (r .result .slot) _ (c .before .if2 .taken);
-    }
+  operand-returns-2 : look-operand-lts.Need-returns-2 (operand-claims t) (look-operand-at t) look-operand.Post
+  operand-returns-2 c =
+      let start = c .before .before .before .before .before .before in
+      let a = start .args in
+      looks-none (start .pre .1 .0) (c .unread .ensures)
+      (λ f. operand-many (a .codes .now) f (a .d) (a .k) (a .i) (word-here (c .before .before) .0) _ _ _ (c .before .if2 .taken))
 
-look-operand-add-t9 : (t : ℕ) → look-operand-lts.Need-add-t9 (operand-claims t) (look-operand-at t) look-operand.Post
-look-operand-add-t9 t c = omega (arith, word-here t (c .before .before) .1)
-
-look-operand-returns-3 : (t : ℕ) → look-operand-lts.Need-returns-3 (operand-claims t) (look-operand-at t) look-operand.Post
-look-operand-returns-3 t c =
-    let a = c .before .before .before .before .before .before .args in
-    let here = word-here t (c .before .before) in
-    let r = c .sense-of in
-    record {
-      ahead = omega arith;
-      inside = omega (arith, here .1);
-      reads = λ f. operand-word (a .codes .now) f (a .d) (a .k) (a .i) (here .0) _ (tells-word (a .senses .now) (a .k) (r .result .inside) (r .result .until) (r .ensures .0) (r .ensures .1));
-    }
+  operand-returns-3 : look-operand-lts.Need-returns-3 (operand-claims t) (look-operand-at t) look-operand.Post
+  operand-returns-3 c =
+      let a = c .before .before .before .before .before .before .args in
+      let here = word-here (c .before .before) in
+      let r = c .sense-of in
+      record {
+        ahead = omega arith;
+        inside = omega (arith, here .1);
+        reads = λ f. operand-word (a .codes .now) f (a .d) (a .k) (a .i) (here .0) _
+            (tells-word (a .senses .now) (a .k) (r .result .inside) (r .result .until) (r .ensures .0) (r .ensures .1));
+      }
 
 -- ---- a part
 
--- where one can stand, its bracket opens there
-abbrev AtOpen : ℕ → Type 0
-AtOpen t = look-part-lts.Else1 (part-claims t) (look-part-at t) look-part.Post
+module _ (t : ℕ) where
+  -- where one can stand, its bracket opens there
+  abbrev AtOpen : Type 0
+  AtOpen = look-part-lts.Else1 (part-claims t) (look-part-at t) look-part.Post
 
-open-here : (t : ℕ) (c : AtOpen t) → let a = c .before .before .before .before .args in (getD (a .codes .now) (a .i) 6 ≡ 4) × (a .i < length (a .codes .now))
-open-here t c =
-    let a = c .before .before .before .before .args in
-    let here : getD (a .codes .now) (a .i) 6 ≡ 4 = sym (c .before .code-at .ensures) ∙ c .if1 .left in
-    (here, code-within (a .codes .now) (a .i) (omega arith))
+  abbrev asked : AtOpen → look-part-lts.Start (part-claims t) (look-part-at t) look-part.Post
+  asked c = c .before .before .before .before
 
--- where it ends, its bracket closes there
-abbrev AtClose : ℕ → Type 0
-AtClose t = look-part-lts.Else3 (part-claims t) (look-part-at t) look-part.Post
+  open-here : (c : AtOpen) → let a = asked c .args in Here (a .codes .now) (a .i) openCode
+  open-here c = let a = asked c .args in code-here (a .codes .now) (a .i) (c .before .code-at .ensures) (c .if1 .left) (omega arith)
 
-close-here : (t : ℕ) (c : AtClose t) → let codes = c .before .before .before .before .before .before .before .before .args .codes .now in let i = c .before .before .look-level .result .code in (getD codes i 6 ≡ 5) × (i < length codes)
-close-here t c =
-    let codes = c .before .before .before .before .before .before .before .before .args .codes .now in
-    let i = c .before .before .look-level .result .code in
-    let there : getD codes i 6 ≡ 5 = sym (c .before .code-at2 .ensures) ∙ c .if3 .left in
-    (there, code-within codes i (omega arith))
+  -- where it ends, its bracket closes there
+  abbrev AtClose : Type 0
+  AtClose = look-part-lts.Else3 (part-claims t) (look-part-at t) look-part.Post
 
-look-part-returns : (t : ℕ) → look-part-lts.Need-returns (part-claims t) (look-part-at t) look-part.Post
-look-part-returns t c =
-    let start = c .before .before .before .before .before in
-    let a = start .args in
-    let r = c .unread in
-    record {
-      ahead = omega (arith, r .ensures);
-      inside = omega (arith, start .pre .1 .0, r .ensures);
-      reads = λ f. operand-none (a .codes .now) f (a .d) (a .k) (a .i) (r .result .code) (r .result .slot) _ (start .pre .1 .2) (λ e. c .before .if1 .taken (c .before .before .code-at .ensures ∙ e));
-    }
+  abbrev opened : AtClose → AtOpen
+  opened c = c .before .before .before .before
 
-look-part-returns-2 : (t : ℕ) → look-part-lts.Need-returns-2 (part-claims t) (look-part-at t) look-part.Post
-look-part-returns-2 t c =
-    let start = c .before .before .before .before .before .before in
-    let a = start .args in
-    let r = c .unread2 in
-    record {
-      ahead = omega (arith, r .ensures);
-      inside = omega (arith, start .pre .1 .0, r .ensures);
-      reads = λ f. operand-deep (a .codes .now) f (a .d) (a .k) (a .i) (open-here t (c .before .before) .0) (r .result .code) (r .result .slot) _ (c .before .if2 .taken);
-    }
+  close-here : (c : AtClose) → Here (asked (opened c) .args .codes .now) (c .before .before .look-level .result .code) closeCode
+  close-here c = code-here (asked (opened c) .args .codes .now) (c .before .before .look-level .result .code) (c .before .code-at2 .ensures) (c .if3 .left) (omega arith)
 
-look-part-add-look-level : (t : ℕ) → look-part-lts.Need-add-look-level (part-claims t) (look-part-at t) look-part.Post
-look-part-add-look-level t c = omega (arith, open-here t (c .before) .1)
+  part-returns : look-part-lts.Need-returns (part-claims t) (look-part-at t) look-part.Post
+  part-returns c =
+      let start = c .before .before .before .before .before in
+      let a = start .args in
+      looks-none (start .pre .1 .0) (c .unread .ensures)
+      (λ f. operand-none (a .codes .now) f (a .d) (a .k) (a .i) _ _ _ (start .pre .1 .1 .1) (λ e. c .before .if1 .taken (c .before .before .code-at .ensures ∙ e)))
 
-look-part-look-level-requires : (t : ℕ) → look-part-lts.Need-look-level-requires (part-claims t) (look-part-at t) look-part.Post
-look-part-look-level-requires t c κs = (omega arith, (omega (arith, open-here t (c .before) .1), c .before .before .before .before .before .pre .1 .1))
+  part-returns-2 : look-part-lts.Need-returns-2 (part-claims t) (look-part-at t) look-part.Post
+  part-returns-2 c =
+      let start = asked (c .before .before) in
+      let a = start .args in
+      looks-none (start .pre .1 .0) (c .unread2 .ensures)
+      (λ f. operand-deep (a .codes .now) f (a .d) (a .k) (a .i) (open-here (c .before .before) .0) _ _ _ (c .before .if2 .taken))
 
-look-part-returns-3 : (t : ℕ) → look-part-lts.Need-returns-3 (part-claims t) (look-part-at t) look-part.Post
-look-part-returns-3 t c =
-    let a = c .before .before .before .before .before .before .before .before .before .args in
-    let inner = c .before .before .before .look-level in
-    let p = inner .result in
-    let r = c .unread3 in
-    record {
-      ahead = omega (arith, inner .ensures .ahead, r .ensures);
-      inside = omega (arith, inner .ensures .inside, r .ensures);
-      reads = λ f. operand-unclosed (a .codes .now) f (a .d) (a .k) (a .i) (open-here t (c .before .before .before .before .before) .0) (p .code) (p .slot) _ (inner .ensures .reads) (r .result .code) (r .result .slot) _ (λ e. c .before .if3 .taken (c .before .before .code-at2 .ensures ∙ e));
-    }
+  part-returns-3 : look-part-lts.Need-returns-3 (part-claims t) (look-part-at t) look-part.Post
+  part-returns-3 c =
+      let at = c .before .before .before .before .before in
+      let a = asked at .args in
+      let inner = c .before .before .before .look-level in
+      let r = c .unread3 in
+      record {
+        ahead = omega (arith, inner .ensures .ahead, r .ensures);
+        inside = omega (arith, inner .ensures .inside, r .ensures);
+        reads = λ f. operand-unclosed (a .codes .now) f (a .d) (a .k) (a .i) (open-here at .0) (inner .result .code) (inner .result .slot) _ (inner .ensures .reads) _ _ _
+            (λ e. c .before .if3 .taken (c .before .before .code-at2 .ensures ∙ e));
+      }
 
-look-part-add-t11 : (t : ℕ) → look-part-lts.Need-add-t11 (part-claims t) (look-part-at t) look-part.Post
-look-part-add-t11 t c = omega (arith, close-here t c .1)
-
-look-part-returns-4 : (t : ℕ) → look-part-lts.Need-returns-4 (part-claims t) (look-part-at t) look-part.Post
-look-part-returns-4 t c =
-    let a = c .before .before .before .before .before .before .before .before .args in
-    let inner = c .before .before .look-level in
-    let p = inner .result in
-    let there = close-here t c in
-    record {
-      ahead = omega (arith, inner .ensures .ahead);
-      inside = omega (arith, there .1);
-      reads = λ f. operand-part (a .codes .now) f (a .d) (a .k) (a .i) (open-here t (c .before .before .before .before) .0) (p .code) (p .slot) _ (inner .ensures .reads) _ (there .0) (tells-part (a .senses .now) (a .k) (p .inside) (p .until));
-    }
+  part-returns-4 : look-part-lts.Need-returns-4 (part-claims t) (look-part-at t) look-part.Post
+  part-returns-4 c =
+      let a = asked (opened c) .args in
+      let inner = c .before .before .look-level in
+      let p = inner .result in
+      record {
+        ahead = omega (arith, inner .ensures .ahead);
+        inside = omega (arith, close-here c .1);
+        reads = λ f. operand-part (a .codes .now) f (a .d) (a .k) (a .i) (open-here (opened c) .0) (p .code) (p .slot) _ (inner .ensures .reads) _ (close-here c .0)
+            (tells-part (a .senses .now) (a .k) (p .inside) (p .until));
+      }
 
 pub +look-level+look-operand+look-part-spec : {M : Type 1} → statement M
 +look-level+look-operand+look-part-spec =
-    close μ-look-level μ-look-operand μ-look-part (λ t. look-level-lts.spec (level-claims t)
-    (look-level-at t)
-    look-level.Post
-    look-level-Inv-loop
-    look-level-μ-loop
+    close μ-look-level μ-look-operand μ-look-part
+    (λ t. look-level-lts.spec
+    (level-claims t) (look-level-at t) look-level.Post look-level-Inv-loop look-level-μ-loop
+    (λ c κs. search needs) (level-loop-holds t) (λ c κs. search needs) (λ c κs. search needs) (level-returns t)
+    (λ c. omega (arith, operator t c .1)) (λ c κs. (omega arith, (omega (arith, operator t c .1), begun t (c .before .before .before) .pre .1 .1)))
     (λ c κs. search needs)
-    (look-level-loop-holds t)
-    (λ c κs. search needs)
-    (λ c κs. search needs)
-    (look-level-returns t)
-    (look-level-add-look-operand t)
-    (look-level-look-operand-requires-2 t)
-    (λ c κs. search needs)
-    (look-level-loop-less t)
-    (look-level-loop-again t))
-    (λ t. look-operand-lts.spec (operand-claims t)
-    (look-operand-at t)
-    look-operand.Post
-    (λ c κs. search needs)
-    (look-operand-look-part-requires t)
-    (λ c. c .look-part .ensures)
-    (λ c κs. search needs)
-    (look-operand-returns-2 t)
-    (λ c κs. search needs)
-    (look-operand-add-t9 t)
-    (λ c. search needs)
-    (look-operand-returns-3 t))
-    λ t. look-part-lts.spec (part-claims t)
-    (look-part-at t)
-    look-part.Post
-    (λ c κs. search needs)
-    (λ c κs. search needs)
-    (look-part-returns t)
-    (λ c κs. search needs)
-    (look-part-returns-2 t)
-    (look-part-add-look-level t)
-    (λ c. search needs)
-    (look-part-look-level-requires t)
-    (λ c κs. search needs)
-    (λ c κs. search needs)
-    (look-part-returns-3 t)
-    (look-part-add-t11 t)
-    (look-part-returns-4 t)
+    (λ c. let next = c .before .look-operand2 .ensures in omega (arith, operator t (c .before .before) .1, next .ahead, next .inside))
+    (level-loop-again t))
+    (λ t. look-operand-lts.spec
+    (operand-claims t) (look-operand-at t) look-operand.Post
+    (λ c κs. search needs) (operand-look-part-requires t) (λ c. c .look-part .ensures) (λ c κs. search needs)
+    (operand-returns-2 t) (λ c κs. search needs) (λ c. omega (arith, word-here t (c .before .before) .1)) (λ c. search needs)
+    (operand-returns-3 t))
+    λ t. look-part-lts.spec
+    (part-claims t) (look-part-at t) look-part.Post
+    (λ c κs. search needs) (λ c κs. search needs) (part-returns t) (λ c κs. search needs) (part-returns-2 t)
+    (λ c. omega (arith, open-here t (c .before) .1)) (λ c. search needs)
+    (λ c κs. (omega arith, (omega (arith, open-here t (c .before) .1), asked t (c .before) .pre .1 .1 .0))) (λ c κs. search needs)
+    (λ c κs. search needs) (part-returns-3 t) (λ c. omega (arith, close-here t c .1)) (part-returns-4 t)

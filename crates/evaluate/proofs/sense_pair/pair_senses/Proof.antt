@@ -7,21 +7,20 @@ use Rattle.evaluate.proofs.sense_pair.pair_senses.Statement.{statement}
 use Rattle.evaluate.proofs.sense_pair.pair_senses.Tie as tie
 
 returns : tie.Need-returns
-returns c = λ o e p q x s t. let r = c .both .result in paired-and p q x (r .inside) (r .until) o (sym (c .before .if1 .taken) ∙ e) (c .both .ensures p q x s t)
+returns c o e p q x s t = paired-and p q o (sym (c .before .if1 .taken) ∙ e) (c .both .ensures p q x s t)
 
 returns-2 : tie.Need-returns-2
-returns-2 c = λ o e p q x s t.
+returns-2 c o e p q x s t =
     let a = c .before .before .before .opposite .ensures p x s in
     let b = c .before .before .opposite2 .ensures q x t in
-    let n = c .opposite3 .ensures (λ y. not (p y) && not (q y)) x (c .before .both2 .ensures (λ y. not (p y)) (λ y. not (q y)) x a b) in
-    let r = c .opposite3 .result in
-    paired-or p q x (r .inside) (r .until) o (sym (c .before .before .before .before .if2 .taken) ∙ e) n
+    paired-or p q o (sym (c .before .before .before .before .if2 .taken) ∙ e)
+    (c .opposite3 .ensures (λ y. not (p y) && not (q y)) x (c .before .both2 .ensures (λ y. not (p y)) (λ y. not (q y)) x a b))
 
 returns-3 : tie.Need-returns-3
-returns-3 c = λ o e p q x s t.
-    let n = c .both3 .ensures p (λ y. not (q y)) x s (c .before .opposite4 .ensures q x t) in
-    let r = c .both3 .result in
-    paired-not p q x (r .inside) (r .until) (c .before .before .before .before .args .code) o e (c .before .before .before .if1 .left) (c .before .before .if2 .left) n
+returns-3 c o e p q x s t =
+    let b = c .before .opposite4 .ensures q x t in
+    paired-not p q (c .before .before .before .before .args .code) o e (c .before .before .before .if1 .left) (c .before .before .if2 .left)
+    (c .both3 .ensures p (λ y. not (q y)) x s b)
 
 pub pair-senses-spec : {M : Type 1} → statement M
 pair-senses-spec =

@@ -2,7 +2,7 @@
 use mathlib.Core.Path.{sym, ap, _∙_}
 use native.Mathlib.Omega.{arith}
 use denote.Ref.{now}
-use Rattle.refusal.specs.declared.Refusal.the-variants.{Edition}
+use Rattle.refusal.specs.declared.Refusal.the-variants.{IndexEdition}
 use Rattle.index.specs.declared.Checked.the-variants.{Refused}
 use Rattle.index.proofs.FrameLaws.{framed}
 use Rattle.index.proofs.RuleLaws.{told-bad, told-good}
@@ -23,7 +23,7 @@ returns-3 : tie.Need-returns-3
 returns-3 c =
     let index = now (c .before .before .before .before .before .before .args .index) in
     let is = c .before .before .read-trailer .ensures in
-    ap (λ n. Refused (Edition n)) (is .edition)
+    ap (λ n. Refused (IndexEdition n)) (is .edition)
     ∙ sym (check-edition index (length-good index (omega arith) (omega arith)) (λ e. c .if3 .taken (is .edition ∙ e)))
 
 returns-4 : tie.Need-returns-4

@@ -1,7 +1,6 @@
 -- What is pending is put piece by piece.
 use Prim.Native.Nat.{_+_, _-_}
 use native.Mathlib.Omega.{arith}
-use denote.Ref.{now}
 use borrow.Author.Needs.{needs}
 use Rattle.intersection.specs.Probing.{inAll}
 use Rattle.intersection.proofs.ProbingLaws.{within-later, Cut, cut-start, cut-fits, cut-next, cut-end-fits, cut-end, cells-put-long}
@@ -15,24 +14,15 @@ Inv-loop index entries j writing out₀ b x₀ tally₀ piece₀ out x tally pie
 abbrev μ-loop : tie.MeasureT-loop
 μ-loop index entries j writing out₀ b x₀ tally₀ piece₀ out x tally piece = b + 1 - x
 
-loop-holds : tie.Need-loop-holds Inv-loop μ-loop
-loop-holds c =
-    let start = c .before .before .before in
-    let a = start .args in
-    cut-start (inAll (now (a .index)) (now (a .entries))) (a .within .lower) (a .within .upper) (a .writing) (now (a .out)) (a .before) (a .within .lower) (start .pre .1)
-
 probe-requires : tie.Need-probe-requires Inv-loop μ-loop
-probe-requires c κs =
-    let start = c .before .before .before .before .before in
-    let a = start .args in
-    (within-later (now (a .index)) (now (a .entries)) (a .j) (a .within .lower) (a .within .upper) (c .before .loop .x) (c .before .loop .inv .near .0) (start .pre .0), c .loop-test .taken)
+probe-requires c κs = (within-later (c .before .loop .inv .near .0) (c .before .before .before .before .before .pre .0), c .loop-test .taken)
 
 close-piece-requires : tie.Need-close-piece-requires Inv-loop μ-loop
 close-piece-requires c κs =
     let inv = c .before .before .before .loop .inv in
-    let start = c .before .before .before .before .before .before .before in
+    let asked = c .before .before .before .before .before .before .before .pre in
     let s = c .before .probe .ensures in
-    (inv .begun, cut-fits inv (start .pre .0 .high) (start .pre .2) (s .0) (s .1))
+    (inv .begun, cut-fits inv (asked .0 .high) (asked .1 .1) (s .0) (s .1))
 
 loop-less : tie.Need-loop-less Inv-loop μ-loop
 loop-less c =
@@ -43,13 +33,14 @@ loop-less c =
 loop-again : tie.Need-loop-again Inv-loop μ-loop
 loop-again c =
     let s = c .before .before .before .before .before .probe .ensures in
-    rw (c .next-piece .ensures .0, c .next-piece .ensures .1) (cut-next (c .before .before .before .before .before .before .before .loop .inv) (s .0) (s .1) (c .before .before .before .close-piece .ensures))
+    rw (c .next-piece .ensures .0, c .next-piece .ensures .1)
+    (cut-next (c .before .before .before .before .before .before .before .loop .inv) (s .0) (s .1) (c .before .before .before .close-piece .ensures))
 
 close-piece-requires-2 : tie.Need-close-piece-requires-2 Inv-loop μ-loop
 close-piece-requires-2 c κs =
     let inv = c .before .before .loop .inv in
-    let start = c .before .before .before .before .before .before in
-    (inv .begun, cut-end-fits inv (start .pre .0 .high) (start .pre .2) (c .before .loop-test .left))
+    let asked = c .before .before .before .before .before .before .pre in
+    (inv .begun, cut-end-fits inv (asked .0 .high) (asked .1 .1) (c .before .loop-test .left))
 
 returns : tie.Need-returns Inv-loop μ-loop
 returns c =
@@ -60,5 +51,5 @@ pub put-within-spec : {M : Type 1} → statement M
 put-within-spec =
     tie.close
     (tie.spec
-    Inv-loop μ-loop loop-holds probe-requires close-piece-requires (λ c κs. search needs) loop-less loop-again
+    Inv-loop μ-loop (λ c. cut-start (c .before .before .before .pre .1 .0)) probe-requires close-piece-requires (λ c κs. search needs) loop-less loop-again
     close-piece-requires-2 (λ c. cells-put-long _ _ _ _ _ _ (returns c)) returns)

@@ -1,6 +1,7 @@
 -- The list that the probe stands in has all of it; any other is searched.
 use native.Mathlib.Omega.{arith}
 use borrow.Author.Needs.{needs}
+use Rattle.merge.proofs.ListsLaws.{asked-entry}
 use Rattle.intersection.proofs.probing.sense_of.Statement.{statement}
 use Rattle.intersection.proofs.probing.sense_of.Tie as tie
 
@@ -8,7 +9,6 @@ returns : tie.Need-returns
 returns c =
     let start = c .before .before .before in
     let w = start .pre .0 in
-    let h = start .pre .1 in
     let m = w .high in
     record {
       later = omega arith;
@@ -20,9 +20,7 @@ sense-in-requires : tie.Need-sense-in-requires
 sense-in-requires c κs =
     let start = c .before .before .before .before in
     let w = start .pre .0 in
-    let h = start .pre .1 in
-    let m = w .high in
-    ((w .asked .sound, w .asked .below (start .args .k) (start .pre .2)), omega arith)
+    (asked-entry (w .asked) (start .args .k) (start .pre .1 .1), omega (arith, w .high))
 
 pub sense-of-spec : {M : Type 1} → statement M
 sense-of-spec =

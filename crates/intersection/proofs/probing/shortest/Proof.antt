@@ -2,9 +2,9 @@
 use Prim.Native.Nat.{_-_}
 use mathlib.Core.Logic.{⊎-elim}
 use native.Mathlib.Omega.{arith}
-use denote.Ref.{now}
 use lib.ListN.{length}
 use borrow.Author.Needs.{needs}
+use Rattle.merge.proofs.ListsLaws.{asked-entry}
 use Rattle.intersection.proofs.ProbingLaws.{Best, best-start, best-same, best-other}
 use Rattle.intersection.proofs.probing.shortest.Statement.{statement}
 use Rattle.intersection.proofs.probing.shortest.Tie as tie
@@ -15,29 +15,17 @@ Inv-loop index entries best₀ fewest₀ j₀ best fewest j = Best index entries
 abbrev μ-loop : tie.MeasureT-loop
 μ-loop index entries best₀ fewest₀ j₀ best fewest j = length entries - j
 
-loop-holds : tie.Need-loop-holds Inv-loop μ-loop
-loop-holds c =
-    let start = c .before .before .before .before in
-    best-start (now (start .args .index)) (now (start .args .entries)) (c .interval-count .result) (start .pre .some) (c .interval-count .ensures .0)
-
 interval-count-requires-2 : tie.Need-interval-count-requires-2 Inv-loop μ-loop
 interval-count-requires-2 c κs =
-    let a = c .before .before .before .before .before .before .before .pre in
-    (a .sound, a .below (c .before .before .loop .j) (c .before .loop-test .taken))
+    asked-entry (c .before .before .before .before .before .before .before .pre) (c .before .before .loop .j) (c .before .loop-test .taken)
 
 loop-again : tie.Need-loop-again Inv-loop μ-loop
 loop-again c =
     let count = c .before in
-    let at = count .before .before .before .loop in
-    let start = count .before .before .before .before .before .before .before .before in
-    let index = now (start .args .index) in
-    let entries = now (start .args .entries) in
+    let inv = count .before .before .before .loop .inv in
     let h = count .before .before .loop-test .taken in
     let e = count .interval-count2 .ensures .0 in
-    ⊎-elim
-    (λ w. rw (w .1, w .2) (best-other index entries (at .best) (at .fewest) (at .j) (count .interval-count2 .result) (at .inv) h e (w .0 .taken)))
-    (λ w. rw (w .1, w .2) (best-same index entries (at .best) (at .fewest) (at .j) (count .interval-count2 .result) (at .inv) h e (w .0 .left)))
-    (c .if1 .came)
+    ⊎-elim (λ w. rw (w .1, w .2) (best-other inv h e (w .0 .taken))) (λ w. rw (w .1, w .2) (best-same inv h e (w .0 .left))) (c .if1 .came)
 
 returns : tie.Need-returns Inv-loop μ-loop
 returns c =
@@ -49,6 +37,8 @@ pub shortest-spec : {M : Type 1} → statement M
 shortest-spec =
     tie.close
     (tie.spec
-    Inv-loop μ-loop (λ c. omega (arith, c .before .before .before .pre .some)) (λ c. omega (arith, c .shared-slice-known3 .given 0)) (λ c κs. let a = c .before .before .before .pre in (a .sound, a .below 0 (a .some))) loop-holds
-    (λ c. search needs) (λ c. search needs) (λ c. omega (arith, c .shared-slice-known4 .given (c .before .before .loop .j))) interval-count-requires-2 (λ c. search needs)
+    Inv-loop μ-loop (λ c. omega (arith, c .before .before .before .pre .some)) (λ c. omega (arith, c .shared-slice-known3 .given 0))
+    (λ c κs. let asked = c .before .before .before .pre in asked-entry asked 0 (asked .some))
+    (λ c. best-start (c .before .before .before .before .pre .some) (c .interval-count .ensures .0)) (λ c. search needs) (λ c. search needs)
+    (λ c. omega (arith, c .shared-slice-known4 .given (c .before .before .loop .j))) interval-count-requires-2 (λ c. search needs)
     (λ c. search needs) loop-again returns)

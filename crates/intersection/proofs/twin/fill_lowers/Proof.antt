@@ -6,6 +6,7 @@ use denote.Ref.{now}
 use lib.ListN.{length, getD}
 use borrow.Author.Needs.{needs}
 use Rattle.list.specs.Kept.{start}
+use Rattle.merge.proofs.ListsLaws.{asked-entry}
 use Rattle.intersection.specs.Twin.{Lowers}
 use Rattle.intersection.proofs.LowersLaws.{lowers-start, lowers-more}
 use Rattle.intersection.proofs.twin.fill_lowers.Statement.{statement}
@@ -18,71 +19,46 @@ Inv-loop index entries lowers₀ places j₀ lowers j =
 abbrev μ-loop : tie.MeasureT-loop
 μ-loop index entries lowers₀ places j₀ lowers j = length entries - j
 
-loop-holds : tie.Need-loop-holds Inv-loop μ-loop
-loop-holds c =
-    let begin = c .before .before .before in
-    (omega arith, lowers-start (now (begin .args .index)) (now (begin .args .entries)) (λ i. getD (begin .args .t3) i start) (now (begin .args .lowers)), begin .pre .2)
+abbrev At : Type 0
+At = tie.At-loop Inv-loop μ-loop
 
-array-copy-out-next-interval : tie.Need-array-copy-out-next-interval Inv-loop μ-loop
-array-copy-out-next-interval c =
-    let few = c .before .before .before .before .before .before .pre .0 .few in
-    let h = c .before .loop-test .taken in
-    omega arith
+abbrev begin : At → tie.Start Inv-loop μ-loop
+begin c = c .before .before .before .before
 
 next-interval-requires : tie.Need-next-interval-requires Inv-loop μ-loop
 next-interval-requires c κs =
-    let pre = c .before .before .before .before .before .before .before .pre in
-    let j = c .before .before .before .loop .j in
+    let at = c .before .before .before in
+    let asked = begin at .pre in
     let h = c .before .before .loop-test .taken in
-    ((pre .0 .sound, pre .0 .below j h), pre .1 .goes j h)
+    (asked-entry (asked .0) (at .loop .j) h, asked .1 .0 .goes (at .loop .j) h)
 
 sub-push : tie.Need-sub-push Inv-loop μ-loop
 sub-push c =
     let next = c .before .before in
     let at = next .before .before .before .before in
-    let pre = at .before .before .before .before .pre in
-    let s = pre .1 .small (at .loop .j) (next .before .before .before .loop-test .taken) in
-    let e = next .next-interval .ensures .0 in
-    omega arith
-
-push-requires : tie.Need-push-requires Inv-loop μ-loop
-push-requires c κs =
-    let at = c .before .before .before .before .before .before in
-    let few = at .before .before .before .before .pre .0 .few in
-    let i = at .loop .inv in
-    let l = i .2 in
-    (omega arith, i .1 .heap)
+    let s = begin at .pre .1 .0 .small (at .loop .j) (next .before .before .before .loop-test .taken) in
+    omega (arith, next .next-interval .ensures .0)
 
 loop-again : tie.Need-loop-again Inv-loop μ-loop
 loop-again c =
     let push = c .before .before in
     let next = push .before .before .before in
-    let at = next .before .before .before .before in
-    let begin = at .before .before .before .before in
-    let p = rw (next .next-interval .ensures .0) at (push .push .ensures) in (
-      omega arith,
-      lowers-more (now (begin .args .index)) (now (begin .args .entries)) (λ i. getD (begin .args .t3) i start) (at .loop .j) (at .loop .j) (at .loop .lowers) (at .loop .inv .1) _ p,
-      p .room ∙ at .loop .inv .2,
-    )
-
-same-length : tie.Need-same-length Inv-loop μ-loop
-same-length c =
-    let begin = c .before .before .before .before .before in
-    c .before .loop .inv .2 ∙ sym (begin .pre .2)
+    let inv = next .before .before .before .before .loop .inv in
+    let p = rw (next .next-interval .ensures .0) at (push .push .ensures) in
+    (omega arith, lowers-more (inv .1) p, p .room ∙ inv .2)
 
 returns : tie.Need-returns Inv-loop μ-loop
 returns c =
     let at = c .before in
-    let i = at .loop .inv in
-    let h = c .loop-test .left in
-    let begin = at .before .before .before .before in
-    let e : at .loop .j ≡ length (now (begin .args .entries)) = omega arith in
-    (rw e at (i .1), i .2)
+    let e : at .loop .j ≡ length (now (begin at .args .entries)) = omega arith in
+    (rw e at (at .loop .inv .1), at .loop .inv .2)
 
 pub fill-lowers-spec : {M : Type 1} → statement M
 fill-lowers-spec =
     tie.close
     (tie.spec
-    Inv-loop μ-loop loop-holds (λ c. search needs) (λ c. omega arith) (λ c. omega (arith, c .shared-slice-known3 .given (c .before .before .loop .j)))
-    (λ c. search needs) array-copy-out-next-interval next-interval-requires sub-push push-requires (λ c. omega arith) (λ c. omega arith)
-    loop-again same-length returns)
+    Inv-loop μ-loop (λ c. (omega arith, lowers-start, c .before .before .before .pre .1 .1)) (λ c. search needs) (λ c. omega arith)
+    (λ c. omega (arith, c .shared-slice-known3 .given (c .before .before .loop .j))) (λ c. search needs)
+    (λ c. omega (arith, begin (c .before .before) .pre .0 .few, c .before .loop-test .taken)) next-interval-requires sub-push
+    (λ c κs. let at = c .before .before .before .before .before .before in (omega (arith, begin at .pre .0 .few, at .loop .inv .2), at .loop .inv .1 .heap))
+    (λ c. omega arith) (λ c. omega arith) loop-again (λ c. c .before .loop .inv .2 ∙ sym (begin (c .before) .pre .1 .1)) returns)

@@ -4,26 +4,17 @@ use native.Mathlib.Omega.{arith}
 use Rattle.intersection.proofs.twin.with_room.Statement.{statement}
 use Rattle.intersection.proofs.twin.with_room.Tie as tie
 
-returns : tie.Need-returns
-returns c =
-    let pre = c .before .before .before .before .pre in
-    (pre .3, pre .2, c .if1 .taken)
-
-fill-lowers-requires : tie.Need-fill-lowers-requires
-fill-lowers-requires c κs =
-    let pre = c .before .before .before .before .before .pre in
-    (pre .0, pre .1, pre .2)
-
-same-length : tie.Need-same-length
-same-length c =
-    let filled = c .before .before in
-    filled .fill-lowers .ensures .1 ∙ sym (filled .before .before .before .before .before .before .pre .2)
-
 returns-2 : tie.Need-returns-2
 returns-2 c =
     let filled = c .before .before in
     let few = filled .before .before .before .before .before .before .pre .0 .few in
-    (filled .fill-lowers .ensures .0, filled .fill-lowers .ensures .1, omega arith)
+    (filled .fill-lowers .ensures .0, (filled .fill-lowers .ensures .1, omega arith))
 
 pub with-room-spec : {M : Type 1} → statement M
-with-room-spec = tie.close (tie.spec returns fill-lowers-requires same-length returns-2)
+with-room-spec =
+    tie.close
+    (tie.spec
+    (λ c. let asked = c .before .before .before .before .pre .1 .1 in (asked .1, (asked .0, c .if1 .taken)))
+    (λ c κs. let asked = c .before .before .before .before .before .pre in (asked .0, (asked .1 .0, asked .1 .1 .0)))
+    (λ c. let filled = c .before .before in filled .fill-lowers .ensures .1 ∙ sym (filled .before .before .before .before .before .before .pre .1 .1 .0))
+    returns-2)

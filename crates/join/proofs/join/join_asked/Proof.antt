@@ -1,59 +1,51 @@
 -- Room for the lists together is room for the join; otherwise the join is counted.
-use mathlib.Core.Path.{sym}
+use Prim.Native.Nat.{ℕ, _*_, _/_, _≤_}
+use mathlib.Core.Path.{_≡_, sym}
 use native.Mathlib.Omega.{arith}
 use denote.Ref.{now}
+use mathlib.Core.List.{List}
+use lib.ListN.{length}
 use Rattle.laws.proofs.Tests.{true-false}
+use Rattle.list.specs.Interval.{intervals}
+use Rattle.list.proofs.ListingLaws.{listed, counted-refused, counted-room, counted-listed}
 use Rattle.merge.specs.Request.{listsOf}
 use Rattle.join.specs.Method.{joinOf}
-use Rattle.join.proofs.AnswerLaws.{join-bound, join-whole, room-cells, listed, counted-none, counted-room, counted-listed}
+use Rattle.join.proofs.AnswerLaws.{join-bound, join-whole}
 use borrow.Author.Needs.{needs}
 use Rattle.join.proofs.join.join_asked.Statement.{statement}
 use Rattle.join.proofs.join.join_asked.Tie as tie
 
-sweep-requires : tie.Need-sweep-requires
-sweep-requires c κs =
-    let start = c .before .before .before .before .before .before in
-    let a = start .args in
-    let b = join-bound (a .method) (now (a .index)) (now (a .entries)) (start .pre) in
-    let s = c .before .before .interval-sum .ensures .0 in
-    let r = c .before .if1 .taken in
-    (start .pre, λ w. room-cells (joinOf (a .method) (listsOf (now (a .index)) (now (a .entries)))) (now (a .out)) (join-whole (a .method) (listsOf (now (a .index)) (now (a .entries)))) (omega arith))
+-- the join, which has whole intervals
+abbrev joined : tie.Start → List ℕ
+joined c = joinOf (c .args .method) (listsOf (now (c .args .index)) (now (c .args .entries)))
 
-returns : tie.Need-returns
-returns c =
-    let sweep = c .before .before in
-    let start = sweep .before .before .before .before .before .before .before in
-    let a = start .args in
-    let b = join-bound (a .method) (now (a .index)) (now (a .entries)) (start .pre) in
-    let s = sweep .before .before .before .interval-sum .ensures .0 in
-    let r = sweep .before .before .if1 .taken in
-    listed (joinOf (a .method) (listsOf (now (a .index)) (now (a .entries)))) (now (a .out)) _ _ (omega arith) (sweep .sweep .ensures)
+whole : (c : tie.Start) → 2 * intervals (joined c) ≡ length (joined c)
+whole c = join-whole (c .args .method) (listsOf (now (c .args .index)) (now (c .args .entries)))
 
-returns-2 : tie.Need-returns-2
-returns-2 c =
-    let count = c .before .before .before .before in
-    let a = count .before .before .before .before .before .before .before .args in
-    counted-none (joinOf (a .method) (listsOf (now (a .index)) (now (a .entries)))) (now (a .out)) _ (count .sweep2 .result) (count .sweep2 .ensures) (c .if2 .taken)
+-- the bound fits
+fits : (c : tie.Then1) → let start = c .before .before .before .before .before in intervals (joined start) ≤ length (now (start .args .out)) / 2
+fits c =
+    let start = c .before .before .before .before .before in
+    omega (arith, join-bound (start .args .method) (start .pre), c .before .interval-sum .ensures .0, c .if1 .taken)
 
 sweep-requires-3 : tie.Need-sweep-requires-3
 sweep-requires-3 c κs =
     let count = c .before .before .before .before .before in
     let start = count .before .before .before .before .before .before .before in
-    let a = start .args in
-    let whole = join-whole (a .method) (listsOf (now (a .index)) (now (a .entries))) in
-    (start .pre, λ w. counted-room (joinOf (a .method) (listsOf (now (a .index)) (now (a .entries)))) (now (a .out)) _ (count .sweep2 .result) (count .sweep2 .ensures) (c .before .if2 .left) whole)
+    (start .pre, λ w. counted-room (count .sweep2 .ensures) (whole start) (c .before .if2 .left))
 
 returns-3 : tie.Need-returns-3
 returns-3 c =
     let sweep = c .before .before in
     let past = sweep .before .before in
-    let count = past .before .before .before .before in
-    let a = count .before .before .before .before .before .before .before .args in
-    counted-listed (joinOf (a .method) (listsOf (now (a .index)) (now (a .entries)))) (now (a .out)) _ (count .sweep2 .result) (count .sweep2 .ensures) _ (sweep .sweep3 .result) (past .if2 .left) (sweep .sweep3 .ensures)
+    counted-listed (past .before .before .before .before .sweep2 .ensures) (past .if2 .left) (sweep .sweep3 .ensures)
 
 pub join-asked-spec : {M : Type 1} → statement M
 join-asked-spec =
     tie.close
     (tie.spec
-    (λ c κs. search needs) sweep-requires (λ c. search needs) returns (λ c κs. (c .before .before .before .before .before .before .pre, λ w. true-false (sym w))) (λ c. search needs) returns-2
-    sweep-requires-3 (λ c. search needs) returns-3)
+    (λ c κs. search needs)
+    (λ c κs. let start = c .before .before .before .before .before .before in (start .pre, λ w. omega (arith, whole start, fits (c .before)))) (λ c. search needs)
+    (λ c. let sweep = c .before .before in listed (fits (sweep .before .before)) (sweep .sweep .ensures))
+    (λ c κs. (c .before .before .before .before .before .before .pre, λ w. true-false (sym w))) (λ c. search needs)
+    (λ c. counted-refused (c .before .before .before .before .sweep2 .ensures) (c .if2 .taken)) sweep-requires-3 (λ c. search needs) returns-3)

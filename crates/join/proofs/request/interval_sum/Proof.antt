@@ -6,6 +6,7 @@ use denote.Ref.{now}
 use lib.ListN.{length, drop}
 use borrow.Author.Needs.{needs}
 use Rattle.merge.specs.Request.{listsOf}
+use Rattle.merge.proofs.ListsLaws.{asked-entry}
 use Rattle.join.specs.Bound.{intervalSum}
 use Rattle.join.proofs.JoinBound.{sum-next, sum-end}
 use Rattle.join.proofs.request.interval_sum.Statement.{statement}
@@ -20,8 +21,7 @@ abbrev μ-loop : tie.MeasureT-loop
 
 interval-count-requires : tie.Need-interval-count-requires Inv-loop μ-loop
 interval-count-requires c κs =
-    let pre = c .before .before .before .before .before .pre in
-    (pre .sound, pre .below (c .before .before .loop .j) (c .before .loop-test .taken))
+    asked-entry (c .before .before .before .before .before .pre) (c .before .before .loop .j) (c .before .loop-test .taken)
 
 loop-again : tie.Need-loop-again Inv-loop μ-loop
 loop-again c =

@@ -1,33 +1,20 @@
 -- Three fields, one behind the other.
-use mathlib.Core.List.{_++_}
-use Prim.Native.Nat.{_+_}
+use Prim.Native.Nat.{_+_, _≤_}
+use native.Mathlib.Omega.{arith}
 use borrow.Author.Needs.{needs}
+use lib.ListN.{length, length-append}
 use Rattle.lines.specs.Line.{numeral, field}
-use Rattle.lines.proofs.PutLaws.{puts-then, room-front, room-behind}
+use Rattle.lines.proofs.PutLaws.{puts-then}
 use Rattle.lines.proofs.line.put_head.Statement.{statement}
 use Rattle.lines.proofs.line.put_head.Tie as tie
 
-put-number-requires : tie.Need-put-number-requires
-put-number-requires c κs =
-    let start = c .before .before in
-    let number = numeral (start .args .number) in
-    let refusal = field (start .args .refusal) in
-    room-front number refusal 0 _ (room-front (number ++ refusal) (field (start .args .value)) 0 _ (start .pre))
+room : (s : tie.Start) → let a = s .args in length (numeral (a .number)) + length (field (a .refusal)) + length (field (a .value)) ≤ length (a .out .now)
+room s = omega (arith, simp length-append at (s .pre))
 
-put-field-requires : tie.Need-put-field-requires
-put-field-requires c κs =
-    let called = c .before .before .before in
-    let start = called .before .before .before in
-    let number = numeral (start .args .number) in
-    let refusal = field (start .args .refusal) in
-    room-behind refusal (called .put-number .ensures) (room-front (number ++ refusal) (field (start .args .value)) 0 _ (start .pre))
-
-put-field-requires-2 : tie.Need-put-field-requires-2
-put-field-requires-2 c κs =
-    let second = c .before .before .before in
-    let first = second .before .before .before .before in
-    let start = first .before .before .before in
-    room-behind (field (start .args .value)) (puts-then (first .put-number .ensures) (second .put-field .ensures)) (start .pre)
+-- once the number is put
+behind : (d : tie.After-put-number) → let a = d .before .before .before .args in
+    d .put-number .result + length (field (a .refusal)) + length (field (a .value)) ≤ length (a .out .now)
+behind d = omega (arith, room (d .before .before .before), d .put-number .ensures .end)
 
 returns : tie.Need-returns
 returns c =
@@ -40,4 +27,6 @@ pub put-head-spec : {M : Type 1} → statement M
 put-head-spec =
     tie.close
     (tie.spec
-    put-number-requires put-field-requires put-field-requires-2 (λ c. search needs) returns)
+    (λ c κs. omega (arith, room (c .before .before))) (λ c κs. omega (arith, behind (c .before .before .before)))
+    (λ c κs. let second = c .before .before .before in omega (arith, behind (second .before .before .before .before), second .put-field .ensures .end))
+    (λ c. search needs) returns)

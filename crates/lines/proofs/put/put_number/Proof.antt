@@ -23,7 +23,4 @@ returns c =
     rw e at (called .put-bytes .ensures)
 
 pub put-number-spec : {M : Type 1} → statement M
-put-number-spec =
-    tie.close
-    (tie.spec
-    (λ c κs. search needs) (λ c. search needs) (λ c. search needs) put-bytes-requires (λ c. search needs) returns)
+put-number-spec = tie.close (tie.spec (λ c κs. search needs) (λ c. search needs) (λ c. search needs) put-bytes-requires (λ c. search needs) returns)

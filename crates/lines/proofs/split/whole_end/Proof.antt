@@ -18,9 +18,6 @@ Inv-loop input most end₀ end =
 abbrev μ-loop : tie.MeasureT-loop
 μ-loop input most end₀ end = end
 
-loop-holds : tie.Need-loop-holds Inv-loop μ-loop
-loop-holds c = (omega arith, refl)
-
 returns : tie.Need-returns Inv-loop μ-loop
 returns c =
     let turn = c .before .before .before in
@@ -46,5 +43,5 @@ pub whole-end-spec : {M : Type 1} → statement M
 whole-end-spec =
     tie.close
     (tie.spec
-    Inv-loop μ-loop loop-holds (λ c. search needs) (λ c. search needs) returns (λ c. search needs) (λ c. search needs)
-    loop-again returns-2)
+    Inv-loop μ-loop (λ c. (omega arith, refl)) (λ c. search needs) (λ c. search needs) returns (λ c. search needs) (λ c. search needs) loop-again
+    returns-2)

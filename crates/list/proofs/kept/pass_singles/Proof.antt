@@ -1,7 +1,8 @@
 -- What is left of the pass is the same in each turn.
-use Prim.Native.Nat.{_-_, _/_}
-use mathlib.Core.Path.{_≡_, refl, sym, _∙_}
+use Prim.Native.Nat.{ℕ, _+_, _-_, _/_, _<_}
+use mathlib.Core.Path.{_≡_, refl, sym, ap, _∙_}
 use native.Mathlib.Omega.{arith}
+use mathlib.Core.List.{List}
 use lib.ListN.{length, drop}
 use denote.Ref.{now}
 use borrow.Author.Needs.{needs}
@@ -20,51 +21,49 @@ Inv-loop singles bound least0 count p₀ least₀ p least =
 abbrev μ-loop : tie.MeasureT-loop
 μ-loop singles bound least0 count p₀ least₀ p least = count - p .0
 
+-- single p has been read
+abbrev Read : Type 0
+Read = tie.After-number-at Inv-loop μ-loop
+
+abbrev turn : Read → tie.At-loop Inv-loop μ-loop
+turn c = c .before .before .before
+
+abbrev S : tie.At-loop Inv-loop μ-loop → List ℕ
+S c = numbersIn (now (c .before .before .args .singles))
+
+abbrev bound : Read → ℕ
+bound c = turn c .before .before .args .bound
+
+here : (c : Read) → turn c .loop .p .0 < length (S (turn c))
+here c = omega (arith, numbersIn-length (now (turn c .before .before .args .singles)), c .before .if1 .taken)
+
 returns : tie.Need-returns Inv-loop μ-loop
 returns c =
-    let at = c .before .before .before .before in
-    let l = at .loop in
-    let a = at .before .before .args in
-    let xs = numbersIn (now (a .singles)) in
-    let n = numbersIn-length (now (a .singles)) in
-    let e = c .before .number-at .ensures in
-    sym (l .inv .1 ∙ passed-stop (a .bound) (l .least) xs (l .p .0) (omega (arith, c .before .before .if1 .taken)) (omega (arith, c .if2 .taken)))
+    let r = c .before in
+    let l = turn r .loop in
+    sym (l .inv .1 ∙ passed-stop (bound r) (l .least) (S (turn r)) (l .p .0) (here r) (omega (arith, r .number-at .ensures, c .if2 .taken)))
 
 returns-2 : tie.Need-returns-2 Inv-loop μ-loop
 returns-2 c =
-    let at = c .before .before .before .before .before in
-    let l = at .loop in
-    let a = at .before .before .args in
-    let xs = numbersIn (now (a .singles)) in
-    let n = numbersIn-length (now (a .singles)) in
-    let e = c .before .before .number-at .ensures in
-    sym
-    (l .inv .1
-    ∙ passed-bad (a .bound) (l .least) xs (l .p .0) (omega (arith, c .before .before .before .if1 .taken)) (omega (arith, c .before .if2 .left)) (omega (arith, c .if3 .taken)))
+    let r = c .before .before in
+    let l = turn r .loop in
+    let e = r .number-at .ensures in
+    sym (l .inv .1 ∙ passed-bad (bound r) (l .least) (S (turn r)) (l .p .0) (here r) (omega (arith, c .before .if2 .left)) (omega (arith, c .if3 .taken)))
 
 loop-again : tie.Need-loop-again Inv-loop μ-loop
 loop-again c =
-    let read = c .before .before .before in
-    let at = read .before .before .before in
-    let l = at .loop in
-    let a = at .before .before .args in
-    let xs = numbersIn (now (a .singles)) in
-    let n = numbersIn-length (now (a .singles)) in
-    let e = read .number-at .ensures in (
-      refl,
-      l .inv .1
-          ∙ passed-on (a .bound) (l .least) xs (l .p .0) (omega (arith, read .before .if1 .taken)) (omega (arith, c .before .before .if2 .left)) (omega (arith, c .before .if3 .left))
-          ∙ rw e,
-    )
+    let r = c .before .before .before in
+    let l = turn r .loop in
+    let e = r .number-at .ensures in
+    let on = passed-on (bound r) (l .least) (S (turn r)) (l .p .0) (here r) (omega (arith, c .before .before .if2 .left)) (omega (arith, c .before .if3 .left)) in
+    (refl, l .inv .1 ∙ on ∙ ap (λ (v : ℕ). passed (bound r) (v + 2) (l .p .0 + 1) (drop (l .p .0 + 1) (S (turn r)))) (sym e))
 
 returns-3 : tie.Need-returns-3 Inv-loop μ-loop
 returns-3 c =
     let at = c .before .before in
     let l = at .loop in
     let a = at .before .before .args in
-    let xs = numbersIn (now (a .singles)) in
-    let n = numbersIn-length (now (a .singles)) in
-    sym (l .inv .1 ∙ passed-end (a .bound) (l .least) xs (l .p .0) (omega (arith, c .if1 .left)))
+    sym (l .inv .1 ∙ passed-end (a .bound) (l .least) (S at) (l .p .0) (omega (arith, numbersIn-length (now (a .singles)), c .if1 .left)))
 
 pub pass-singles-spec : {M : Type 1} → statement M
 pass-singles-spec =

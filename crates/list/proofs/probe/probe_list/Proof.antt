@@ -3,11 +3,10 @@ use Prim.Native.Nat.{ℕ, _-_, _+_, _≤_, _<_}
 use native.Mathlib.Omega.{arith}
 use denote.Ref.{now}
 use mathlib.Core.List.{List}
-use Rattle.list.specs.Interval.{top}
+use Rattle.limits.specs.Limits.{recordMax}
 use Rattle.list.specs.Cell.{numbersIn}
 use Rattle.list.specs.Seek.{countBelow}
-use Rattle.list.proofs.CellLaws.{numbersIn-length}
-use Rattle.list.proofs.SeekLaws.{count-length, count-mono}
+use Rattle.list.proofs.SeekLaws.{count-mono}
 use Rattle.list.proofs.WalkLaws.{walked-below}
 use Rattle.list.proofs.KeptLaws.{Kept, kept-facts}
 use Rattle.list.proofs.ProbeLaws.{ended-begun, probe-overlap}
@@ -24,15 +23,15 @@ L s = numbersIn (now (s .args .lower))
 abbrev U : tie.Start → List ℕ
 U s = numbersIn (now (s .args .upper))
 
-facts : (s : tie.Start) → Kept top (S s) (L s) (U s)
-facts s = kept-facts top (S s) (L s) (U s) (s .pre .0)
+facts : (s : tie.Start) → Kept recordMax (S s) (L s) (U s)
+facts s = kept-facts recordMax (S s) (L s) (U s) (s .pre .0)
 
 -- what has ended before a has begun by b
 singles-begun : (s : tie.Start) → countBelow (s .args .a) (S s) ≤ countBelow (s .args .b + 1) (S s)
-singles-begun s = count-mono (s .args .a) (s .args .b + 1) (S s) (omega (arith, s .pre .1))
+singles-begun s = count-mono (s .args .a) (s .args .b + 1) (S s) (omega (arith, s .pre .1 .0))
 
 pairs-begun : (s : tie.Start) → countBelow (s .args .a) (U s) ≤ countBelow (s .args .b + 1) (L s)
-pairs-begun s = ended-begun top (s .args .a) (s .args .b) (S s) (L s) (U s) (facts s) (s .pre .1)
+pairs-begun s = ended-begun recordMax (s .args .a) (s .args .b) (S s) (L s) (U s) (facts s) (s .pre .1 .0)
 
 count-below-requires-3 : tie.Need-count-below-requires-3
 count-below-requires-3 c κs =
@@ -52,11 +51,6 @@ sums : (c : tie.After-count-below4) →
     Sums (c .before .before .before .count-below .result) (c .before .before .count-below2 .result) (c .before .count-below3 .result) (c .count-below4 .result)
 sums c =
     let s = c .before .before .before .before .before .before .before in
-    let a = s .args in
-    let ns = numbersIn-length (now (a .singles)) in
-    let nl = numbersIn-length (now (a .lower)) in
-    let fs = count-length (a .b + 1) (S s) in
-    let fl = count-length (a .b + 1) (L s) in
     let cs = c .before .before .before .count-below .ensures in
     let cu = c .before .before .count-below2 .ensures in
     let ds = c .before .count-below3 .ensures in
@@ -74,7 +68,7 @@ returns c =
     let ds = counted .before .count-below3 .ensures in
     let dl = counted .count-below4 .ensures in
     let f = walked-below (S s) (L s) (U s) (facts s .long) (s .args .a) in
-    let g = probe-overlap top (s .args .a) (s .args .b) (S s) (L s) (U s) (facts s) (s .pre .1) in
+    let g = probe-overlap recordMax (s .args .a) (s .args .b) (S s) (L s) (U s) (facts s) (s .pre .1 .0) in
     (omega arith, omega arith)
 
 pub probe-list-spec : {M : Type 1} → statement M

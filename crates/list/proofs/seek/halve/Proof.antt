@@ -1,13 +1,12 @@
 -- The count lies from lo to hi, and each half that is left out does not hold it.
-use Prim.Native.Nat.{_≤_, _-_, _+_, _<_, _/_}
+use Prim.Native.Nat.{_≤_, _-_, _+_, _/_}
 use native.Mathlib.Omega.{arith}
-use lib.ListN.{length, getD}
+use lib.ListN.{length}
 use denote.Ref.{now}
 use borrow.Author.Needs.{needs}
 use Rattle.list.specs.Cell.{numbersIn}
 use Rattle.list.specs.Seek.{countBelow}
-use Rattle.list.proofs.CellLaws.{numbersIn-length}
-use Rattle.list.proofs.SeekLaws.{count-over, count-under}
+use Rattle.list.proofs.SeekLaws.{region-over, region-under}
 use Rattle.list.proofs.seek.halve.Statement.{statement}
 use Rattle.list.proofs.seek.halve.Tie as tie
 
@@ -22,26 +21,17 @@ loop-again : tie.Need-loop-again Inv-loop μ-loop
 loop-again c =
     let at = c .before .before .before in
     let l = at .loop in
-    let a = at .before .before .args in
-    let xs = numbersIn (now (a .region)) in
-    let n = numbersIn-length (now (a .region)) in
-    let mid = l .lo + (l .hi - l .lo) / 2 in
-    let e = c .before .number-at .ensures in
-    let h : getD xs mid 0 < a .x = omega (arith, c .if1 .taken) in
-    let g = count-over 0 (a .x) xs (at .before .before .pre .0 .0) mid (omega arith) h in
+    let start = at .before .before in
+    let g = region-over (now (start .args .region)) (start .args .x) (l .lo + (l .hi - l .lo) / 2) _ (start .pre .0) (omega arith) (c .before .number-at .ensures) (c .if1 .taken) in
     (omega arith, omega arith, omega arith)
 
 loop-again-2 : tie.Need-loop-again-2 Inv-loop μ-loop
 loop-again-2 c =
     let at = c .before .before .before in
     let l = at .loop in
-    let a = at .before .before .args in
-    let xs = numbersIn (now (a .region)) in
-    let n = numbersIn-length (now (a .region)) in
-    let mid = l .lo + (l .hi - l .lo) / 2 in
-    let e = c .before .number-at .ensures in
-    let h : a .x ≤ getD xs mid 0 = omega (arith, c .if1 .left) in
-    (omega arith, count-under 0 (a .x) xs (at .before .before .pre .0 .0) mid (omega arith) h, omega arith)
+    let start = at .before .before in
+    let g = region-under (now (start .args .region)) (start .args .x) (l .lo + (l .hi - l .lo) / 2) _ (start .pre .0) (omega arith) (c .before .number-at .ensures) (c .if1 .left) in
+    (omega arith, g, omega arith)
 
 pub halve-spec : {M : Type 1} → statement M
 halve-spec =

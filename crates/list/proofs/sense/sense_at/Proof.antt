@@ -5,8 +5,8 @@ use native.Mathlib.Omega.{arith}
 use mathlib.Core.List.{List}
 use lib.ListN.{length, getD}
 use denote.Ref.{now}
+use Rattle.limits.specs.Limits.{recordMax}
 use Rattle.list.specs.declared.Place.{Place}
-use Rattle.list.specs.Interval.{top}
 use Rattle.list.specs.Cell.{numbersIn}
 use Rattle.list.specs.Seek.{countBelow}
 use Rattle.list.specs.Sense.{numberOrEnd}
@@ -26,21 +26,21 @@ L s = numbersIn (now (s .args .lower))
 abbrev U : tie.Start → List ℕ
 U s = numbersIn (now (s .args .upper))
 
-facts : (s : tie.Start) → Kept top (S s) (L s) (U s)
-facts s = kept-facts top (S s) (L s) (U s) (s .pre .0)
+facts : (s : tie.Start) → Kept recordMax (S s) (L s) (U s)
+facts s = kept-facts recordMax (S s) (L s) (U s) (s .pre .0)
 
 -- the place of x
 single-place : (s : tie.Start) → s .args .at .p .0 ≡ countBelow (s .args .x) (S s)
-single-place s = ap (λ (w : Place). w .p .0) (s .pre .1)
+single-place s = ap (λ (w : Place). w .p .0) (s .pre .1 .0)
 
 pair-place : (s : tie.Start) → s .args .at .q .0 ≡ countBelow (s .args .x) (U s)
-pair-place s = ap (λ (w : Place). w .q .0) (s .pre .1)
+pair-place s = ap (λ (w : Place). w .q .0) (s .pre .1 .0)
 
 returns : tie.Need-returns
 returns c =
     let s = c .before .before .before .before .before .before .before in
-    let f = number-found (S s) (countBelow (s .args .x) (S s)) (s .args .x) _ (c .before .number-or-end .ensures ∙ ap (λ (i : ℕ). numberOrEnd (S s) i) (single-place s)) (c .if1 .taken) (s .pre .2) in
-    sense-single (S s) (L s) (U s) top (s .args .x) (facts s) (omega arith) (f .0) (f .1)
+    let f = number-found (S s) (countBelow (s .args .x) (S s)) (s .args .x) _ (c .before .number-or-end .ensures ∙ ap (λ (i : ℕ). numberOrEnd (S s) i) (single-place s)) (c .if1 .taken) (s .pre .1 .1) in
+    sense-single (S s) (L s) (U s) recordMax (s .args .x) (facts s) (omega arith) (f .0) (f .1)
 
 abbrev begin : tie.Then2 → tie.Start
 begin c = c .before .before .before .before .before .before .before .before .before
@@ -50,7 +50,7 @@ begun : (c : tie.Then2) →
     (countBelow (begin c .args .x) (U (begin c)) < length (L (begin c))) × (getD (L (begin c)) (countBelow (begin c .args .x) (U (begin c))) 0 ≤ begin c .args .x)
 begun c =
     let s = begin c in
-    number-found (L s) (countBelow (s .args .x) (U s)) (s .args .x) _ (c .before .number-or-end2 .ensures ∙ ap (λ (i : ℕ). numberOrEnd (L s) i) (pair-place s)) (c .if2 .taken) (s .pre .2)
+    number-found (L s) (countBelow (s .args .x) (U s)) (s .args .x) _ (c .before .number-or-end2 .ensures ∙ ap (λ (i : ℕ). numberOrEnd (L s) i) (pair-place s)) (c .if2 .taken) (s .pre .1 .1)
 
 number-at-requires : tie.Need-number-at-requires
 number-at-requires c κs =
@@ -73,7 +73,7 @@ returns-2 : tie.Need-returns-2
 returns-2 c =
     let s = begin (c .before) in
     let h = begun (c .before) in
-    rw (upper c) (sense-pair (S s) (L s) (U s) top (s .args .x) (facts s) (omega arith) (h .0) (h .1))
+    rw (upper c) (sense-pair (S s) (L s) (U s) recordMax (s .args .x) (facts s) (omega arith) (h .0) (h .1))
 
 returns-3 : tie.Need-returns-3
 returns-3 c =
@@ -81,7 +81,7 @@ returns-3 c =
     let es = c .before .before .before .before .number-or-end .ensures ∙ ap (λ (i : ℕ). numberOrEnd (S s) i) (single-place s) in
     let el = c .before .before .number-or-end2 .ensures ∙ ap (λ (i : ℕ). numberOrEnd (L s) i) (pair-place s) in
     rw (c .smaller .ensures)
-    (sense-none (S s) (L s) (U s) top (s .args .x) (facts s) _ _ es el (omega arith) (c .before .before .before .if1 .left) (c .before .if2 .left))
+    (sense-none (S s) (L s) (U s) recordMax (s .args .x) (facts s) _ _ es el (omega arith) (c .before .before .before .if1 .left) (c .before .if2 .left))
 
 pub sense-at-spec : {M : Type 1} → statement M
 sense-at-spec =

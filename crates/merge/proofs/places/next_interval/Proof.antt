@@ -1,28 +1,23 @@
 -- The three regions are the entry's.
-use mathlib.Core.Path.{sym, ap, _∙_}
-use lib.ListN.{length}
-use Rattle.merge.proofs.ListsLaws.{entry-regions}
 use borrow.Author.Needs.{needs}
 use Rattle.merge.proofs.places.next_interval.Statement.{statement}
 use Rattle.merge.proofs.places.next_interval.Tie as tie
 
 interval-at-requires : tie.Need-interval-at-requires
 interval-at-requires c κs =
-    let start = c .before .before .before .before in
-    let pre = start .pre in (
-      rw (c .before .before .singles-of .ensures, c .before .lower-of .ensures) (pre .1),
-      ap length (c .before .lower-of .ensures) ∙ entry-regions (start .args .index .now) (pre .0 .0) (start .args .entry) (pre .0 .1) ∙ sym (ap length (c .upper-of .ensures)),
-    )
+    let found = c .before .before .before in
+    let g = found .regions-of .ensures in
+    (rw (g .singles, g .lower) (found .before .before .pre .1), g .paired)
 
 returns : tie.Need-returns
 returns c =
-    let s = c .before .before .before .singles-of .ensures in
-    let l = c .before .before .lower-of .ensures in
-    let u = c .before .upper-of .ensures in
-    (rw (← s, ← l) (c .interval-at .ensures .0), rw (← s, ← l, ← u) (c .interval-at .ensures .1))
+    let g = c .before .before .before .before .regions-of .ensures in
+    let e = c .interval-at .ensures in
+    (rw (← g .singles, ← g .lower) (e .0), rw (← g .singles, ← g .lower, ← g .upper) (e .1))
 
 pub next-interval-spec : {M : Type 1} → statement M
 next-interval-spec =
     tie.close
     (tie.spec
-    (λ c κs. search needs) (λ c κs. search needs) (λ c κs. search needs) interval-at-requires returns)
+    (λ c κs. search needs) (λ c. search needs) (λ c. search needs) (λ c. search needs) (λ c. search needs) (λ c. search needs)
+    (λ c. search needs) (λ c. search needs) (λ c. search needs) (λ c. search needs) interval-at-requires returns)

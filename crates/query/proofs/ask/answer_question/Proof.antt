@@ -1,8 +1,8 @@
 -- The reading refuses first; of an accepted question, what its answer is.
 use mathlib.Core.Path.{sym, _∙_}
 use Rattle.question.specs.Grammar.{fromLeft}
-use Rattle.slots.proofs.FindLaws.{reading-asked}
-use Rattle.query.proofs.AskLaws.{refused-answers, reading-refuses}
+use Rattle.question.proofs.ParsedLaws.{reading-accepted, reading-refused}
+use Rattle.query.proofs.AskLaws.{refused-answers}
 use borrow.Author.Needs.{needs}
 use Rattle.query.proofs.ask.answer_question.Statement.{statement}
 use Rattle.query.proofs.ask.answer_question.Tie as tie
@@ -10,13 +10,16 @@ use Rattle.query.proofs.ask.answer_question.Tie as tie
 answer-accepted-requires : tie.Need-answer-accepted-requires
 answer-accepted-requires c κs =
     let start = c .before .before .before .before .before .before .before in
-    (start .pre, reading-asked (start .args .question .now) (c .before .enum-told .given .0 .0) (sym (c .before .before .before .read-question .ensures) ∙ c .before .enum-told .given .1))
+    let told = c .before .enum-told .given in
+    let by = reading-accepted fromLeft (start .args .question .now) (told .0 .0) (sym (c .before .before .before .read-question .ensures) ∙ told .1) in
+    (start .pre, record { tree = by .tree; words = told .0 .0; is = by .accepted })
 
 returns-2 : tie.Need-returns-2
 returns-2 c =
     let a = c .before .before .before .before .before .before .before .args in
-    let e = sym (c .before .before .before .read-question .ensures) ∙ c .before .refusal .given .1 in
-    refused-answers fromLeft (a .index .now) (a .question .now) (a .out .now) (c .before .refusal .given .0 .0) (reading-refuses (a .question .now) (c .before .refusal .given .0 .0) e)
+    let refusal = c .before .refusal .given in
+    let e = sym (c .before .before .before .read-question .ensures) ∙ refusal .1 in
+    refused-answers fromLeft (a .index .now) (a .question .now) (a .out .now) (refusal .0 .0) (reading-refused fromLeft (a .question .now) (refusal .0 .0) e)
 
 pub answer-question-spec : {M : Type 1} → statement M
 answer-question-spec =

@@ -9,17 +9,20 @@ use Rattle.query.proofs.ask.ask.Tie as tie
 
 answer-question-requires : tie.Need-answer-question-requires
 answer-question-requires c κs =
-    good-sound (c .before .before .before .before .before .before .before .args .index .now) (sym (c .before .before .before .check-index .ensures) ∙ c .before .enum-told .given .1)
+    let good = sym (c .before .before .before .check-index .ensures) ∙ c .before .enum-told .given .1 in
+    good-sound (c .before .before .before .before .before .before .before .args .index .now) good
 
 returns : tie.Need-returns
 returns c =
     let a = c .before .before .before .before .before .before .before .before .before .before .args in
-    good-asks fromLeft (a .index .now) (a .question .now) (a .out .now) _ _ (sym (c .before .before .before .before .before .before .check-index .ensures) ∙ c .before .before .before .before .enum-told .given .1) (c .before .before .answer-question .ensures)
+    let good = sym (c .before .before .before .before .before .before .check-index .ensures) ∙ c .before .before .before .before .enum-told .given .1 in
+    good-asks fromLeft (a .index .now) (a .question .now) (a .out .now) _ _ good (c .before .before .answer-question .ensures)
 
 returns-2 : tie.Need-returns-2
 returns-2 c =
     let a = c .before .before .before .before .before .before .before .args in
-    refused-asks fromLeft (a .index .now) (a .question .now) (a .out .now) (c .before .refusal .given .0 .0) (sym (c .before .before .before .check-index .ensures) ∙ c .before .refusal .given .1)
+    let refusal = c .before .refusal .given in
+    refused-asks fromLeft (a .index .now) (a .question .now) (a .out .now) (refusal .0 .0) (sym (c .before .before .before .check-index .ensures) ∙ refusal .1)
 
 pub ask-spec : {M : Type 1} → statement M
 ask-spec =

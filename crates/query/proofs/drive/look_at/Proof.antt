@@ -1,15 +1,14 @@
 -- The senses of all the words of each tree that the codes read as are known at x.
-use native.Mathlib.Omega.{arith}
 use borrow.Author.Needs.{needs}
-use Rattle.query.proofs.DriveLaws.{tree-steady}
+use Rattle.query.proofs.TestLaws.{tree-steady}
 use Rattle.query.proofs.drive.look_at.Statement.{statement}
 use Rattle.query.proofs.drive.look_at.Tie as tie
 
 renew-senses-requires : tie.Need-renew-senses-requires
 renew-senses-requires c κs =
-    let start = c .before .before .before .before .before .before .before in
-    let slotted = start .pre .1 in
-    ((start .pre .0 .0, slotted .long), ((slotted .few, start .pre .0 .1), slotted .sensed))
+    let asked = c .before .before .before .before .before .before .before .pre in
+    let slotted = asked .1 .1 in
+    (asked .0, (slotted .long, (slotted .few, (asked .1 .0, slotted .sensed))))
 
 returns : tie.Need-returns
 returns c =
@@ -19,7 +18,11 @@ returns c =
       renewed .0,
       (
         renewed .1 .0,
-        λ t o. tree-steady (a .codes .now) (a .index .now) (a .entries .now) t o (a .slots) (a .x) _ _ (start .pre .1 .all) (renewed .1 .1) (c .look-level .ensures),
+        (
+          renewed .1 .1 .0,
+          λ t o.
+              tree-steady o (a .index .now) (a .entries .now) (a .slots) (a .x) (start .pre .1 .1 .all) (renewed .1 .1 .1) (c .look-level .ensures),
+        ),
       ),
     )
 

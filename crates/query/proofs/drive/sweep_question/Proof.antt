@@ -10,10 +10,10 @@ sweep-requires : tie.Need-sweep-requires
 sweep-requires c κs =
     let start = c .before .before .before .before .before .before .before .before in
     let a = start .args in
-    let reads = start .pre .0 in
-    let slots = start .pre .1 .0 in (
-      (record { sound = reads .0; entries-long = reads .1; hints-long = refl }, refl, reads .2),
-      (record { long = refl; few = slots .0; all = slots .1; sensed = sensed-none (slotHas (a .index .now) (a .entries .now)) 16 1 }, start .pre .1 .1),
+    let by = start .pre .0 in
+    let none = sensed-none (slotHas (a .index .now) (a .entries .now)) 16 1 in (
+      record { sound = by .sound; entries-long = by .entries-long; hints-long = refl },
+      (refl, (start .pre .1 .0, (record { long = refl; few = by .few; all = by .all; sensed = none }, start .pre .1 .1))),
     )
 
 pub sweep-question-spec : {M : Type 1} → statement M

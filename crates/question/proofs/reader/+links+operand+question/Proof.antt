@@ -145,49 +145,15 @@ question-returns-2 : (t : ℕ) → question-lts.Need-returns-2 (question-claims 
 question-returns-2 t c = laws.question-bad (c .before .before .before .operand .ensures) (c .before .refusal .given .1)
 
 pub +links+operand+question-spec : {M : Type 1} → statement M
-+links+operand+question-spec = close μ-links μ-operand μ-question (λ t. links-lts.spec (links-claims t)
-    (links-at t)
-    links.Post
-    (λ c κs. search needs)
-    (λ c. search needs)
-    (links-operand-requires t)
-    (λ c. search needs)
-    (links-links-requires t)
-    (λ c. search needs)
-    (links-returns t)
-    (links-returns-2 t)
-    (links-returns-3 t))
-    (λ t. operand-lts.spec (operand-claims t)
-    (operand-at t)
-    operand.Post
-    (λ c κs. search needs)
-    (λ c. search needs)
-    (λ c. search needs)
-    (λ c. search needs)
-    (operand-returns t)
-    (λ c. search needs)
-    (operand-add-question t)
-    (operand-question-requires t)
-    (λ c. search needs)
-    (operand-next-token-requires-2 t)
-    (λ c. search needs)
-    (operand-add-t26 t)
-    (λ c κs. search needs)
-    (λ c. search needs)
-    (λ c κs. search needs)
-    (operand-returns-2 t)
-    (operand-returns-3 t)
-    (operand-returns-4 t)
-    (operand-returns-5 t)
-    (operand-returns-6 t)
-    (operand-returns-7 t))
-    λ t. question-lts.spec
-    (question-claims t)
-    (question-at t)
-    question.Post
-    (λ c κs. search needs)
-    (λ c. search needs)
-    (question-links-requires t)
-    (λ c. search needs)
-    (question-returns t)
-    (question-returns-2 t)
++links+operand+question-spec =
+    close μ-links μ-operand μ-question
+    (λ t. links-lts.spec (links-claims t) (links-at t) links.Post
+    (λ c κs. search needs) (λ c. search needs) (links-operand-requires t) (λ c. search needs) (links-links-requires t)
+    (λ c. search needs) (links-returns t) (links-returns-2 t) (links-returns-3 t))
+    (λ t. operand-lts.spec (operand-claims t) (operand-at t) operand.Post
+    (λ c κs. search needs) (λ c. search needs) (λ c. search needs) (λ c. search needs) (operand-returns t) (λ c. search needs)
+    (operand-add-question t) (operand-question-requires t) (λ c. search needs) (operand-next-token-requires-2 t)
+    (λ c. search needs) (operand-add-t26 t) (λ c κs. search needs) (λ c. search needs) (λ c κs. search needs)
+    (operand-returns-2 t) (operand-returns-3 t) (operand-returns-4 t) (operand-returns-5 t) (operand-returns-6 t) (operand-returns-7 t))
+    (λ t. question-lts.spec (question-claims t) (question-at t) question.Post
+    (λ c κs. search needs) (λ c. search needs) (question-links-requires t) (λ c. search needs) (question-returns t) (question-returns-2 t))

@@ -1,7 +1,7 @@
 -- The bytes stay as many, and what counts lies within them.
 use native.Mathlib.Omega.{arith}
 use borrow.Author.Needs.{needs}
-use Rattle.script.proofs.ReadsLaws.{counts-within}
+use Rattle.parts.proofs.PartLaws.{counts-within}
 use Rattle.script.proofs.lay.change.Statement.{statement}
 use Rattle.script.proofs.lay.change.Tie as tie
 
@@ -9,5 +9,4 @@ pub change-spec : {M : Type 1} → statement M
 change-spec =
     tie.close
     (tie.spec
-    (λ c κs. search needs) (λ c κs. search needs) (λ c κs. search needs) (λ c. search needs)
-    (λ c. (counts-within _ _ (omega arith), search needs)))
+    (λ c κs. search needs) (λ c κs. search needs) (λ c κs. search needs) (λ c. search needs) (λ c. (counts-within _ _ (omega arith), search needs)))

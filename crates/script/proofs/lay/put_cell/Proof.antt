@@ -5,23 +5,10 @@ use borrow.Author.Needs.{needs}
 use Rattle.script.proofs.lay.put_cell.Statement.{statement}
 use Rattle.script.proofs.lay.put_cell.Tie as tie
 
-slice-write-bytes-2 : tie.Need-slice-write-bytes-2
-slice-write-bytes-2 c = simp length-set (omega arith)
-
-slice-write-bytes-3 : tie.Need-slice-write-bytes-3
-slice-write-bytes-3 c = simp length-set (omega arith)
-
-slice-write-bytes-4 : tie.Need-slice-write-bytes-4
-slice-write-bytes-4 c = simp length-set (omega arith)
-
 pub put-cell-spec : {M : Type 1} → statement M
 put-cell-spec =
     tie.close
     (tie.spec
-    (λ c. search needs) (λ c. search needs) (λ c. search needs) (λ c. search needs)
-    slice-write-bytes-2
-    (λ c. search needs) (λ c. search needs)
-    slice-write-bytes-3
-    (λ c. search needs) (λ c. search needs)
-    slice-write-bytes-4
+    (λ c. search needs) (λ c. search needs) (λ c. search needs) (λ c. search needs) (λ c. simp length-set (omega arith)) (λ c. search needs)
+    (λ c. search needs) (λ c. simp length-set (omega arith)) (λ c. search needs) (λ c. search needs) (λ c. simp length-set (omega arith))
     (λ c. search needs) (λ c. search needs))

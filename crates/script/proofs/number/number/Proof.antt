@@ -5,13 +5,13 @@ use native.Mathlib.Omega.{arith}
 use borrow.Author.Needs.{needs}
 use denote.Ref.{now}
 use lib.ListN.{length, drop}
-use Rattle.script.specs.Number.{numberFrom, numberOf}
+use Rattle.script.specs.Number.{numberFrom, numberIn}
 use Rattle.script.proofs.NumberLaws.{number-on, number-stop, number-end}
 use Rattle.script.proofs.number.number.Statement.{statement}
 use Rattle.script.proofs.number.number.Tie as tie
 
 abbrev Inv-loop : tie.InvT-loop
-Inv-loop s value₀ i₀ value i = (i ≤ length s) × (value < 1000000000000000000) × (numberOf s ≡ numberFrom value (drop i s))
+Inv-loop s value₀ i₀ value i = (i ≤ length s) × (value < 1000000000000000000) × (numberIn s ≡ numberFrom value (drop i s))
 
 abbrev μ-loop : tie.MeasureT-loop
 μ-loop s value₀ i₀ value i = length s - i
@@ -41,10 +41,5 @@ pub number-spec : {M : Type 1} → statement M
 number-spec =
     tie.close
     (tie.spec
-    Inv-loop
-    μ-loop
-    (λ c. (omega arith, omega arith, refl)) (λ c. search needs) (λ c κs. search needs)
-    returns
-    (λ c. search needs) (λ c. search needs) (λ c κs. search needs) (λ c. search needs) (λ c. search needs) (λ c. search needs)
-    loop-again
-    returns-2)
+    Inv-loop μ-loop (λ c. (omega arith, omega arith, refl)) (λ c. search needs) (λ c κs. search needs) returns (λ c. search needs) (λ c. search needs)
+    (λ c κs. search needs) (λ c. search needs) (λ c. search needs) (λ c. search needs) loop-again returns-2)

@@ -5,20 +5,17 @@ use native.Mathlib.Omega.{arith}
 use borrow.Author.Needs.{needs}
 use denote.Ref.{now}
 use lib.ListN.{length, drop}
-use Rattle.script.specs.Number.{numbersOf}
+use Rattle.script.specs.Number.{fieldNumbers}
 use Rattle.script.proofs.NumberLaws.{numbers-from, numbers-end}
 use Rattle.script.proofs.ReadsLaws.{Left, left-all, left-one, left-full, left-none, reads-counts}
 use Rattle.script.proofs.number.read_numbers.Statement.{statement}
 use Rattle.script.proofs.number.read_numbers.Tie as tie
 
 abbrev Inv-loop : tie.InvT-loop
-Inv-loop s out₀ count₀ at₀ out count at = Left (numbersOf s) out₀ 0 (numbersOf (drop at s)) out count
+Inv-loop s out₀ count₀ at₀ out count at = Left (fieldNumbers s) out₀ 0 (fieldNumbers (drop at s)) out count
 
 abbrev μ-loop : tie.MeasureT-loop
 μ-loop s out₀ count₀ at₀ out count at = length s - at
-
-returns : tie.Need-returns Inv-loop μ-loop
-returns c = let reads = left-full (c .before .before .loop .inv) (omega arith) in (reads, reads-counts reads)
 
 loop-again : tie.Need-loop-again Inv-loop μ-loop
 loop-again c =
@@ -38,14 +35,7 @@ pub read-numbers-spec : {M : Type 1} → statement M
 read-numbers-spec =
     tie.close
     (tie.spec
-    Inv-loop
-    μ-loop
-    (λ c. left-all _ _ _)
-    (λ c. c .before .before .loop .inv .same)
-    returns
-    (λ c κs. search needs)
-    (λ c. search needs) (λ c. search needs) (λ c. search needs) (λ c κs. search needs) (λ c. search needs) (λ c. search needs)
-    (λ c. search needs) (λ c. search needs) (λ c. search needs)
-    loop-again
-    (λ c. c .before .loop .inv .same)
-    returns-2)
+    Inv-loop μ-loop (λ c. left-all _ _ _) (λ c. c .before .before .loop .inv .same)
+    (λ c. let reads = left-full (c .before .before .loop .inv) (omega arith) in (reads, reads-counts reads)) (λ c κs. search needs)
+    (λ c. search needs) (λ c. search needs) (λ c. search needs) (λ c κs. search needs) (λ c. search needs) (λ c. search needs) (λ c. search needs)
+    (λ c. search needs) (λ c. search needs) loop-again (λ c. c .before .loop .inv .same) returns-2)

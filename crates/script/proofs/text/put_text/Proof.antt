@@ -16,9 +16,6 @@ Inv-loop s out₀ from at₀ i₀ out at i = (i ≤ length s) × Left (textOf s)
 abbrev μ-loop : tie.MeasureT-loop
 μ-loop s out₀ from at₀ i₀ out at i = length s - i
 
-returns : tie.Need-returns Inv-loop μ-loop
-returns c = left-full (c .before .before .loop .inv .1) (omega arith)
-
 loop-again : tie.Need-loop-again Inv-loop μ-loop
 loop-again c =
     let turn = c .before .before .before in
@@ -33,11 +30,6 @@ pub put-text-spec : {M : Type 1} → statement M
 put-text-spec =
     tie.close
     (tie.spec
-    Inv-loop
-    μ-loop
-    (λ c. (omega arith, left-all _ _ _)) (λ c. c .before .before .loop .inv .1 .same)
-    returns
-    (λ c κs. search needs) (λ c. search needs) (λ c. search needs) (λ c. search needs)
-    loop-again
-    (λ c. c .before .loop .inv .1 .same)
-    returns-2)
+    Inv-loop μ-loop (λ c. (omega arith, left-all _ _ _)) (λ c. c .before .before .loop .inv .1 .same)
+    (λ c. left-full (c .before .before .loop .inv .1) (omega arith)) (λ c κs. search needs) (λ c. search needs) (λ c. search needs)
+    (λ c. search needs) loop-again (λ c. c .before .loop .inv .1 .same) returns-2)

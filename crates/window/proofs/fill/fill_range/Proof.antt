@@ -1,6 +1,7 @@
 -- The loop has filled from the second word to below word k; the first word before it and the last behind it join (`filled-join`).
-use Prim.Native.Nat.{_≤_, _-_, _+_, _*_, _/_, _<_}
+use Prim.Native.Nat.{ℕ, _≤_, _-_, _+_, _*_, _/_, _<_}
 use mathlib.Core.Path.{_≡_, refl}
+use mathlib.Core.List.{List}
 use native.Mathlib.Omega.{arith}
 use lib.ListN.{length, length-set, set, getD}
 use lib.Bits.{bitOr}
@@ -16,56 +17,36 @@ Inv-loop ws₀ a b i j first last k₀ ws k = (i < k) × (k ≤ j) × Filled ws�
 abbrev μ-loop : tie.MeasureT-loop
 μ-loop ws₀ a b i j first last k₀ ws k = j - k
 
-same-length : tie.Need-same-length Inv-loop μ-loop
-same-length c = simp length-set
+abbrev Loop : Type 0
+Loop = tie.At-loop Inv-loop μ-loop
 
-returns : tie.Need-returns Inv-loop μ-loop
-returns c = fill-one (c .before .before .args .ws .now) (c .before .before .args .a) (c .before .before .args .b) _ (omega arith) refl (omega arith) (c .before .before .pre .0)
+-- the window with its first word filled is as long as it was, and so is the one that the loop has come to
+abbrev begun : Loop → List ℕ
+begun c = let a = c .before .before .before .args in set (a .ws .now) (a .a / 64) (bitOr (getD (a .ws .now) (a .a / 64) 0) (firstMask (a .a)))
 
-loop-holds : tie.Need-loop-holds Inv-loop μ-loop
-loop-holds c = (omega arith, omega arith, filled-none _ _)
+begun-long : (c : Loop) → length (begun c) ≡ length (c .before .before .before .args .ws .now)
+begun-long c = simp length-set
 
-slice-write-ws-3 : tie.Need-slice-write-ws-3 Inv-loop μ-loop
-slice-write-ws-3 c = let w = c .before .loop .inv .2 .long in let v = simp length-set at w in omega arith
+long : (c : Loop) → length (c .loop .ws) ≡ length (c .before .before .before .args .ws .now)
+long c = simp length-set at (c .loop .inv .2 .long)
 
 loop-again : tie.Need-loop-again Inv-loop μ-loop
 loop-again c =
-    let at = c .before in
-    let l = at .loop in
-    let a = at .before .before .before .args in
-    let ws = a .ws .now in
-    let i = a .a / 64 in
-    let ws1 = set ws i (bitOr (getD ws i 0) (firstMask (a .a))) in
+    let l = c .before .loop in
     let e : 64 * l .k + 64 ≡ 64 * (l .k + 1) = omega arith in
-    let m : l .k < length ws1 = simp length-set (omega arith) in
-    (omega arith, omega arith, rw e at (fill-between ws1 (l .ws) (64 * (i + 1)) (l .k) m (omega arith) (l .inv .2)))
-
-slice-read-ws-3 : tie.Need-slice-read-ws-3 Inv-loop μ-loop
-slice-read-ws-3 c = let w = c .before .before .loop .inv .2 .long in let v = simp length-set at w in omega arith
-
-slice-write-ws-4 : tie.Need-slice-write-ws-4 Inv-loop μ-loop
-slice-write-ws-4 c = let w = c .before .before .loop .inv .2 .long in let v = simp length-set at w in omega arith
-
-same-length-2 : tie.Need-same-length-2 Inv-loop μ-loop
-same-length-2 c =
-    let w = c .before .before .loop .inv .2 .long in
-    simp length-set (simp length-set at w)
+    (omega arith, omega arith, rw e at (fill-between (l .k) (omega (arith, begun-long (c .before))) (omega arith) (l .inv .2)))
 
 returns-2 : tie.Need-returns-2 Inv-loop μ-loop
 returns-2 c =
     let at = c .before .before in
     let l = at .loop in
     let a = at .before .before .before .args in
-    let ws = a .ws .now in
     let i = a .a / 64 in
-    let ws1 = set ws i (bitOr (getD ws i 0) (firstMask (a .a))) in
     let j = a .b / 64 in
     let e : 64 * i + 64 ≡ 64 * (i + 1) = omega arith in
     let e′ : l .k ≡ j = omega arith in
-    let m : j < length ws1 = simp length-set (omega arith) in
-    filled-join ws ws1 _ (a .a) (64 * (i + 1)) (a .b + 1) (omega arith) (omega arith)
-    (rw e at (fill-first ws (a .a) i (omega arith) refl))
-    (fill-last ws1 (l .ws) (64 * (i + 1)) (a .b) j m (omega arith) refl (rw e′ at (l .inv .2)))
+    filled-join (omega arith) (omega arith) (rw e at (fill-first (a .ws .now) (a .a) i (omega arith) refl))
+    (fill-last (a .b) j (omega (arith, begun-long at)) (omega arith) refl (rw e′ at (l .inv .2)))
 
 pub fill-range-spec : {M : Type 1} → statement M
 fill-range-spec =
@@ -73,7 +54,9 @@ fill-range-spec =
     (tie.spec
     Inv-loop μ-loop (λ c. search needs) (λ c. search needs) (λ c. search needs) (λ c. search needs) (λ c. search needs)
     (λ c. search needs) (λ c. search needs) (λ c. search needs) (λ c. search needs) (λ c. search needs)
-    (λ c. search needs) same-length returns (λ c. search needs) (λ c. search needs) (λ c. search needs)
-    (λ c. search needs) (λ c. search needs) loop-holds (λ c. search needs) slice-write-ws-3 (λ c. search needs)
-    (λ c. search needs) loop-again (λ c. search needs) slice-read-ws-3 (λ c. search needs) slice-write-ws-4
-    same-length-2 returns-2)
+    (λ c. search needs) (λ c. simp length-set)
+    (λ c. let start = c .before .before in fill-one (start .args .ws .now) (start .args .a) (start .args .b) _ (omega arith) refl (omega arith) (start .pre .0))
+    (λ c. search needs) (λ c. search needs) (λ c. search needs) (λ c. search needs) (λ c. search needs)
+    (λ c. (omega arith, omega arith, filled-none _ _)) (λ c. search needs) (λ c. omega (arith, long (c .before)))
+    (λ c. search needs) (λ c. search needs) loop-again (λ c. search needs) (λ c. omega (arith, long (c .before .before)))
+    (λ c. search needs) (λ c. omega (arith, long (c .before .before))) (λ c. simp length-set (long (c .before .before))) returns-2)

@@ -1,27 +1,45 @@
--- The cell is written, or counted, by what each of the two calls says.
-use mathlib.Core.List.{[]}
-use Rattle.list.specs.Stretches.{turned}
-use Rattle.window.specs.Flips.{odd}
-use Rattle.window.proofs.StepLaws.{put-wrote, put-counted}
+-- Each of the four ways is one cell or none, by the value before (the parity of k) and the value now.
+use borrow.Author.Needs.{needs}
+use Rattle.window.proofs.SweepLaws.{stays-in, turns-in, stays-out, turns-out}
+use Rattle.window.proofs.StepLaws.{put-none}
 use Rattle.window.proofs.steps.put_turn.Statement.{statement}
 use Rattle.window.proofs.steps.put_turn.Tie as tie
-use borrow.Author.Needs.{needs}
-
-write-turn-requires : tie.Need-write-turn-requires
-write-turn-requires c κs = let at = c .before .before .before in (at .pre .0, at .pre .2 (c .before .if1 .taken))
 
 returns : tie.Need-returns
 returns c =
-    let wrote = c .before .before .write-turn .ensures in
-    let at = c .before .before .before .before in
-    let a = at .before .before .args in
-    put-wrote (turned (odd (a .k)) (a .inside) (a .x) []) (a .k) (a .writing) (a .out .now) _ _ (at .if1 .taken) (wrote .0) (wrote .1)
+    let a = c .before .before .before .args in
+    rw (stays-in (a .k) (a .x) (c .if2 .taken) (c .before .if1 .taken)) (put-none (a .k) (a .writing) (a .out .now))
+
+put-cell-requires : tie.Need-put-cell-requires
+put-cell-requires c κs =
+    let start = c .before .before .before .before in
+    (start .pre .1 .0, rw (turns-in (start .args .k) (start .args .x) (c .before .if2 .left) (c .before .before .if1 .taken)) at (start .pre .1 .1))
 
 returns-2 : tie.Need-returns-2
 returns-2 c =
-    let at = c .before in
-    let a = at .before .before .args in
-    put-counted (turned (odd (a .k)) (a .inside) (a .x) []) (a .k) (a .writing) (a .out .now) _ (at .if1 .left) (c .count-turn .ensures (a .x))
+    let turn = c .before .before .before .before in
+    let a = turn .before .before .before .args in
+    rw (turns-in (a .k) (a .x) (turn .if2 .left) (turn .before .if1 .taken)) (c .before .before .put-cell .ensures)
+
+returns-3 : tie.Need-returns-3
+returns-3 c =
+    let a = c .before .before .before .args in
+    rw (stays-out (a .k) (a .x) (c .if3 .taken) (c .before .if1 .left)) (put-none (a .k) (a .writing) (a .out .now))
+
+put-cell-requires-2 : tie.Need-put-cell-requires-2
+put-cell-requires-2 c κs =
+    let start = c .before .before .before .before in
+    (start .pre .1 .0, rw (turns-out (start .args .k) (start .args .x) (c .before .if3 .left) (c .before .before .if1 .left)) at (start .pre .1 .1))
+
+returns-4 : tie.Need-returns-4
+returns-4 c =
+    let turn = c .before .before .before .before in
+    let a = turn .before .before .before .args in
+    rw (turns-out (a .k) (a .x) (turn .if3 .left) (turn .before .if1 .left)) (c .before .before .put-cell2 .ensures)
 
 pub put-turn-spec : {M : Type 1} → statement M
-put-turn-spec = tie.close (tie.spec write-turn-requires (λ c. search needs) returns (λ c κs. search needs) returns-2)
+put-turn-spec =
+    tie.close
+    (tie.spec
+    returns put-cell-requires (λ c. search needs) returns-2 returns-3 (λ c. search needs) put-cell-requires-2
+    (λ c. search needs) returns-4)

@@ -7,21 +7,18 @@ use Rattle.window.proofs.steps.take_jump.Statement.{statement}
 use Rattle.window.proofs.steps.take_jump.Tie as tie
 
 put-turn-requires : tie.Need-put-turn-requires
-put-turn-requires c κs = let pre = c .before .before .pre in (pre .0, pre .2, pre .4)
+put-turn-requires c κs = let pre = c .before .before .pre in (pre .0, (pre .1 .1 .0, pre .1 .1 .1 .1))
 
 returns : tie.Need-returns
 returns c p constant =
     let start = c .before .before .before .before .before .before in
-    let a = start .args in
-    stepped-jump p (a .inside) (a .x) (a .y) (a .k) (a .records) (a .writing) (a .out .now) _ _ _ (start .pre .0) (start .pre .1) constant
-    (c .before .before .before .put-turn .ensures) (rw (c .if1 .taken))
+    stepped-jump (start .pre .0) (start .pre .1 .0) constant (c .before .before .before .put-turn .ensures) (rw (c .if1 .taken))
 
 returns-2 : tie.Need-returns-2
 returns-2 c p constant =
     let start = c .before .before .before .before .before .before in
-    let a = start .args in
-    stepped-jump p (a .inside) (a .x) (a .y) (a .k) (a .records) (a .writing) (a .out .now) _ _ _ (start .pre .0) (start .pre .1) constant
-    (c .before .before .before .put-turn .ensures) (rw (c .if1 .left) (sym (add-zero (a .records))))
+    stepped-jump (start .pre .0) (start .pre .1 .0) constant (c .before .before .before .put-turn .ensures)
+    (rw (c .if1 .left) (sym (add-zero (start .args .records))))
 
 pub take-jump-spec : {M : Type 1} → statement M
 take-jump-spec =

@@ -1,0 +1,4 @@
+pub mod BytesLaws
+pub mod KeptBytesLaws
+pub mod LayoutLaws
+pub mod WriteLaws

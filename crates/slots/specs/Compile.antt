@@ -1,0 +1,31 @@
+-- A question made ready in one pass over its tokens: its codes, one a token, and an entry number for each word, in its slot.
+use Prim.Native.Nat.{ℕ, _≤_, _<_}
+use mathlib.Core.Path.{_≡_}
+use mathlib.Core.Bool.{Bool, false, cond}
+use mathlib.Core.List.{List, []}
+use lib.Dec.{ltb}
+use lib.ListN.{length, getD, take}
+use Rattle.list.specs.Interval.{names}
+use Rattle.index.specs.Format.{wordCount, listOf}
+use Rattle.directory.specs.Has.{has}
+use Rattle.question.specs.Token.{tokens}
+use Rattle.question.specs.Limits.{tokenWords}
+use Rattle.codes.specs.Code.{codesOf}
+use Rattle.slots.specs.Slots.{slotHas}
+use Rattle.slots.specs.declared.compile.Compiled.{Compiled}
+
+-- an entry number stands for a word: it has the word's records, and one that is no entry's has none
+abbrev pub entryHas : List ℕ → ℕ → ℕ → Bool
+entryHas index e x = cond (ltb e (wordCount index)) (names (listOf index e) x) false
+
+abbrev pub StandsFor : List ℕ → List ℕ → ℕ → Type 0
+StandsFor index word e = (x : ℕ) → entryHas index e x ≡ has index word x
+
+-- the first cells are the question's codes, and each slot has what the index has of its word
+pub record Compiles (index question codes codes′ entries entries′ : List ℕ) (r : Compiled) : Type 0 where
+  pub codes-long : length codes′ ≡ length codes
+  pub within : r .codes ≤ length codes
+  pub coded : take (r .codes) codes′ ≡ codesOf (tokens question)
+  pub entries-long : length entries′ ≡ length entries
+  pub count : r .slots ≡ length (tokenWords (tokens question))
+  pub have : (k : ℕ) → k < r .slots → (x : ℕ) → slotHas index entries′ k x ≡ has index (getD (tokenWords (tokens question)) k []) x
