@@ -11,6 +11,7 @@ use Rattle.list.specs.declared.reading.Interval.{Interval}
 use Rattle.list.specs.Interval.{names, intervals, records}
 use Rattle.list.specs.Stretches.{stretches}
 use Rattle.index.specs.Format.{listOf}
+use Rattle.merge.specs.Every.{inAll}
 use Rattle.merge.specs.Request.{SoundRequest}
 
 -- list j of the request has no more intervals than any other
