@@ -8,11 +8,11 @@ use crate::Method;
 use crate::request::check_request;
 use crate::request::interval_sum;
 use index::Checked;
-use intersection::probing::sweep_probing;
-use intersection::twin::sweep_twin;
 use list::answer::Answer;
 use list::answer::Tally;
+use probing::sweep_probing;
 use refusal::Refusal;
+use twin::sweep_twin;
 use union::active::sweep_active;
 use union::scan::sweep_scan;
 

@@ -4,3 +4,4 @@ pub mod ArrayCells
 pub mod KeysLaws
 pub mod DueLaws
 pub mod TallyLaws
+pub mod EveryLaws

@@ -1,0 +1,3 @@
+pub mod FrontierLaws
+pub mod LowersLaws
+pub mod TwinLaws
