@@ -1,12 +1,12 @@
 -- The lists of a join by their regions, and when one is used up at its reading place.
-use Prim.Native.Nat.{ℕ, _+_, _≤_}
+use Prim.Native.Nat.{ℕ, _+_, _≤_, _<_}
 use mathlib.Core.Bool.{Bool}
 use mathlib.Core.List.{List}
 use lib.Dec.{leb}
-use lib.ListN.{length}
+use lib.ListN.{length, getD, set}
 use Rattle.list.specs.declared.Place.{Place}
 use Rattle.list.specs.Cell.{numbersIn}
-use Rattle.list.specs.Kept.{nextPlace, lowerAt, upperAt}
+use Rattle.list.specs.Kept.{start, nextPlace, lowerAt, upperAt}
 use Rattle.list.specs.Reading.{Goes}
 use Rattle.index.specs.Format.{singlesOf, lowerOf, upperOf}
 
@@ -41,3 +41,11 @@ placeBehind index i at = nextPlace (entrySingles index i) (entryLowers index i) 
 -- the list of entry i is used up at a place
 abbrev pub usedUp : List ℕ → ℕ → Place → Bool
 usedUp index i at = leb (length (entrySingles index i) + length (entryLowers index i)) (at .p .0 + at .q .0)
+
+-- place j is one of n, and an interval of its list, which has these singles and lower bounds, is next there
+abbrev pub CanStep : ℕ → List Place → ℕ → List ℕ → List ℕ → Type 0
+CanStep n places j singles lowers = (j < n) × Goes singles lowers (getD places j start)
+
+-- the places, of which j has moved on
+abbrev pub oneOn : List Place → ℕ → List ℕ → List ℕ → List Place
+oneOn places j singles lowers = set places j (nextPlace singles lowers (getD places j start))

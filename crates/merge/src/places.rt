@@ -4,10 +4,9 @@ ghost use Prim.Native.Nat.{_<_};
 ghost use lib.ListN.{length, getD, set, replicate};
 ghost use Rattle.limits.specs.Limits.{joinMax};
 ghost use Rattle.list.specs.Cell.{numbersIn};
-ghost use Rattle.list.specs.Kept.{start, nextPlace};
-ghost use Rattle.list.specs.Reading.{Goes};
+ghost use Rattle.list.specs.Kept.{start};
 ghost use Rattle.directory.specs.Regions.{EntryIn};
-ghost use Rattle.merge.specs.Places.{PlaceIn, GoesIn, nextLowerIn, nextUpperIn, placeBehind, usedUp};
+ghost use Rattle.merge.specs.Places.{PlaceIn, GoesIn, nextLowerIn, nextUpperIn, placeBehind, usedUp, CanStep, oneOn};
 use directory::parts::Regions;
 use directory::parts::interval_count;
 use directory::parts::regions_of;
@@ -31,8 +30,8 @@ pub fn all_at_start() -> [Place; JOIN_MAX]
 
 // The thin step: reading place j of a lent slice moves on in its list.
 pub fn step(places: &mut [Place], j: usize, singles: &[u8], lower: &[u8])
-    requires { ⌜ (j < length (now places)) × Goes (numbersIn (now singles)) (numbersIn (now lower)) (getD (now places) j start) ⌝ }
-    ensures { λ _. ⌜ now (places .exit) ≡ set (now (places .entry)) j (nextPlace (numbersIn (now (singles .entry))) (numbersIn (now (lower .entry))) (getD (now (places .entry)) j start)) ⌝ }
+    requires { ⌜ CanStep (length (now places)) (now places) j (numbersIn (now singles)) (numbersIn (now lower)) ⌝ }
+    ensures { λ _. ⌜ now (places .exit) ≡ oneOn (now (places .entry)) j (numbersIn (now (singles .entry))) (numbersIn (now (lower .entry))) ⌝ }
 {
     places[j] = next_place(singles, lower, places[j]);
 }
@@ -44,8 +43,8 @@ pub fn stepped(
     singles: &[u8],
     lower: &[u8],
 ) -> [Place; JOIN_MAX]
-    requires { ⌜ (j < joinMax) × Goes (numbersIn (now singles)) (numbersIn (now lower)) (getD places j start) ⌝ }
-    ensures { λ r. ⌜ r ≡ set places j (nextPlace (numbersIn (now (singles .entry))) (numbersIn (now (lower .entry))) (getD places j start)) ⌝ }
+    requires { ⌜ CanStep joinMax places j (numbersIn (now singles)) (numbersIn (now lower)) ⌝ }
+    ensures { λ r. ⌜ r ≡ oneOn places j (numbersIn (now (singles .entry))) (numbersIn (now (lower .entry))) ⌝ }
 {
     let mut all = places;
     step(&mut all, j, singles, lower);
