@@ -47,8 +47,8 @@ shown-within Good index (parses t k) room = listed-within (satisfying index t) r
 
 -- what stood in the cells before does not show in the line
 listed-same : (number : ℕ) (c : List ℕ) (t : Bool) (out : List ℕ) →
-    lineOf number (cond t (answer.Listed (tallyOf c)) (answer.Refused (Room (intervals c)))) (cond t (c ++ drop (length c) out) out)
-    ≡ lineOf number (cond t (answer.Listed (tallyOf c)) (answer.Refused (Room (intervals c)))) (cond t (c ++ drop (length c) []) [])
+    lineOf number (cond t (answer.Listed (tallyOf c)) (answer.Refused (Room (intervals c)))) (cond t (inFront c out) out)
+    ≡ lineOf number (cond t (answer.Listed (tallyOf c)) (answer.Refused (Room (intervals c)))) (cond t (inFront c []) [])
 listed-same number c true out =
     let h : 2 * (length c / 2) ≤ length c = omega arith in
     rw (take-append-le (2 * (length c / 2)) c (drop (length c) out) h, take-append-le (2 * (length c / 2)) c (drop (length c) []) h)

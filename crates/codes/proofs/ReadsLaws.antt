@@ -3,8 +3,9 @@ use Prim.Native.Nat.{ℕ, zero, suc, _+_, _-_, _≤_, _<_}
 use native.Mathlib.Omega.{arith}
 use native.Mathlib.Numerals.{add-one}
 use mathlib.Core.Path.{_≡_, refl, sym, ap, _∙_, subst}
+use mathlib.Core.Bool.{true, _&&_}
 use mathlib.Core.List.{List, [], _∷_}
-use lib.Dec.{eqb}
+use lib.Dec.{eqb, leb}
 use lib.ListN.{length, getD, drop, drop-of-length-le, length-append, List·getD-eq-default}
 use borrow.Author.Tests.{lt-ltb, le-ltb, eqb-false}
 use Rattle.laws.proofs.Tests.{by-test, leb-cases}
@@ -14,9 +15,9 @@ use Rattle.question.specs.Grammar.{Tree, word, pair, part, Link, link, good, bi
 use Rattle.question.proofs.LevelLaws.{bad-good, bind-first, question-level}
 use Rattle.question.proofs.TreeWords.{Words, operand-words}
 use Rattle.question.proofs.RuleLaws.{from-left-keeps, from-left-link, from-left-none}
-use Rattle.codes.specs.Code.{wordCode, openCode, closeCode, noCode, opCode, opOf, codeOf, codesOf}
+use Rattle.codes.specs.Code.{wordCode, openCode, closeCode, andCode, notCode, noCode, opCode, opOf, codeOf, codesOf}
 use Rattle.codes.specs.Reads.{Reads}
-use Rattle.codes.proofs.CodeLaws.{op-back, op-range}
+use Rattle.codes.proofs.CodeLaws.{op-back, op-range, operator-code}
 
 -- ---- the token at a place
 
@@ -52,6 +53,18 @@ stands-end toks codes i e h =
 -- a code below the one that is read behind the last stands there
 pub code-within : (codes : List ℕ) (i : ℕ) → getD codes i noCode < noCode → i < length codes
 code-within codes i h = leb-cases (length codes) i (λ g. absurd (let e = List·getD-eq-default codes noCode g in omega arith)) (λ g. g)
+
+-- the code at place i is v
+abbrev pub Here : List ℕ → ℕ → ℕ → Type 0
+Here codes i v = (getD codes i noCode ≡ v) × (i < length codes)
+
+-- c was read there, and is v
+pub code-here : (codes : List ℕ) (i : ℕ) {c v : ℕ} → c ≡ getD codes i noCode → c ≡ v → v < noCode → Here codes i v
+code-here codes i e f h = (sym e ∙ f, code-within codes i (omega arith))
+
+-- c was read there, and is an operator's
+pub operator-here : (codes : List ℕ) (i : ℕ) {c : ℕ} → c ≡ getD codes i noCode → leb andCode c && leb c notCode ≡ true → Here codes i (opCode (opOf c))
+operator-here codes i {c} e f = code-here codes i e (operator-code c f) (let r = op-range (opOf c) in omega arith)
 
 -- ---- the token of a code
 

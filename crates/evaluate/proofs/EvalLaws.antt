@@ -1,11 +1,10 @@
--- What stands at a place of the codes; and what a window holds of a word, of a part and of two sides, by the slots of their words.
+-- What a window holds of a word, of a part and of two sides, by the slots of their words.
 use mathlib.Core.Path.{_≡_, refl, sym, ap, _∙_}
-use Prim.Native.Nat.{ℕ, zero, suc, _+_, _≤_, _<_}
+use Prim.Native.Nat.{ℕ, zero, suc, _+_, _≤_}
 use native.Mathlib.Omega.{arith}
-use mathlib.Core.Bool.{Bool, true, _&&_}
+use mathlib.Core.Bool.{Bool}
 use mathlib.Core.List.{List, [], _∷_, _++_}
-use lib.Dec.{leb}
-use lib.ListN.{length, getD, take, replicate}
+use lib.ListN.{length, take, replicate}
 use Rattle.window.specs.Window.{Holds, Combined}
 use Rattle.window.proofs.HoldLaws.{holds-agree, holds-combined}
 use Rattle.question.specs.declared.token.Op.{Op}
@@ -14,26 +13,10 @@ use Rattle.question.specs.Grammar.{Tree, Out, word, pair, part, treeWords}
 use Rattle.question.specs.Meaning.{combine}
 use Rattle.fill.specs.Added.{Added}
 use Rattle.slots.specs.Slots.{slotHas, slotSatisfies}
-use Rattle.codes.specs.Code.{andCode, notCode, noCode, opCode, opOf}
 use Rattle.codes.specs.Reads.{Reads}
-use Rattle.codes.proofs.CodeLaws.{op-range, operator-code}
-use Rattle.codes.proofs.ReadsLaws.{code-within}
-use Rattle.evaluate.specs.Evaluated.{Evaluated}
+use Rattle.evaluate.specs.Evaluated.{SameLengths, Evaluated}
 use Rattle.fill.proofs.AddedLaws.{added-holds}
 use Rattle.slots.proofs.SlotLaws.{slot-word, slot-part, slot-pair}
-
--- ---- what stands at a place of the codes
-
-abbrev pub Here : List ℕ → ℕ → ℕ → Type 0
-Here codes i v = (getD codes i noCode ≡ v) × (i < length codes)
-
--- c was read there, and is v
-pub code-here : (codes : List ℕ) (i : ℕ) {c v : ℕ} → c ≡ getD codes i noCode → c ≡ v → v < noCode → Here codes i v
-code-here codes i e f h = (sym e ∙ f, code-within codes i (omega arith))
-
--- c was read there, and is an operator's
-pub operator-here : (codes : List ℕ) (i : ℕ) {c : ℕ} → c ≡ getD codes i noCode → leb andCode c && leb c notCode ≡ true → Here codes i (opCode (opOf c))
-operator-here codes i {c} e f = code-here codes i e (operator-code c f) (let r = op-range (opOf c) in omega arith)
 
 -- ---- a window that is the front of a longer one
 
@@ -53,8 +36,8 @@ front-back (suc m) (v ∷ vs) r e = ap (λ (l : List ℕ). v ∷ l) (front-back 
 -- nothing could be read, and nothing is changed
 pub evaluated-none : {reading : ℕ → List Tok → Out Tree} {codes : List ℕ} {i k : ℕ} {index entries : List ℕ} {base : ℕ} {hints ws : List ℕ} → i ≤ length codes →
     ((f : ℕ) → Reads (reading f) codes i i k (λ t. Holds (slotSatisfies (slotHas index entries) t k) base ws)) →
-    Evaluated reading codes i k index entries base hints ws hints ws (record { code = i; slot = k })
-evaluated-none h r = record { ahead = omega arith; inside = h; hints-long = refl; ws-long = refl; reads = r }
+    SameLengths hints ws hints ws × Evaluated reading codes i k index entries base ws (record { code = i; slot = k })
+evaluated-none h r = (record { hints-long = refl; ws-long = refl }, record { ahead = omega arith; inside = h; reads = r })
 
 -- ---- what the windows hold
 

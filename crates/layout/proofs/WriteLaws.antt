@@ -13,6 +13,7 @@ use borrow.Author.Tests.{eqb-true, eq-eqb, ne-eqb}
 use Rattle.laws.proofs.Lists.{drop-next, drop-none, sets-append, sets-front}
 use Rattle.laws.proofs.Parts.{tail-written}
 use Rattle.list.specs.Ginix.{one}
+use Rattle.list.specs.Front.{inFront}
 use Rattle.convert.proofs.RunLaws.{closed, startOf, runsFrom, runs, runs-at}
 use Rattle.layout.specs.declared.kept.Places.{Places}
 use Rattle.layout.specs.declared.entry.Spots.{Spots}
@@ -58,7 +59,7 @@ sets-comm out a vs b (w ∷ ws) h =
     ap (λ (o : List ℕ). sets o (suc b) ws) (set-sets out a vs b w h) ∙ sets-comm (set out b w) a vs (suc b) ws (omega arith)
 
 -- what was written from the start of a lent tail, said of the whole
-pub tail-sets : (a : ℕ) (xs vs : List ℕ) {ys : List ℕ} → a + length vs ≤ length xs → ys ≡ vs ++ drop (length vs) (midOf a (length xs - a) xs) →
+pub tail-sets : (a : ℕ) (xs vs : List ℕ) {ys : List ℕ} → a + length vs ≤ length xs → ys ≡ inFront vs (midOf a (length xs - a) xs) →
     putMid a (length xs - a) xs ys ≡ sets xs a vs
 tail-sets a xs vs {ys} h e = tail-written a xs ys vs e ∙ sym (sets-eq vs xs a h)
 
@@ -149,7 +150,7 @@ module _ (c : List ℕ) (singles pairs : ℕ) (s : singles ≡ length (cellSingl
   pub placed-start : (room : ℕ) → length (keptBytes c) ≤ room → PlacedFor (keptPlaces singles pairs) c room
   placed-start room h = let k = kept-length c in record { single = omega arith; lower = omega arith; upper = omega arith }
 
-  pub kept-start : (out : List ℕ) → length (keptBytes c) ≤ length out → keptPlan out (keptPlaces singles pairs) c ≡ keptBytes c ++ drop (length (keptBytes c)) out
+  pub kept-start : (out : List ℕ) → length (keptBytes c) ≤ length out → keptPlan out (keptPlaces singles pairs) c ≡ inFront (keptBytes c) out
   unfolding keptBytes
   kept-start out h =
       let S = cellsBytes (cellSingles c) in

@@ -5,7 +5,7 @@ use native.Mathlib.Omega.{arith}
 use native.Mathlib.Nat.{zero-add}
 use mathlib.Core.Bool.{Bool, true, false, cond}
 use mathlib.Core.List.{List, [], _∷_, _++_, append-nil, append-assoc}
-use lib.ListN.{length, drop, set, length-append}
+use lib.ListN.{length, set, length-append}
 use lib.Seq.{sets, length-sets}
 use Rattle.laws.proofs.Tests.{leb-cases}
 use Rattle.laws.proofs.Lists.{sets-two, sets-front, sets-append}
@@ -13,6 +13,7 @@ use Rattle.list.specs.Interval.{records}
 use Rattle.list.specs.Stretches.{stretches, cellsOf, recordsFrom, recordsOf}
 use Rattle.list.proofs.StretchLaws.{cells-start, cells-length, stretches-on, stretches-end}
 use Rattle.list.proofs.RecordLaws.{recordsFrom-parts, recordsFrom-length, records-count}
+use Rattle.list.specs.Front.{inFront}
 
 -- the numbers below x are swept: k cells are done, recs records are counted, and b says whether x - 1 is in
 pub record Swept (p : ℕ → Bool) (n : ℕ) (writing : Bool) (out₀ out : List ℕ) (b : Bool) (x k recs : ℕ) : Type 0 where
@@ -155,9 +156,9 @@ module _ {p : ℕ → Bool} {n : ℕ} {writing : Bool} {out₀ out : List ℕ} {
   unfolding recordsOf
   swept-records = let e : n + 1 - 1 ≡ n = omega arith in s .members ∙ ap (λ (j : ℕ). length (recordsFrom p 1 j)) e ∙ sym (records-count p n)
 
-  pub swept-written : (writing ≡ true → length (cellsOf p n) ≤ length out₀) → out ≡ cond writing (cellsOf p n ++ drop (length (cellsOf p n)) out₀) out₀
+  pub swept-written : (writing ≡ true → length (cellsOf p n) ≤ length out₀) → out ≡ cond writing (inFront (cellsOf p n) out₀) out₀
   swept-written h = go writing refl
     where
-      go : (w : Bool) → writing ≡ w → out ≡ cond w (cellsOf p n ++ drop (length (cellsOf p n)) out₀) out₀
+      go : (w : Bool) → writing ≡ w → out ≡ cond w (inFront (cellsOf p n) out₀) out₀
       go true e = s .written ∙ ap (λ (t : Bool). cond t (sets out₀ 0 (s .done)) out₀) e ∙ ap (sets out₀ 0) (sym swept-cells) ∙ sets-front (cellsOf p n) out₀ (h e)
       go false e = s .written ∙ ap (λ (t : Bool). cond t (sets out₀ 0 (s .done)) out₀) e

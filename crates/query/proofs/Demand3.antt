@@ -16,7 +16,7 @@ use Prim.Native.Nat.{ℕ, _*_, _/_, _≤_}
 use native.Mathlib.Omega.{arith}
 use mathlib.Core.Path.{_≡_, refl, sym, ap, _∙_}
 use mathlib.Core.Bool.{Bool, true, false, cond}
-use mathlib.Core.List.{List, [], _++_}
+use mathlib.Core.List.{List, []}
 use lib.Dec.{leb}
 use lib.ListN.{length, take, drop}
 use lib.Seq.{take-at}
@@ -27,6 +27,7 @@ use Rattle.list.specs.declared.answer.Answer.the-variants.{Listed, Refused}
 use Rattle.list.specs.Interval.{names, intervals}
 use Rattle.list.specs.Answer.{tallyOf, listAnswer, listCells}
 use Rattle.list.proofs.FewestLaws.{fewest-of}
+use Rattle.list.specs.Front.{inFront}
 use Rattle.index.specs.declared.Checked.the-variants.{Good}
 use Rattle.index.specs.Format.{highest}
 use Rattle.directory.specs.Has.{has}
@@ -60,8 +61,8 @@ module _ (rule : Rule) (index question : List ℕ) (t : Tree) (out out′ : List
   left : out′ ≡ listCells cells (length out / 2) out
   left = rw (a .sound, a .accepted) at (a .promise .cells)
 
-  by-room : (f : Bool) → Listed tally ≡ cond f (Listed (tallyOf cells)) (Refused (Room (intervals cells))) → out′ ≡ cond f (cells ++ drop (length cells) out) out →
-      (tally ≡ tallyOf cells) × (out′ ≡ cells ++ drop (length cells) out)
+  by-room : (f : Bool) → Listed tally ≡ cond f (Listed (tallyOf cells)) (Refused (Room (intervals cells))) → out′ ≡ cond f (inFront cells out) out →
+      (tally ≡ tallyOf cells) × (out′ ≡ inFront cells out)
   by-room true e g = ((cc), g)
   by-room false e g = absurd (let z : _≡_ {A = ℕ} 0 1 = cc in omega arith)
 
@@ -96,11 +97,11 @@ module _ (rule rule′ : Rule) (index first second : List ℕ) (t u : Tree) (out
 -- ---- what any call writes, once nothing but room can refuse it
 
 module _ (cells : List ℕ) (even : 2 * intervals cells ≡ length cells) (out out′ : List ℕ) (r : Answer) where
-  call-step : (f : Bool) → r ≡ cond f (Listed (tallyOf cells)) (Refused (Room (intervals cells))) → out′ ≡ cond f (cells ++ drop (length cells) out) out →
+  call-step : (f : Bool) → r ≡ cond f (Listed (tallyOf cells)) (Refused (Room (intervals cells))) → out′ ≡ cond f (inFront cells out) out →
       (writtenBy r out′ ≡ cond f cells []) × OnlyWritten r out out′ × ListOrRoom r
   call-step true e g =
       let taken : written (tallyOf cells) out′ ≡ cells = ap (λ (o : List ℕ). take (2 * intervals cells) o) g ∙ take-at cells (drop (length cells) out) (2 * intervals cells) (sym even) in
-      rw e (taken, g ∙ ap (λ (c : List ℕ). c ++ drop (length c) out) (sym taken), tt)
+      rw e (taken, g ∙ ap (λ (c : List ℕ). inFront c out) (sym taken), tt)
   call-step false e g = rw e (refl, g, refl)
 
   call-writes : (room : ℕ) → r ≡ listAnswer cells room → out′ ≡ listCells cells room out →

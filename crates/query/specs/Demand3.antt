@@ -1,9 +1,10 @@
 -- Reference 11, demand 3: the cells that two questions write over one sound index, and the exchange of a part in brackets.
 use Prim.Native.Nat.{ℕ, _*_, _/_, _≤_}
 use mathlib.Core.Path.{_≡_}
-use mathlib.Core.List.{List, [], _++_}
-use lib.ListN.{length, take, drop}
+use mathlib.Core.List.{List, []}
+use lib.ListN.{length, take}
 use Rattle.refusal.specs.Refusal.{numberOf}
+use Rattle.list.specs.Front.{inFront}
 use Rattle.list.specs.declared.answer.Tally.{Tally}
 use Rattle.list.specs.declared.answer.Answer.{Answer}
 use Rattle.list.specs.declared.answer.Answer.the-variants.{Listed, Refused}
@@ -72,7 +73,7 @@ writtenBy (Refused x) out = []
 
 -- Reference 7: they stand in front, and what is behind them is as it was
 abbrev pub OnlyWritten : Answer → List ℕ → List ℕ → Type 0
-OnlyWritten r out out′ = out′ ≡ writtenBy r out′ ++ drop (length (writtenBy r out′)) out
+OnlyWritten r out out′ = out′ ≡ inFront (writtenBy r out′) out
 
 -- Reference 9.2: a list, or 12
 abbrev pub ListOrRoom : Answer → Type 0

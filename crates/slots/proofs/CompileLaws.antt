@@ -26,7 +26,7 @@ use Rattle.question.specs.Next.{headed, TokenWithin, NextToken, endOf}
 use Rattle.question.specs.Limits.{tokenWords}
 use Rattle.codes.specs.Code.{wordCode, codesOf, tokenCode}
 use Rattle.slots.specs.Slots.{slotHas}
-use Rattle.slots.specs.Compile.{StandsFor, Compiles}
+use Rattle.slots.specs.Compile.{StandsFor, WritesCodes, FillsSlots}
 
 -- ---- an entry number for a word
 
@@ -171,13 +171,19 @@ module _ {index s codes₀ entries₀ codes entries : List ℕ} {count slots at 
   pub slot-left : {w : List ℕ} {more : List (List ℕ)} → tokenWords (tokensAt s at) ≡ w ∷ more → slots < length (tokenWords (tokens s))
   slot-left {w} {more} is = drop-head (tokenWords (tokens s)) slots w more (c .left ∙ is) .0
 
-  pub compile-end : length s ≤ length codes₀ → tokensAt s at ≡ [] → Compiles index s codes₀ codes entries₀ entries (record { codes = count; slots = slots })
-  unfolding codesOf tokenWords slotHas
-  compile-end room e = record {
-    codes-long = c .codes-long;
-    within = omega arith;
-    coded = sym (append-nil (take count codes)) ∙ ap (λ (r : List ℕ). take count codes ++ r) (sym (ap codesOf e)) ∙ c .coded;
-    entries-long = c .entries-long;
-    count = omega (arith, length-drop slots (tokenWords (tokens s)), ap length (c .left ∙ ap tokenWords e));
-    have = λ k h x. c .filled k h x;
-  }
+  module _ (e : tokensAt s at ≡ []) where
+    pub codes-written : length s ≤ length codes₀ → WritesCodes s codes₀ codes count
+    unfolding codesOf
+    codes-written room = record {
+      long = c .codes-long;
+      within = omega arith;
+      coded = sym (append-nil (take count codes)) ∙ ap (λ (r : List ℕ). take count codes ++ r) (sym (ap codesOf e)) ∙ c .coded;
+    }
+
+    pub slots-filled : FillsSlots index s entries₀ entries slots
+    unfolding tokenWords slotHas
+    slots-filled = record {
+      long = c .entries-long;
+      count = omega (arith, length-drop slots (tokenWords (tokens s)), ap length (c .left ∙ ap tokenWords e));
+      have = λ k h x. c .filled k h x;
+    }

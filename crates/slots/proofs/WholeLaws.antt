@@ -13,10 +13,9 @@ use Rattle.question.proofs.RuleLaws.{from-left-keeps}
 use Rattle.question.proofs.TreeWords.{accepted-words}
 use Rattle.question.proofs.MeaningLaws.{satisfiesBy, satisfies-by}
 use Rattle.slots.specs.Slots.{slotHas, slotSatisfies}
-use Rattle.slots.specs.declared.compile.Compiled.{Compiled}
-use Rattle.slots.specs.Compile.{Compiles}
+use Rattle.slots.specs.Compile.{FillsSlots}
 
--- what fits by the slots is what fits by the words, where each slot has what is said of its word
+-- what satisfies by the slots is what satisfies by the words, where each slot has what is said of its word
 
 slot-satisfies-by : (v : ℕ → ℕ → Bool) (t : Tree) (k x : ℕ) → slotSatisfies v t k x ≡ satisfiesBy (λ i. v i x) k t
 unfolding slotSatisfies satisfiesBy
@@ -33,8 +32,8 @@ slot-satisfies v had t x h =
 abbrev pub TreeSlots : List ℕ → List ℕ → Tree → Type 0
 TreeSlots index entries t = (i : ℕ) → i < length (treeWords t) → (x : ℕ) → slotHas index entries i x ≡ has index (getD (treeWords t) i []) x
 
-pub compiled-slots : {index s codes codes′ entries entries′ : List ℕ} {r : Compiled} → Compiles index s codes codes′ entries entries′ r →
-    (t : Tree) (n : ℕ) → parsed fromLeft s ≡ parses t n → (r .slots ≡ length (treeWords t)) × TreeSlots index entries′ t
+pub compiled-slots : {index s entries entries′ : List ℕ} {slots : ℕ} → FillsSlots index s entries entries′ slots → (t : Tree) (n : ℕ) → parsed fromLeft s ≡ parses t n →
+    (slots ≡ length (treeWords t)) × TreeSlots index entries′ t
 compiled-slots {s = s} c t n e =
     let w = accepted-words fromLeft from-left-keeps s t n e .0 in
     (c .count ∙ ap length w, λ i h x. rw w at (c .have i (omega (arith, c .count, ap length w)) x))

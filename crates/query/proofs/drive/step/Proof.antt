@@ -5,7 +5,7 @@ use native.Mathlib.Omega.{arith}
 use borrow.Author.Needs.{needs}
 use Rattle.slots.specs.Slots.{slotHas}
 use Rattle.query.specs.Drive.{testOf, Stands}
-use Rattle.evaluate.proofs.KeptSenses.{sensed-later}
+use Rattle.senses.proofs.KeptSenses.{sensed-later}
 use Rattle.query.proofs.TestLaws.{steady-constant, jump-room, part-width}
 use Rattle.query.proofs.drive.step.Statement.{statement}
 use Rattle.query.proofs.drive.step.Tie as tie
@@ -89,7 +89,7 @@ take-window-requires c κs =
     let width = part-width (a .at .width) (a .ws .now) (omega (arith, asked here .pre .1 .0)) in (
       record { sound = lent .sound; entries-long = lent .entries-long; hints-long = here .look-at .ensures .0 ∙ lent .hints-long },
       (
-        record { some = omega arith; most = omega arith; begun = omega arith; near = omega arith; few = omega arith; counted = omega arith },
+        record { wide = width; some = stands .some; most = stands .most; begun = omega arith; near = omega arith; few = omega arith; counted = omega arith },
         asked here .pre .1 .1 .1 .1,
       ),
     )
@@ -122,7 +122,7 @@ returns-2 c =
                     far = 64 * a .at .width;
                     some = omega arith;
                     to = next;
-                    step = rw width at (c .before .before .before .before .before .before .before .before .take-window .ensures .1 t o);
+                    step = c .before .before .before .before .before .before .before .before .take-window .ensures .1 t o;
                   },
             ),
           ),

@@ -10,7 +10,7 @@ use Rattle.question.specs.Grammar.{Tree}
 use Rattle.window.specs.Flips.{odd}
 use borrow.Author.Needs.{needs}
 use Rattle.slots.specs.Slots.{slotHas}
-use Rattle.evaluate.specs.Senses.{Sensed}
+use Rattle.senses.specs.Senses.{Sensed}
 use Rattle.window.specs.Tuning.{windowMost}
 use Rattle.query.specs.Drive.{OfEach, testOf, Fits, Stands}
 use Rattle.window.proofs.StepLaws.{step-room, swept-step, close-room, swept-close}

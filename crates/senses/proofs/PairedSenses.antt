@@ -17,9 +17,9 @@ use Rattle.question.specs.Meaning.{combine}
 use Rattle.codes.specs.Code.{andCode, orCode, opCode}
 use Rattle.codes.specs.Reads.{Reads}
 use Rattle.slots.specs.Slots.{slotHas, slotSatisfies}
-use Rattle.evaluate.specs.Senses.{untilOf, insideOf}
-use Rattle.evaluate.specs.declared.look.Look.{Look}
-use Rattle.evaluate.specs.Look.{Tells, Looks}
+use Rattle.senses.specs.Senses.{untilOf, insideOf}
+use Rattle.senses.specs.declared.look.Look.{Look}
+use Rattle.senses.specs.Look.{Tells, Looks}
 use Rattle.slots.proofs.SlotLaws.{slot-lists, slot-lacks, slot-word, slot-part, slot-pair}
 
 -- ---- of equal tests, and of the opposite

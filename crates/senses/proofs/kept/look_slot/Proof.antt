@@ -2,10 +2,10 @@
 use native.Mathlib.Omega.{arith}
 use mathlib.Core.Path.{refl}
 use Rattle.directory.proofs.EntryLaws.{regions-list}
-use Rattle.evaluate.proofs.PairedSenses.{slot-in, slot-out}
+use Rattle.senses.proofs.PairedSenses.{slot-in, slot-out}
 use borrow.Author.Needs.{needs}
-use Rattle.evaluate.proofs.senses.look_slot.Statement.{statement}
-use Rattle.evaluate.proofs.senses.look_slot.Tie as tie
+use Rattle.senses.proofs.kept.look_slot.Statement.{statement}
+use Rattle.senses.proofs.kept.look_slot.Tie as tie
 
 abbrev begin : tie.After-word-count → tie.Start
 begin c = c .before .before .before .before .before

@@ -1,10 +1,10 @@
 -- A sense that holds is kept; else the slot is looked at.
 use native.Mathlib.Omega.{arith}
 use Rattle.slots.specs.Slots.{slotHas}
-use Rattle.evaluate.proofs.KeptSenses.{renewed-set}
+use Rattle.senses.proofs.KeptSenses.{renewed-set}
 use borrow.Author.Needs.{needs}
-use Rattle.evaluate.proofs.senses.renew_sense.Statement.{statement}
-use Rattle.evaluate.proofs.senses.renew_sense.Tie as tie
+use Rattle.senses.proofs.kept.renew_sense.Statement.{statement}
+use Rattle.senses.proofs.kept.renew_sense.Tie as tie
 
 returns-2 : tie.Need-returns-2
 returns-2 c =

@@ -6,29 +6,28 @@ use lib.ListN.{length}
 use borrow.Author.Needs.{needs}
 use borrow.Author.Tests.{not-true, not-false}
 use Rattle.codes.specs.Code.{wordCode, openCode, closeCode, opCode, opOf}
-use Rattle.evaluate.specs.Look.{Tells}
+use Rattle.senses.specs.Look.{Tells}
 use Rattle.codes.proofs.CodeLaws.{operator-none}
-use Rattle.codes.proofs.ReadsLaws.{operand-none, operand-word, operand-many, operand-deep, operand-part, operand-unclosed, Level, level-start, level-step, level-end}
-use Rattle.evaluate.proofs.EvalLaws.{Here, code-here, operator-here}
-use Rattle.evaluate.proofs.PairedSenses.{tells-word, tells-part, tells-pair, looks-none}
+use Rattle.codes.proofs.ReadsLaws.{Here, code-here, operator-here, operand-none, operand-word, operand-many, operand-deep, operand-part, operand-unclosed, Level, level-start, level-step, level-end}
+use Rattle.senses.proofs.PairedSenses.{tells-word, tells-part, tells-pair, looks-none}
 use borrow.Fn.Kinds.{In}
 use borrow.Fn.PlainCycle.{Measures, is, falls, and}
-use Rattle.evaluate.proofs.look.look_level.Reads as look-level
-use Rattle.evaluate.proofs.look.look_level.Kinds as look-level-kinds
-use Rattle.evaluate.proofs.look.+look_level+look_operand+look_part.Lts-look_level as look-level-lts
-use Rattle.evaluate.proofs.look.look_operand.Reads as look-operand
-use Rattle.evaluate.proofs.look.look_operand.Kinds as look-operand-kinds
-use Rattle.evaluate.proofs.look.+look_level+look_operand+look_part.Lts-look_operand as look-operand-lts
-use Rattle.evaluate.proofs.look.look_part.Reads as look-part
-use Rattle.evaluate.proofs.look.look_part.Kinds as look-part-kinds
-use Rattle.evaluate.proofs.look.+look_level+look_operand+look_part.Lts-look_part as look-part-lts
+use Rattle.senses.proofs.look.look_level.Reads as look-level
+use Rattle.senses.proofs.look.look_level.Kinds as look-level-kinds
+use Rattle.senses.proofs.look.+look_level+look_operand+look_part.Lts-look_level as look-level-lts
+use Rattle.senses.proofs.look.look_operand.Reads as look-operand
+use Rattle.senses.proofs.look.look_operand.Kinds as look-operand-kinds
+use Rattle.senses.proofs.look.+look_level+look_operand+look_part.Lts-look_operand as look-operand-lts
+use Rattle.senses.proofs.look.look_part.Reads as look-part
+use Rattle.senses.proofs.look.look_part.Kinds as look-part-kinds
+use Rattle.senses.proofs.look.+look_level+look_operand+look_part.Lts-look_part as look-part-lts
 use Rattle.codes.proofs.read.code_at.Reads as code-at
 use Rattle.codes.proofs.read.is_operator.Reads as is-operator
-use Rattle.evaluate.proofs.senses.sense_of.Reads as sense-of
-use Rattle.evaluate.proofs.look.unread.Reads as unread
-use Rattle.evaluate.proofs.sense_pair.pair_senses.Reads as pair-senses
-use Rattle.evaluate.proofs.look.+look_level+look_operand+look_part.{statement}
-use Rattle.evaluate.proofs.look.+look_level+look_operand+look_part.Tie.{close}
+use Rattle.senses.proofs.kept.sense_of.Reads as sense-of
+use Rattle.senses.proofs.look.unread.Reads as unread
+use Rattle.senses.proofs.pair.pair_senses.Reads as pair-senses
+use Rattle.senses.proofs.look.+look_level+look_operand+look_part.{statement}
+use Rattle.senses.proofs.look.+look_level+look_operand+look_part.Tie.{close}
 
 abbrev μ-look-level : Measures 2 look-level-kinds.ps ℕ
 μ-look-level κs a = 3 * (a .1 .1 .1 .0) + 2

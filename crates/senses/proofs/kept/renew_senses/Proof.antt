@@ -4,10 +4,10 @@ use native.Mathlib.Omega.{arith}
 use mathlib.Core.Path.{_≡_, sym, _∙_}
 use lib.ListN.{length}
 use Rattle.slots.specs.Slots.{slotHas}
-use Rattle.evaluate.specs.Senses.{untilOf, Sensed}
-use Rattle.evaluate.proofs.KeptSenses.{sensed-known, renewed-next}
-use Rattle.evaluate.proofs.senses.renew_senses.Statement.{statement}
-use Rattle.evaluate.proofs.senses.renew_senses.Tie as tie
+use Rattle.senses.specs.Senses.{untilOf, Sensed}
+use Rattle.senses.proofs.KeptSenses.{sensed-known, renewed-next}
+use Rattle.senses.proofs.kept.renew_senses.Statement.{statement}
+use Rattle.senses.proofs.kept.renew_senses.Tie as tie
 
 abbrev Inv-loop : tie.InvT-loop
 Inv-loop index entries slots x hints₀ senses₀ k₀ hints senses k =
