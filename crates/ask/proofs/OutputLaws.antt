@@ -1,7 +1,7 @@
 -- Laws of a question's line: a checked file is sound, an answer's intervals stand in the cells, and the line depends on nothing else.
 use mathlib.Core.Path.{_≡_, refl, ap}
 use mathlib.Core.Bool.{Bool, true, false, cond}
-use mathlib.Core.List.{List, [], _++_}
+use mathlib.Core.List.{List, []}
 use Prim.Native.Nat.{ℕ, _+_, _*_, _/_, _≤_}
 use native.Mathlib.Omega.{arith}
 use lib.Dec.{leb, ltb}
@@ -14,6 +14,7 @@ use Rattle.refusal.specs.declared.Refusal.the-variants.{Room}
 use Rattle.list.specs.declared.answer.Answer.{Answer}
 use Rattle.list.specs.declared.answer.Answer.the-variants as answer
 use Rattle.list.specs.Interval.{intervals}
+use Rattle.list.specs.Front.{inFront}
 use Rattle.list.specs.Answer.{tallyOf}
 use Rattle.index.specs.declared.Checked.{Checked}
 use Rattle.index.specs.declared.Checked.the-variants.{Good, Refused}

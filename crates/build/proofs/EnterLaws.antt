@@ -74,7 +74,8 @@ module _ {words counts numbers : List ℕ} {room : ℕ} {at : Spots} {start firs
       nothing [] e = refl
       nothing (w ∷ ws) e = absurd (omega arith)
 
-  module _ {end last : ℕ} (e : end ≡ start + wordEnd (drop start words)) (g : end ≤ length words) (l : last ≡ first + getD counts i 0) (h : i < length counts) where
+  module _ {end last : ℕ} (e : end ≡ start + wordEnd (drop start words)) (g : end ≤ length words) (l : last ≡ first + getD counts i 0)
+      (h : i < length counts) where
     -- the word is ended, since a word is left
     pub word-ended : end < length words
     word-ended =

@@ -72,7 +72,8 @@ module _ (n : ℕ) (words counts numbers : List ℕ) where
       unfolding lentOf
       refused-count i f = rw (le-ltb recordMax n h, e, f)
 
-      pub refused-number : badCounts words counts numbers ≡ Nowhere → (i : ℕ) → badNumbers n words counts numbers ≡ At i → lentOf n words counts numbers ≡ Refused (Number i)
+      pub refused-number : badCounts words counts numbers ≡ Nowhere → (i : ℕ) → badNumbers n words counts numbers ≡ At i →
+          lentOf n words counts numbers ≡ Refused (Number i)
       unfolding lentOf
       refused-number f i g = rw (le-ltb recordMax n h, e, f, g)
 
@@ -198,7 +199,8 @@ module _ {n : ℕ} {words counts numbers : List ℕ} (is : GoodLent n words coun
         record { lists = omega arith; words = omega arith; entries = omega arith; small = omega arith; as-many = good-many (each-good (is .good)) }
 
     pub good-written : (out : List ℕ) {o p : List ℕ} → length index ≤ length out → o ≡ lentEntered out firstSpots words counts numbers →
-        p ≡ sets o (lists + (length words - length counts) + 20 * length counts) (cellsBytes (lists ∷ (lists + (length words - length counts)) ∷ length counts ∷ n ∷ 1 ∷ [])) →
+        p ≡ sets o (lists + (length words - length counts) + 20 * length counts)
+        (cellsBytes (lists ∷ (lists + (length words - length counts)) ∷ length counts ∷ n ∷ 1 ∷ [])) →
         p ≡ inFront index out
     good-written out h eo ep =
         let each : EachGood n words counts numbers = each-good (is .good) in

@@ -243,7 +243,8 @@ Level codes d k₀ i₀ i k Q =
 operand-count : (f d k : ℕ) (ts : List Tok) (t : Tree) (z : List Tok) (j : ℕ) → operand fromLeft f d k ts ≡ good t z j → j ≡ k + length (treeWords t)
 operand-count f d k ts t z j e = subst (Words treeWords k ts) e (operand-words fromLeft from-left-keeps f d k ts) .1
 
-pub level-start : (codes : List ℕ) (d k₀ i₀ i k : ℕ) (Q : Tree → Type 0) → ((f : ℕ) → Reads (operand fromLeft f d k₀) codes i₀ i k Q) → Level codes d k₀ i₀ i k Q
+pub level-start : (codes : List ℕ) (d k₀ i₀ i k : ℕ) (Q : Tree → Type 0) → ((f : ℕ) → Reads (operand fromLeft f d k₀) codes i₀ i k Q) →
+    Level codes d k₀ i₀ i k Q
 level-start codes d k₀ i₀ i k Q h f toks t rest j e r =
     let l = question-level fromLeft f d k₀ (drop i₀ toks) t rest j r in
     let v = h (l .fuel) toks (l .operand-tree) (l .rest) (l .count) e (l .reads-operand) in (
@@ -270,10 +271,12 @@ record Linked (d k : ℕ) (o : Op) (r : List Tok) (ls : List Link) (z : List Tok
   reads-links : links fromLeft fuel d count rest ≡ good others z j
   is : ls ≡ link o tree ∷ others
 
-put-inverse : (o : Op) (t : Tree) (ls ms : List Link) (r z : List Tok) (i j : ℕ) → good (link o t ∷ ls) r i ≡ good ms z j → (ms ≡ link o t ∷ ls) × (r ≡ z) × (i ≡ j)
+put-inverse : (o : Op) (t : Tree) (ls ms : List Link) (r z : List Tok) (i j : ℕ) → good (link o t ∷ ls) r i ≡ good ms z j →
+    (ms ≡ link o t ∷ ls) × (r ≡ z) × (i ≡ j)
 put-inverse o t ls ms r z i j e = ((cc), (cc), (cc))
 
-links-operator : (f d k : ℕ) (o : Op) (p : ℕ) (r : List Tok) (ls : List Link) (z : List Tok) (j : ℕ) → links fromLeft f d k (opT o p ∷ r) ≡ good ls z j → Linked d k o r ls z j
+links-operator : (f d k : ℕ) (o : Op) (p : ℕ) (r : List Tok) (ls : List Link) (z : List Tok) (j : ℕ) → links fromLeft f d k (opT o p ∷ r) ≡ good ls z j →
+    Linked d k o r ls z j
 unfolding links
 links-operator zero d k o p r ls z j e = bad-good 0 (opT o p ∷ r) ls z j e
 links-operator (suc f) d k o p r ls z j e =
@@ -315,7 +318,8 @@ level-step codes d k₀ i₀ i k i′ k′ Q R S o c l g q f toks t rest j e r =
         left = n .others;
         reads-left = rw (v .0, v .1) (n .reads-links);
         groups = y .groups ∙ ap (fromLeft (y .sofar)) (n .is) ∙ from-left-link (y .sofar) o (n .tree) (n .others);
-        count = pair-count k₀ k k′ o (y .sofar) (n .tree) (y .count) (v .1 ∙ operand-count (n .fuel) d k (drop (i + 1) toks) (n .tree) (n .rest) (n .count) (n .reads-operand));
+        count = pair-count k₀ k k′ o (y .sofar) (n .tree) (y .count)
+            (v .1 ∙ operand-count (n .fuel) d k (drop (i + 1) toks) (n .tree) (n .rest) (n .count) (n .reads-operand));
         holds = q (y .sofar) (n .tree) (y .count) (y .holds) (v .4);
       },
     )
@@ -326,7 +330,8 @@ level-ends : (toks : List Tok) (d k₀ i k : ℕ) (Q : Tree → Type 0) (t : Tre
 unfolding links
 level-ends toks d k₀ i k Q t rest j h y = go (y .fuel) (y .left) (y .reads-left) (y .groups)
   where
-    go : (f : ℕ) (left : List Link) → links fromLeft f d k (drop i toks) ≡ good left rest j → t ≡ fromLeft (y .sofar) left → (drop i toks ≡ rest) × (k ≡ j) × Q t
+    go : (f : ℕ) (left : List Link) → links fromLeft f d k (drop i toks) ≡ good left rest j → t ≡ fromLeft (y .sofar) left →
+        (drop i toks ≡ rest) × (k ≡ j) × Q t
     go zero left e g = bad-good 0 (drop i toks) left rest j e
     go (suc f) left e g =
         let w : good [] (drop i toks) k ≡ good left rest j = sym (h f) ∙ e in

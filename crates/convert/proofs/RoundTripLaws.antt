@@ -77,7 +77,8 @@ pub to-numbers-back : (xs out out′ room room′ : List ℕ) (n : ℕ) (s : Wri
 to-numbers-back xs out out′ room room′ n s p q h =
     let w = answer-accepted Number (badNumberOf xs) (intervals (intervalsOf xs)) (length out / 2) n (sym (p .answer)) in
     let e = numbers-back xs (w .good) in
-    let k : records (intervalsOf xs) ≡ length xs = proper-count recordMax (intervalsOf xs) (cells-proper (among xs) recordMax recordMax (omega arith)) ∙ ap length e in
+    let k : records (intervalsOf xs) ≡ length xs =
+    proper-count recordMax (intervalsOf xs) (cells-proper (among xs) recordMax recordMax (omega arith)) ∙ ap length e in
     let f : leb (length xs) (length room) ≡ true = le-leb (length xs) (length room) h in
     let v : ToNumbers (intervalsOf xs) room room′ s = rw (← intervals-written xs out out′ n p) q in
     (v .answer ∙ rw (intervals-good xs, k, f), v .cells ∙ rw (intervals-good xs, k, f, e))

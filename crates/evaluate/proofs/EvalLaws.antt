@@ -43,7 +43,8 @@ evaluated-none h r = (record { hints-long = refl; ws-long = refl }, record { ahe
 
 module _ (v : ℕ → ℕ → Bool) (k : ℕ) {base : ℕ} where
   pub holds-word : (w : List ℕ) {ws₀ ws : List ℕ} → ws₀ ≡ replicate (length ws₀) 0 → Added (v k) base ws₀ ws → Holds (slotSatisfies v (word w) k) base ws
-  holds-word w {ws₀} {ws} e a = holds-agree (v k) (slotSatisfies v (word w) k) base ws (λ n h. sym (slot-word v k (base + n) w)) (added-holds (v k) base (length ws₀) ws₀ ws e a)
+  holds-word w {ws₀} {ws} e a = holds-agree (v k) (slotSatisfies v (word w) k) base ws (λ n h. sym (slot-word v k (base + n) w))
+      (added-holds (v k) base (length ws₀) ws₀ ws e a)
 
   pub holds-part : (t : Tree) {ws : List ℕ} → Holds (slotSatisfies v t k) base ws → Holds (slotSatisfies v (part t) k) base ws
   holds-part t {ws} h = holds-agree (slotSatisfies v t k) (slotSatisfies v (part t) k) base ws (λ n l. sym (slot-part v k (base + n) t)) h
@@ -52,5 +53,6 @@ module _ (v : ℕ → ℕ → Bool) (k : ℕ) {base : ℕ} where
   pub holds-pair : (o : Op) (a b : Tree) {j : ℕ} {xs ys zs : List ℕ} → j ≡ k + length (treeWords a) → length ys ≡ length xs → Combined (combine o) xs ys zs →
       Holds (slotSatisfies v a k) base xs → Holds (slotSatisfies v b j) base ys → Holds (slotSatisfies v (pair o a b) k) base zs
   holds-pair o a b {j} {xs} {ys} {zs} e l c h g =
-      holds-agree (λ x. combine o (slotSatisfies v a k x) (slotSatisfies v b j x)) (slotSatisfies v (pair o a b) k) base zs (λ n w. sym (slot-pair v k (base + n) o a b j e))
+      holds-agree (λ x. combine o (slotSatisfies v a k x) (slotSatisfies v b j x)) (slotSatisfies v (pair o a b) k) base zs
+      (λ n w. sym (slot-pair v k (base + n) o a b j e))
       (holds-combined (combine o) (slotSatisfies v a k) (slotSatisfies v b j) base xs ys zs l c h g)

@@ -38,7 +38,8 @@ use Rattle.slots.proofs.WholeLaws.{slot-satisfies, compiled-slots}
 asked-tree : (s codes : List ℕ) (t : Tree) (k : ℕ) → parsed fromLeft s ≡ parses t k → codes ≡ codesOf (tokens s) → TreeOf codes t
 asked-tree s codes t k is e = record { toks = tokens s; are = sym e; fuel = 2 * length s + 2; words = k; reads = asked-accepts fromLeft s t k is .reads }
 
-module _ {index s codes codes′ entries entries′ : List ℕ} {n slots : ℕ} (c : WritesCodes s codes codes′ n × FillsSlots index s entries entries′ slots) (sound : Sound index)
+module _ {index s codes codes′ entries entries′ : List ℕ} {n slots : ℕ} (c : WritesCodes s codes codes′ n × FillsSlots index s entries entries′ slots)
+    (sound : Sound index)
     (t : Tree) (k : ℕ) (is : parsed fromLeft s ≡ parses t k) where
   -- they are lent from the first on
   compiled-codes : take (n - 0) codes′ ≡ codesOf (tokens s)
@@ -79,7 +80,8 @@ module _ {codes index entries : List ℕ} {slots n : ℕ} {t : Tree} (prepared :
 -- ---- the question's promise
 
 module _ (rule : Rule) (index question out : List ℕ) where
-  pub listing-answers : (out′ : List ℕ) (r : Answer) (t : Tree) (k : ℕ) → parsed rule question ≡ parses t k → Listing (satisfying index t) out out′ r → Answers rule index question out out′ r
+  pub listing-answers : (out′ : List ℕ) (r : Answer) (t : Tree) (k : ℕ) → parsed rule question ≡ parses t k → Listing (satisfying index t) out out′ r →
+      Answers rule index question out out′ r
   listing-answers out′ r t k e l = record { answer = rw e (l .answer); cells = rw e (l .cells) }
 
   pub refused-answers : (x : Refusal) → parsed rule question ≡ refuses x → Answers rule index question out out (answer.Refused x)

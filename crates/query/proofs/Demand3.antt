@@ -72,10 +72,12 @@ module _ (rule : Rule) (index question : List ℕ) (t : Tree) (out out′ : List
   pub answered-cells : written tally out′ ≡ satisfying index t
   answered-cells =
       ap (λ (o : List ℕ). written tally o) (by-room fit answer left .1)
-      ∙ take-at cells (drop (length cells) out) (2 * tally .intervals) (sym (satisfying-even index t) ∙ ap (λ (w : Tally). 2 * w .intervals) (sym answered-tally))
+      ∙ take-at cells (drop (length cells) out) (2 * tally .intervals)
+      (sym (satisfying-even index t) ∙ ap (λ (w : Tally). 2 * w .intervals) (sym answered-tally))
 
   -- Reference 3.2: of whatever cells name just the records that satisfy the question
-  pub fewest-intervals : (c : List ℕ) → names c 0 ≡ false → ((x : ℕ) → 1 ≤ x → x ≤ highest index → names c x ≡ satisfies (has index) t x) → tally .intervals ≤ intervals c
+  pub fewest-intervals : (c : List ℕ) → names c 0 ≡ false → ((x : ℕ) → 1 ≤ x → x ≤ highest index → names c x ≡ satisfies (has index) t x) →
+      tally .intervals ≤ intervals c
   unfolding satisfying
   fewest-intervals c e f = rw answered-tally (fewest-of (satisfies (has index) t) (highest index) c e f)
 
@@ -100,7 +102,8 @@ module _ (cells : List ℕ) (even : 2 * intervals cells ≡ length cells) (out o
   call-step : (f : Bool) → r ≡ cond f (Listed (tallyOf cells)) (Refused (Room (intervals cells))) → out′ ≡ cond f (inFront cells out) out →
       (writtenBy r out′ ≡ cond f cells []) × OnlyWritten r out out′ × ListOrRoom r
   call-step true e g =
-      let taken : written (tallyOf cells) out′ ≡ cells = ap (λ (o : List ℕ). take (2 * intervals cells) o) g ∙ take-at cells (drop (length cells) out) (2 * intervals cells) (sym even) in
+      let taken : written (tallyOf cells) out′ ≡ cells =
+      ap (λ (o : List ℕ). take (2 * intervals cells) o) g ∙ take-at cells (drop (length cells) out) (2 * intervals cells) (sym even) in
       rw e (taken, g ∙ ap (λ (c : List ℕ). inFront c out) (sym taken), tt)
   call-step false e g = rw e (refl, g, refl)
 
@@ -175,7 +178,8 @@ parsed-once : (rule : Rule) (s : List ℕ) (t u : Tree) (n m : ℕ) → parsed r
 parsed-once rule s t u n m e f = cc
 
 -- no premise is empty: any pair of brackets in an accepted question may be exchanged, for itself if for nothing else
-pub exchanging-itself : (rule : Rule) (index before a behind : List ℕ) → checkOf index ≡ Good → (t : Tree) (n : ℕ) → parsed rule (around before a behind) ≡ parses t n → Matched a →
+pub exchanging-itself : (rule : Rule) (index before a behind : List ℕ) → checkOf index ≡ Good → (t : Tree) (n : ℕ) →
+    parsed rule (around before a behind) ≡ parses t n → Matched a →
     ExchangingPair rule index before a a behind
 exchanging-itself rule index before a behind sound t n accepted matched =
     let by = inside-accepted rule before a behind t n accepted matched in
@@ -201,6 +205,7 @@ module _ (index before a b behind : List ℕ) where
   pub exchange-pair-from-left : ExchangingPair fromLeft index before a b behind → CallsAgree fromLeft index (around before a behind) (around before b behind)
   exchange-pair-from-left = exchange-pair fromLeft from-left-respects index before a b behind
 
-pub exchanging-itself-from-left : (index before a behind : List ℕ) → checkOf index ≡ Good → (t : Tree) (n : ℕ) → parsed fromLeft (around before a behind) ≡ parses t n → Matched a →
+pub exchanging-itself-from-left : (index before a behind : List ℕ) → checkOf index ≡ Good → (t : Tree) (n : ℕ) →
+    parsed fromLeft (around before a behind) ≡ parses t n → Matched a →
     ExchangingPair fromLeft index before a a behind
 exchanging-itself-from-left = exchanging-itself fromLeft

@@ -51,10 +51,12 @@ tree-words codes t o =
     sym (ap length (w .0 ∙ append-nil (treeWords t))) ∙ sym (codes-words (o .toks)) ∙ ap wordCodes (o .are)
 
 module _ {codes : List ℕ} {t : Tree} (o : TreeOf codes t) where
-  pub tree-holds : {index entries ws : List ℕ} {x : ℕ} {r : Step} → Evaluated (asLevel bracketsMax 0) codes 0 0 index entries x ws r → Holds (testOf index entries t) x ws
+  pub tree-holds : {index entries ws : List ℕ} {x : ℕ} {r : Step} → Evaluated (asLevel bracketsMax 0) codes 0 0 index entries x ws r →
+      Holds (testOf index entries t) x ws
   tree-holds e = e .reads (o .fuel) (o .toks) t [] (o .words) (o .are) (o .reads) .4
 
-  pub tree-steady : (index entries : List ℕ) (slots x : ℕ) {senses : List ℕ} {r : Look} → slots ≡ wordCodes codes → Known (slotHas index entries) senses slots x →
+  pub tree-steady : (index entries : List ℕ) (slots x : ℕ) {senses : List ℕ} {r : Look} → slots ≡ wordCodes codes →
+      Known (slotHas index entries) senses slots x →
       Looks (asLevel bracketsMax 0) codes 0 0 senses r → Steady (testOf index entries t) x (r .inside) (r .until)
   tree-steady index entries slots x all known e =
       e .reads (o .fuel) (o .toks) t [] (o .words) (o .are) (o .reads) .4 (slotHas index entries) slots x (omega (arith, tree-words codes t o)) known
@@ -65,7 +67,8 @@ slot-above : (index entries : List ℕ) → Sound index → (k x : ℕ) → high
 unfolding slotHas
 slot-above index entries s k x h =
     by-test (ltb (getD entries k 0) (wordCount index))
-    (λ e. rw e (proper-names-above (highest index) x (listOf index (getD entries k 0)) (list-proper index s (getD entries k 0) (ltb-true (getD entries k 0) (wordCount index) e)) h))
+    (λ e. rw e (proper-names-above (highest index) x (listOf index (getD entries k 0))
+    (list-proper index s (getD entries k 0) (ltb-true (getD entries k 0) (wordCount index) e)) h))
     (λ e. rw e)
 
 pub test-above : (index entries : List ℕ) → Sound index → (t : Tree) (x : ℕ) → highest index < x → testOf index entries t x ≡ false

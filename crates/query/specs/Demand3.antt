@@ -94,5 +94,6 @@ pub record SameAnswers (rule : Rule) (second out out′ other other′ : List �
 -- Reference 11, demand 3: so it is of any two calls that keep the promise, the first question's and the second's, with as much room
 abbrev pub CallsAgree : Rule → List ℕ → List ℕ → List ℕ → Type 0
 CallsAgree rule index first second =
-    (out out′ other other′ : List ℕ) (r r′ : Answer) → length out / 2 ≡ length other / 2 → Asks rule index first out out′ r → Asks rule index second other other′ r′ →
+    (out out′ other other′ : List ℕ) (r r′ : Answer) → length out / 2 ≡ length other / 2 → Asks rule index first out out′ r →
+    Asks rule index second other other′ r′ →
     SameAnswers rule second out out′ other other′ r r′

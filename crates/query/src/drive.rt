@@ -21,14 +21,14 @@ ghost use Rattle.query.specs.Drive.{
   Tallies,
 };
 use evaluate::eval::eval_level;
-use senses::look::Look;
-use senses::look::look_level;
-use senses::kept::renew_senses;
 use limits::BRACKETS_MAX;
 use limits::QUESTION_WORDS_MAX;
 use list::answer::Tally;
 use list::hints::HINTS;
 use list::sense::smaller;
+use senses::kept::renew_senses;
+use senses::look::Look;
+use senses::look::look_level;
 use window::fill::clear;
 use window::members::count_members;
 use window::steps::Done;

@@ -80,7 +80,8 @@ module _ {s : List ℕ} {at : ℕ} where
 
 -- ---- codes and slots, one after the other
 
-write-next : (codes left more all : List ℕ) (n v : ℕ) → n < length codes → left ≡ v ∷ more → take n codes ++ left ≡ all → take (n + 1) (set codes n v) ++ more ≡ all
+write-next : (codes left more all : List ℕ) (n v : ℕ) → n < length codes → left ≡ v ∷ more → take n codes ++ left ≡ all →
+    take (n + 1) (set codes n v) ++ more ≡ all
 write-next codes left more all n v h e w =
     rw (add-one n, take-suc-set codes n v h) (append-assoc (take n codes) (v ∷ []) more ∙ ap (λ (r : List ℕ). take n codes ++ r) (sym e) ∙ w)
 
@@ -97,7 +98,8 @@ drop-head (v ∷ l) (suc k) w r e =
 abbrev Filled : List ℕ → List (List ℕ) → List ℕ → ℕ → Type 0
 Filled index words entries k = (j : ℕ) → j < k → StandsFor index (getD words j []) (getD entries j 0)
 
-filled-next : (index : List ℕ) (words : List (List ℕ)) (entries : List ℕ) (k e : ℕ) → k < length entries → Filled index words entries k → StandsFor index (getD words k []) e →
+filled-next : (index : List ℕ) (words : List (List ℕ)) (entries : List ℕ) (k e : ℕ) → k < length entries → Filled index words entries k →
+    StandsFor index (getD words k []) e →
     Filled index words (set entries k e) (k + 1)
 filled-next index words entries k e h f new j l = go (ℕ-discrete j k)
   where
@@ -140,7 +142,8 @@ module _ {index s codes₀ entries₀ codes entries : List ℕ} {count slots at 
     code-written : take (count + 1) (set codes count v) ++ codesOf (tokensAt s n) ≡ codesOf (tokens s)
     code-written = write-next codes (codesOf (tokensAt s at)) (codesOf (tokensAt s n)) (codesOf (tokens s)) count v (omega arith) (next .codes) (c .coded)
 
-    pub compile-other : tokenWords (tokensAt s at) ≡ tokenWords (tokensAt s n) → Compiling index s codes₀ entries₀ (set codes count v) entries (count + 1) slots n
+    pub compile-other : tokenWords (tokensAt s at) ≡ tokenWords (tokensAt s n) →
+        Compiling index s codes₀ entries₀ (set codes count v) entries (count + 1) slots n
     compile-other e = record {
       near = omega arith;
       inside = next .inside;

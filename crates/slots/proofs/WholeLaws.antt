@@ -23,7 +23,8 @@ slot-satisfies-by v (word w) k x = refl
 slot-satisfies-by v (pair o a b) k x = ap₂ (combine o) (slot-satisfies-by v a k x) (slot-satisfies-by v b (k + length (treeWords a)) x)
 slot-satisfies-by v (part t) k x = slot-satisfies-by v t k x
 
-pub slot-satisfies : (v : ℕ → ℕ → Bool) (had : List ℕ → ℕ → Bool) (t : Tree) (x : ℕ) → ((i : ℕ) → i < length (treeWords t) → v i x ≡ had (getD (treeWords t) i []) x) →
+pub slot-satisfies : (v : ℕ → ℕ → Bool) (had : List ℕ → ℕ → Bool) (t : Tree) (x : ℕ) →
+    ((i : ℕ) → i < length (treeWords t) → v i x ≡ had (getD (treeWords t) i []) x) →
     slotSatisfies v t 0 x ≡ satisfies had t x
 slot-satisfies v had t x h =
     slot-satisfies-by v t 0 x ∙ satisfies-by had x (λ i. v i x) 0 t (λ i l. let z : 0 + i ≡ i = omega arith in ap (λ (n : ℕ). v n x) z ∙ h i l)
@@ -32,7 +33,8 @@ slot-satisfies v had t x h =
 abbrev pub TreeSlots : List ℕ → List ℕ → Tree → Type 0
 TreeSlots index entries t = (i : ℕ) → i < length (treeWords t) → (x : ℕ) → slotHas index entries i x ≡ has index (getD (treeWords t) i []) x
 
-pub compiled-slots : {index s entries entries′ : List ℕ} {slots : ℕ} → FillsSlots index s entries entries′ slots → (t : Tree) (n : ℕ) → parsed fromLeft s ≡ parses t n →
+pub compiled-slots : {index s entries entries′ : List ℕ} {slots : ℕ} → FillsSlots index s entries entries′ slots → (t : Tree) (n : ℕ) →
+    parsed fromLeft s ≡ parses t n →
     (slots ≡ length (treeWords t)) × TreeSlots index entries′ t
 compiled-slots {s = s} c t n e =
     let w = accepted-words fromLeft from-left-keeps s t n e .0 in

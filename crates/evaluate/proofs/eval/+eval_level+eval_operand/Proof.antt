@@ -50,14 +50,24 @@ eval-operand-below t = and 5 eval-operand-kinds.ps (falls 5 eval-operand-kinds.p
 
 -- what the calls of each promise
 abbrev level-claims : ℕ → eval-level-lts.Claims
-level-claims t = (eval-operand-below t, eval-operand.Post, code-at.Asked, code-at.Learnt, is-operator.Asked, is-operator.Learnt, combine-into.Asked, combine-into.Learnt)
+level-claims t = (
+  eval-operand-below t,
+  eval-operand.Post,
+  code-at.Asked,
+  code-at.Learnt,
+  is-operator.Asked,
+  is-operator.Learnt,
+  combine-into.Asked,
+  combine-into.Learnt,
+)
 
 abbrev operand-claims : ℕ → eval-operand-lts.Claims
 operand-claims t = (code-at.Asked, code-at.Learnt, fill-slot.Asked, fill-slot.Learnt, eval-level-below t, eval-level.Post)
 
 abbrev eval-level-Inv-loop : eval-level-lts.InvT-loop
 eval-level-Inv-loop codes i k d index entries base hints₀ ws₀ at₀ slot₀ n hints ws at slot =
-    (i ≤ at) × (at ≤ length codes) × (length hints ≡ 32) × (length ws ≡ length ws₀) × Level codes d k i at slot (λ t. Holds (slotSatisfies (slotHas index entries) t k) base ws)
+    (i ≤ at) × (at ≤ length codes) × (length hints ≡ 32) × (length ws ≡ length ws₀)
+    × Level codes d k i at slot (λ t. Holds (slotSatisfies (slotHas index entries) t k) base ws)
 
 abbrev eval-level-μ-loop : eval-level-lts.MeasureT-loop
 eval-level-μ-loop codes i k d index entries base hints₀ ws₀ at₀ slot₀ n hints ws at slot = length codes - at
@@ -83,7 +93,8 @@ module _ (t : ℕ) where
   abbrev GoesOn : Type 0
   GoesOn = eval-level-lts.Else1 (level-claims t) (eval-level-at t) eval-level.Post eval-level-Inv-loop eval-level-μ-loop
 
-  operator : (c : GoesOn) → let l = c .before .before .before in Here (begun l .args .codes .now) (l .loop .at) (opCode (opOf (c .before .before .code-at .result)))
+  operator : (c : GoesOn) → let l = c .before .before .before in
+      Here (begun l .args .codes .now) (l .loop .at) (opCode (opOf (c .before .before .code-at .result)))
   operator c =
       let l = c .before .before .before in
       operator-here (begun l .args .codes .now) (l .loop .at) (c .before .before .code-at .ensures)
@@ -132,7 +143,8 @@ module _ (t : ℕ) where
         },
       )
 
-  level-operand-requires-2 : eval-level-lts.Need-eval-operand-requires-2 (level-claims t) (eval-level-at t) eval-level.Post eval-level-Inv-loop eval-level-μ-loop
+  level-operand-requires-2 : eval-level-lts.Need-eval-operand-requires-2 (level-claims t)
+      (eval-level-at t) eval-level.Post eval-level-Inv-loop eval-level-μ-loop
   level-operand-requires-2 c κs =
       let looped = c .before .before .before .before .before in
       let start = begun looped in
@@ -149,7 +161,8 @@ module _ (t : ℕ) where
         },
       )
 
-  level-part-combine-into-end : eval-level-lts.Need-part-combine-into-end (level-claims t) (eval-level-at t) eval-level.Post eval-level-Inv-loop eval-level-μ-loop
+  level-part-combine-into-end : eval-level-lts.Need-part-combine-into-end (level-claims t)
+      (eval-level-at t) eval-level.Post eval-level-Inv-loop eval-level-μ-loop
   level-part-combine-into-end c =
       let read = c .before .before .before .before .before in
       let n = size (loop read) in
@@ -158,7 +171,8 @@ module _ (t : ℕ) where
       same-len-mid 0 (n - 0) (replicate windowMost 0) (right read) (read .eval-operand2 .ensures .0 .ws-long) in
       omega arith
 
-  level-combine-into-requires : eval-level-lts.Need-combine-into-requires (level-claims t) (eval-level-at t) eval-level.Post eval-level-Inv-loop eval-level-μ-loop
+  level-combine-into-requires : eval-level-lts.Need-combine-into-requires (level-claims t)
+      (eval-level-at t) eval-level.Post eval-level-Inv-loop eval-level-μ-loop
   level-combine-into-requires c κs =
       let read = c .before .before .before .before .before .before in
       let long = right-long read in
@@ -215,7 +229,8 @@ module _ (t : ℕ) where
   abbrev opened : AtClose → AtOpen
   opened c = c .before .before .before .before .before .before .before .before .before .before
 
-  close-here : (c : AtClose) → Here (open-start (opened c) .args .codes .now) (c .before .before .before .before .before .before .eval-level .result .code) closeCode
+  close-here : (c : AtClose) → Here (open-start (opened c) .args .codes .now)
+      (c .before .before .before .before .before .before .eval-level .result .code) closeCode
   close-here c =
       code-here (open-start (opened c) .args .codes .now) (c .before .before .before .before .before .before .eval-level .result .code)
       (c .before .code-at2 .ensures) (c .if5 .left) (omega arith)
@@ -230,8 +245,7 @@ module _ (t : ℕ) where
   operand-returns c =
       let at = c .before .before .before .before .before .before .before .before in
       let a = word-start at .args in
-      let f = c .before .before .before .before .fill-slot .ensures in
-      (
+      let f = c .before .before .before .before .fill-slot .ensures in (
         record { hints-long = f .0; ws-long = f .1 .long },
         record {
           ahead = omega arith;
@@ -261,7 +275,8 @@ module _ (t : ℕ) where
   operand-returns-4 c =
       let start = open-start (c .before) in
       let a = start .args in
-      evaluated-none (start .pre .1 .inside) (λ n. operand-deep (a .codes .now) n (a .d) (a .k) (a .i) (open-here (c .before) .0) (a .i) (a .k) _ (c .if4 .taken))
+      evaluated-none (start .pre .1 .inside)
+      (λ n. operand-deep (a .codes .now) n (a .d) (a .k) (a .i) (open-here (c .before) .0) (a .i) (a .k) _ (c .if4 .taken))
 
   operand-eval-level-requires : eval-operand-lts.Need-eval-level-requires (operand-claims t) (eval-operand-at t) eval-operand.Post
   operand-eval-level-requires c κs =
@@ -276,13 +291,13 @@ module _ (t : ℕ) where
       let at = c .before .before .before .before .before .before .before .before .before .before in
       let a = open-start at .args in
       let r = c .before .before .before .before .before .before .eval-level in
-      let e = r .ensures .1 in
-      (
+      let e = r .ensures .1 in (
         r .ensures .0,
         record {
           ahead = omega arith;
           inside = open-start at .pre .1 .inside;
-          reads = λ n. operand-unclosed (a .codes .now) n (a .d) (a .k) (a .i) (open-here at .0) (r .result .code) (r .result .slot) _ (e .reads) (a .i) (a .k) _
+          reads = λ n. operand-unclosed (a .codes .now) n (a .d) (a .k) (a .i) (open-here at .0) (r .result .code) (r .result .slot) _ (e .reads) (a .i)
+              (a .k) _
               (λ h. c .if5 .taken (c .before .code-at2 .ensures ∙ h));
         },
       )
@@ -291,13 +306,13 @@ module _ (t : ℕ) where
   operand-returns-6 c =
       let a = open-start (opened c) .args in
       let r = c .before .before .before .before .before .before .eval-level in
-      let e = r .ensures .1 in
-      (
+      let e = r .ensures .1 in (
         r .ensures .0,
         record {
           ahead = omega (arith, e .ahead);
           inside = omega (arith, close-here c .1);
-          reads = λ n. operand-part (a .codes .now) n (a .d) (a .k) (a .i) (open-here (opened c) .0) (r .result .code) (r .result .slot) _ (e .reads) _ (close-here c .0)
+          reads = λ n. operand-part (a .codes .now) n (a .d) (a .k) (a .i) (open-here (opened c) .0) (r .result .code) (r .result .slot) _ (e .reads) _
+              (close-here c .0)
               (λ u h. holds-part (slotHas (a .index .now) (a .entries .now)) (a .k) u h);
         },
       )

@@ -17,7 +17,8 @@ stood : (c : tie.After-look-at) → Stands (asked c .args .n) (asked c .args .at
 stood c = asked c .pre .1 .1 .1 .0
 
 -- behind a window, where the driver stood before it
-window-stood : (c : tie.After-take-window) → let a = asked (c .before .before .before .before .before .before .before .before .before .before) .args in Stands (a .n) (a .at)
+window-stood : (c : tie.After-take-window) → let a = asked (c .before .before .before .before .before .before .before .before .before .before) .args in
+    Stands (a .n) (a .at)
 window-stood c = stood (c .before .before .before .before .before .before .before .before .before .before)
 
 look-at-requires : tie.Need-look-at-requires
@@ -106,7 +107,6 @@ returns-2 c =
     let stands = stood here in
     let look = here .look-at .ensures in
     let next = c .before .smaller2 .ensures in
-    let width = part-width (a .at .width) (a .ws .now) (omega (arith, asked here .pre .1 .0)) in
     let sensed = sensed-later (slotHas (a .index .now) (a .entries .now)) _ (a .at .x) (look .1 .1 .0) (c .before .smaller2 .result) (omega arith) in (
       record { hints-long = same-length-4 c; ws-long = search needs },
       (
@@ -138,7 +138,9 @@ step-spec =
     (λ c κs. search needs) (λ c. let stands = stood (c .before .before .before .before .before) in omega arith)
     take-jump-requires (λ c. search needs) (λ c. search needs) (λ c. search needs) returns (λ c. search needs)
     (λ c. search needs) part-take-window-end take-window-requires
-    (λ c. let stands = window-stood (c .before .before .before .before .before .before) in omega arith) (λ c. let stands = window-stood (c .before .before .before .before .before .before) in omega arith)
-    (λ c. let stands = window-stood (c .before .before .before .before .before .before) in omega arith) (λ c. let stands = window-stood (c .before .before .before .before .before .before) in omega arith)
+    (λ c. let stands = window-stood (c .before .before .before .before .before .before) in omega arith)
+    (λ c. let stands = window-stood (c .before .before .before .before .before .before) in omega arith)
+    (λ c. let stands = window-stood (c .before .before .before .before .before .before) in omega arith)
+    (λ c. let stands = window-stood (c .before .before .before .before .before .before) in omega arith)
     (λ c κs. search needs) (λ c κs. search needs) same-length-4 (λ c. search needs) (λ c. search needs) (λ c. search needs)
     returns-2)

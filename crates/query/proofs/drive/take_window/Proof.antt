@@ -1,5 +1,5 @@
 -- The blank window holds the question's test once it is evaluated; its cells and its records are those of the test.
-use mathlib.Core.Path.{ap}
+use mathlib.Core.Path.{ap, _∙_}
 use Prim.Native.Nat.{ℕ, _+_, _*_}
 use native.Mathlib.Omega.{arith}
 use borrow.Author.Needs.{needs}
@@ -27,8 +27,17 @@ put-flips-requires c κs =
     let same = evaluated-length (a .ws .now) (done .eval-level .ensures .0) (done .before .before .before .before .before .clear .ensures) in
     let within = asked done .pre .1 .0 in
     let roomy = asked done .pre .1 .1 in
-    let holds = tree-holds (roomy .reads) (done .eval-level .ensures .1) in
-    (within .begun, (omega arith, (omega arith, λ w. window-room (testOf (a .index .now) (a .entries .now) (roomy .tree)) (a .at .x) (a .at .cells) _ (a .out .now) holds (roomy .room w _ (omega arith)))))
+    let holds = tree-holds (roomy .reads) (done .eval-level .ensures .1) in (
+      within .begun,
+      (
+        omega arith,
+        (
+          omega arith,
+          λ w. window-room (testOf (a .index .now) (a .entries .now) (roomy .tree)) (a .at .x) (a .at .cells) _ (a .out .now) holds
+              (roomy .room w _ (omega arith)),
+        ),
+      ),
+    )
 
 count-members-requires : tie.Need-count-members-requires
 count-members-requires c κs =
@@ -54,7 +63,8 @@ returns c =
       record { hints-long = evaluated .0 .hints-long; ws-long = same },
       λ t o. rw (ap (λ (m : ℕ). 64 * m) (same ∙ asked done .pre .1 .0 .wide)) at
           (stepped-window (testOf (a .index .now) (a .entries .now) t) (a .at .x) (a .at .cells) (a .at .records) _ (a .writing) (a .out .now) _ _ _
-          (tree-holds o (evaluated .1)) (c .before .before .before .before .before .put-flips .ensures) (ap (λ (m : ℕ). a .at .records + m) (c .before .count-members .ensures (a .at .x)))),
+          (tree-holds o (evaluated .1)) (c .before .before .before .before .before .put-flips .ensures)
+          (ap (λ (m : ℕ). a .at .records + m) (c .before .count-members .ensures (a .at .x)))),
     )
 
 pub take-window-spec : {M : Type 1} → statement M

@@ -13,7 +13,8 @@ returns-2 c =
     let look = c .before .before .before .look-slot in
     let r = look .result in (
       look .ensures .0,
-      renewed-set (slotHas (a .index .now) (a .entries .now)) (a .senses .now) (a .x) (a .k) (start .pre .1 .1 .1 .1) (r .inside) (r .until) (c .pack .result) (look .ensures .1)
+      renewed-set (slotHas (a .index .now) (a .entries .now)) (a .senses .now) (a .x) (a .k) (start .pre .1 .1 .1 .1) (r .inside) (r .until) (c .pack .result)
+          (look .ensures .1)
           (omega arith) (c .pack .ensures .0) (c .pack .ensures .1),
     )
 

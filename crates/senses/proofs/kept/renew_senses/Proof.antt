@@ -30,8 +30,10 @@ renew-sense-requires : tie.Need-renew-sense-requires Inv-loop μ-loop
 renew-sense-requires c κs =
     let inv = c .before .before .before .loop .inv in
     let pre = begun (c .before .before .before) .pre in
-    let more = c .before .before .loop-test .taken in
-    (record { sound = pre .0 .sound; entries-long = pre .0 .entries-long; hints-long = inv .0 }, (inv .1, (omega (arith, pre .1 .1 .0), (pre .1 .1 .1 .0, inv .2))))
+    let more = c .before .before .loop-test .taken in (
+      record { sound = pre .0 .sound; entries-long = pre .0 .entries-long; hints-long = inv .0 },
+      (inv .1, (omega (arith, pre .1 .1 .0), (pre .1 .1 .1 .0, inv .2))),
+    )
 
 loop-again : tie.Need-loop-again Inv-loop μ-loop
 loop-again c =

@@ -11,4 +11,5 @@ both-spec =
     (λ c p q x s t. both-first-in s t (c .before .before .before .before .if1 .taken) (c .before .before .before .if2 .taken) (omega arith))
     (λ c p q x s t. both-second-in s t (c .before .before .before .before .if1 .taken) (c .before .before .before .if2 .taken) (omega arith))
     (λ c p q x s t. both-second-out s t (c .if2 .left)) (λ c p q x s t. both-first-out s t (c .before .if1 .left))
-    (λ c p q x s t. both-second-out s t (c .before .before .before .if4 .left)) (λ c p q x s t. both-first-out s t (c .before .before .before .before .if1 .left)))
+    (λ c p q x s t. both-second-out s t (c .before .before .before .if4 .left))
+    (λ c p q x s t. both-first-out s t (c .before .before .before .before .if1 .left)))

@@ -43,7 +43,8 @@ loop-again c =
     compile-word (here .loop .inv) (asked here .pre .1 .0) (found .coded) (c .entry-for .result) (asked here .pre .1 .1) (found .words) (c .entry-for .ensures)
 
 -- the token of a turn that is neither a word nor the end
-other : (c : tie.At-match-keys3 Inv-loop μ-loop) → let here = c .before .before in NextOther (asked here .args .question .now) (here .loop .at) (c .before .next-token .result)
+other : (c : tie.At-match-keys3 Inv-loop μ-loop) → let here = c .before .before in
+    NextOther (asked here .args .question .now) (here .loop .at) (c .before .next-token .result)
 other c = next-other (c .before .next-token .ensures) (c .match .keys3)
 
 loop-again-2 : tie.Need-loop-again-2 Inv-loop μ-loop
