@@ -39,11 +39,15 @@ use window::tuning::FAR;
 use window::tuning::LEAST;
 use window::tuning::MOST;
 
-// Where the driver stands: the next record, the words of the next window, and the cells and records so far.
+// Where the driver stands.
 pub struct At {
+    // the next record
     pub x: u32,
+    // how many words of 64 bits the next window has
     pub width: usize,
+    // the cells so far: an odd number where a stretch is open
     pub cells: usize,
+    // the records that were passed and satisfy the question
     pub records: usize,
 }
 
