@@ -1,7 +1,7 @@
 -- Laws of a question's line: a checked file is sound, an answer's intervals stand in the cells, and the line depends on nothing else.
 use mathlib.Core.Path.{_≡_, refl, ap}
 use mathlib.Core.Bool.{Bool, true, false, cond}
-use mathlib.Core.List.{List, [], _++_}
+use mathlib.Core.List.{List, []}
 use Prim.Native.Nat.{ℕ, _+_, _*_, _/_, _≤_}
 use native.Mathlib.Omega.{arith}
 use lib.Dec.{leb, ltb}
@@ -14,6 +14,7 @@ use Rattle.refusal.specs.declared.Refusal.the-variants.{Room}
 use Rattle.list.specs.declared.answer.Answer.{Answer}
 use Rattle.list.specs.declared.answer.Answer.the-variants as answer
 use Rattle.list.specs.Interval.{intervals}
+use Rattle.list.specs.Front.{inFront}
 use Rattle.list.specs.Answer.{tallyOf}
 use Rattle.index.specs.declared.Checked.{Checked}
 use Rattle.index.specs.declared.Checked.the-variants.{Good, Refused}
@@ -47,8 +48,8 @@ shown-within Good index (parses t k) room = listed-within (satisfying index t) r
 
 -- what stood in the cells before does not show in the line
 listed-same : (number : ℕ) (c : List ℕ) (t : Bool) (out : List ℕ) →
-    lineOf number (cond t (answer.Listed (tallyOf c)) (answer.Refused (Room (intervals c)))) (cond t (c ++ drop (length c) out) out)
-    ≡ lineOf number (cond t (answer.Listed (tallyOf c)) (answer.Refused (Room (intervals c)))) (cond t (c ++ drop (length c) []) [])
+    lineOf number (cond t (answer.Listed (tallyOf c)) (answer.Refused (Room (intervals c)))) (cond t (inFront c out) out)
+    ≡ lineOf number (cond t (answer.Listed (tallyOf c)) (answer.Refused (Room (intervals c)))) (cond t (inFront c []) [])
 listed-same number c true out =
     let h : 2 * (length c / 2) ≤ length c = omega arith in
     rw (take-append-le (2 * (length c / 2)) c (drop (length c) out) h, take-append-le (2 * (length c / 2)) c (drop (length c) []) h)

@@ -38,7 +38,8 @@ use Rattle.build.proofs.GoodLaws.{EachGood, each-good, lent-good, good-
 never : {A : Type 0} (r : Refusal) (size : ℕ) → Refused r ≡ Wrote size → A
 never r size e = absurd (let z : _≡_ {A = ℕ} 0 1 = cc in omega arith)
 
-size-step : (large fits : Bool) (a size : ℕ) → cond large (Refused (BuildSize 1)) (cond fits (Wrote a) (Refused (Room a))) ≡ Wrote size → (large ≡ false) × (a ≡ size)
+size-step : (large fits : Bool) (a size : ℕ) → cond large (Refused (BuildSize 1)) (cond fits (Wrote a) (Refused (Room a))) ≡ Wrote size →
+    (large ≡ false) × (a ≡ size)
 size-step true fits a size e = never (BuildSize 1) size e
 size-step false true a size e = (refl, cc)
 size-step false false a size e = never (Room a) size e

@@ -43,12 +43,14 @@ module _ (counts : List ℕ) (total i : ℕ) where
   unfolding badCount
   count-zero h e = rw (lt-leb (length counts) i h, eq-eqb (getD counts i 0) 0 e)
 
-  pub count-past : (left : ℕ) → i < length counts → (getD counts i 0 ≡ 0 → ⊥) → sumTo counts i + left ≡ total → left < getD counts i 0 → badCount counts total i ≡ true
+  pub count-past : (left : ℕ) → i < length counts → (getD counts i 0 ≡ 0 → ⊥) → sumTo counts i + left ≡ total → left < getD counts i 0 →
+      badCount counts total i ≡ true
   unfolding badCount
   count-past left h e s g =
       rw (lt-leb (length counts) i h, ne-eqb (getD counts i 0) 0 e, lt-ltb total (sumTo counts (i + 1)) (omega (arith, sum-next counts i)))
 
-  pub count-good : (left : ℕ) → i < length counts → (getD counts i 0 ≡ 0 → ⊥) → sumTo counts i + left ≡ total → getD counts i 0 ≤ left → badCount counts total i ≡ false
+  pub count-good : (left : ℕ) → i < length counts → (getD counts i 0 ≡ 0 → ⊥) → sumTo counts i + left ≡ total → getD counts i 0 ≤ left →
+      badCount counts total i ≡ false
   unfolding badCount
   count-good left h e s g =
       rw (lt-leb (length counts) i h, ne-eqb (getD counts i 0) 0 e, le-ltb total (sumTo counts (i + 1)) (omega (arith, sum-next counts i)))
@@ -92,7 +94,12 @@ module _ (n : ℕ) (counts numbers : List ℕ) (i : ℕ) (h : i < length counts)
   listed-before zero g = let e : begin + 0 ≡ begin = omega arith in rw e (listed-first begin refl)
   listed-before (suc k) g =
       let e : begin + suc k ≡ suc (begin + k) = omega arith in
-      rw (e, begins-not counts (length counts) i (suc (begin + k)) (omega arith) (omega arith), getD-take (getD counts i 0) (drop begin numbers) k 0 (omega arith), getD-drop begin numbers k 0)
+      rw (
+        e,
+        begins-not counts (length counts) i (suc (begin + k)) (omega arith) (omega arith),
+        getD-take (getD counts i 0) (drop begin numbers) k 0 (omega arith),
+        getD-drop begin numbers k 0,
+      )
 
   -- a number of the list is bad where it is bad in the list alone
   pub listed-alone : (k : ℕ) → k < getD counts i 0 → badListed n counts (length counts) numbers (begin + k) ≡ badNumber n xs k
@@ -159,7 +166,8 @@ module _ (n : ℕ) (counts numbers : List ℕ) (is : Fair counts (length numbers
         (λ p. at-place j p l ∙ first-none (badNumber n list) (length list) f (j - start) (omega (arith, list-length)))
         (λ p. g j p)
 
-  pub lists-end : (i start : ℕ) → length counts ≤ i → i ≤ length counts → start ≡ sumTo counts i → ((j : ℕ) → j < start → bad j ≡ false) → first bad (length numbers) ≡ Nowhere
+  pub lists-end : (i start : ℕ) → length counts ≤ i → i ≤ length counts → start ≡ sumTo counts i → ((j : ℕ) → j < start → bad j ≡ false) →
+      first bad (length numbers) ≡ Nowhere
   lists-end i start h g s f =
       let q : i ≡ length counts = omega arith in
       let t : start ≡ sumTo counts (length counts) = s ∙ ap (sumTo counts) q in

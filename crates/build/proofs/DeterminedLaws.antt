@@ -111,7 +111,8 @@ module _ (a b : List ℕ) (s : Sound a) (t : Sound b) (agree : (w : List ℕ) (x
       let p = word-same i h in
       sym (has-entry a s (wordOf a i) i x h refl) ∙ agree (wordOf a i) x ∙ has-entry b t (wordOf a i) i x (p .0) (p .1)
 
-pub has-determines : (a b : List ℕ) → Sound a → Sound b → Below 256 a → Below 256 b → highest a ≡ highest b → ((w : List ℕ) (x : ℕ) → has a w x ≡ has b w x) → a ≡ b
+pub has-determines : (a b : List ℕ) → Sound a → Sound b → Below 256 a → Below 256 b → highest a ≡ highest b → ((w : List ℕ) (x : ℕ) → has a w x ≡ has b w x) →
+    a ≡ b
 has-determines a b s t c d e f =
     let p = count-least a b s t f in
     let q = count-least b a t s (λ w x. sym (f w x)) in

@@ -22,7 +22,7 @@ use Rattle.index.specs.Sound.{Sound}
 use Rattle.index.proofs.SoundLaws.{sound-length, sound-edition, sound-word, words-step, sound-trailer, sound-entry, sound-list, sound-ends, wordsEnd-next, listsEnd-next, word-length, singles-length, lower-length, upper-length}
 use Rattle.directory.proofs.HasLaws.{list-proper}
 use Rattle.build.specs.Lent.{lentBefore}
-use Rattle.layout.specs.Layout.{cellsBytes, cellSingles, lowersIn, uppersIn, keptBytes, cellsIn, listsBytes, wordsBytes, entryBytes, directoryBytes, trailerBytes, indexOf}
+use Rattle.layout.specs.Layout.{cellsBytes, cellSingles, cellLowers, cellUppers, keptBytes, cellsIn, listsBytes, wordsBytes, entryBytes, directoryBytes, trailerBytes, indexOf}
 use Rattle.layout.specs.Layout.{Below}
 use Rattle.build.specs.ReadsBack.{Indexable, listed, indexWords, recordsAt, listsIn}
 use Rattle.layout.proofs.BytesLaws.{below-take, below-drop, numbers-cells, cell-split}
@@ -105,7 +105,8 @@ module _ (index : List ℕ) (s : Sound index) (b : Below 256 index) where
       ∙ sym (proper-cells N (listOf index i) (list-proper index s i h))
 
   apart : (i : ℕ) → i < wordCount index →
-      (cellSingles (listOf index i) ≡ numbersIn (singlesOf index i)) × (lowersIn (listOf index i) ≡ numbersIn (lowerOf index i)) × (uppersIn (listOf index i) ≡ numbersIn (upperOf index i))
+      (cellSingles (listOf index i) ≡ numbersIn (singlesOf index i)) × (cellLowers (listOf index i) ≡ numbersIn (lowerOf index i))
+      × (cellUppers (listOf index i) ≡ numbersIn (upperOf index i))
   unfolding listOf
   apart i h = kept-apart N (numbersIn (singlesOf index i)) (numbersIn (lowerOf index i)) (numbersIn (upperOf index i)) (sound-list index s i h)
 
@@ -119,7 +120,7 @@ module _ (index : List ℕ) (s : Sound index) (b : Below 256 index) where
   single-count : (i : ℕ) → i < wordCount index → length (cellSingles (listOf index i)) ≡ singleCount index i
   single-count i h = ap length (apart i h .0) ∙ region-count (singlesOf index i) (singleCount index i) (singles-length index s i h)
 
-  pair-count : (i : ℕ) → i < wordCount index → length (lowersIn (listOf index i)) ≡ pairCount index i
+  pair-count : (i : ℕ) → i < wordCount index → length (cellLowers (listOf index i)) ≡ pairCount index i
   pair-count i h = ap length (apart i h .1) ∙ region-count (lowerOf index i) (pairCount index i) (lower-length index s i h)
 
   kept-size : (i : ℕ) → i < wordCount index → length (keptBytes (listOf index i)) ≡ listLength index i
@@ -149,13 +150,15 @@ module _ (index : List ℕ) (s : Sound index) (b : Below 256 index) where
       let z : l + a + c + c ≡ listsEnd index (i + 1) = omega (arith, e .list-start, listsEnd-next index i) in
       rw (list-cells i h, kept-bytes i h, ← z, ← e .list-start) (three-parts l a c c index)
 
-  lists-from : (i k : ℕ) → i + k ≡ wordCount index → drop (listsEnd index i) index ≡ listsBytes N (listed (recordsAt index) i k) ++ drop (listsEnd index (wordCount index)) index
+  lists-from : (i k : ℕ) → i + k ≡ wordCount index →
+      drop (listsEnd index i) index ≡ listsBytes N (listed (recordsAt index) i k) ++ drop (listsEnd index (wordCount index)) index
   unfolding listed listsBytes
   lists-from i zero e = let f : i ≡ wordCount index = omega arith in rw f
   lists-from i (suc k) e =
       list-step i (omega arith)
       ∙ ap (λ (r : List ℕ). keptBytes (cellsIn N (recordsAt index i)) ++ r) (lists-from (i + 1) k (omega arith))
-      ∙ sym (append-assoc (keptBytes (cellsIn N (recordsAt index i))) (listsBytes N (listed (recordsAt index) (i + 1) k)) (drop (listsEnd index (wordCount index)) index))
+      ∙ sym (append-assoc (keptBytes (cellsIn N (recordsAt index i))) (listsBytes N (listed (recordsAt index) (i + 1) k))
+      (drop (listsEnd index (wordCount index)) index))
 
   -- the word of entry i, and what stands behind it
   word-step : (i : ℕ) → i < wordCount index → drop (wordsEnd index i) index ≡ wordOf index i ++ drop (wordsEnd index (i + 1)) index
@@ -164,7 +167,8 @@ module _ (index : List ℕ) (s : Sound index) (b : Below 256 index) where
       let e = sound-entry index s i h in
       rw (wordsEnd-next index i, ← e .word-start) (part-rest (wordStart index i) (wordLength index i) index)
 
-  words-from : (i k : ℕ) → i + k ≡ wordCount index → drop (wordsEnd index i) index ≡ wordsBytes (listed (wordOf index) i k) ++ drop (wordsEnd index (wordCount index)) index
+  words-from : (i k : ℕ) → i + k ≡ wordCount index →
+      drop (wordsEnd index i) index ≡ wordsBytes (listed (wordOf index) i k) ++ drop (wordsEnd index (wordCount index)) index
   unfolding listed wordsBytes
   words-from i zero e = let f : i ≡ wordCount index = omega arith in rw f
   words-from i (suc k) e =
@@ -178,7 +182,8 @@ module _ (index : List ℕ) (s : Sound index) (b : Below 256 index) where
 
   -- entry i, and what stands behind it
   entry-step : (i : ℕ) → i < wordCount index →
-      drop (entryPlace index i) index ≡ entryBytes (wordsEnd index i) (wordOf index i) (listsEnd index i) (cellsIn N (recordsAt index i)) ++ drop (entryPlace index (i + 1)) index
+      drop (entryPlace index i) index
+      ≡ entryBytes (wordsEnd index i) (wordOf index i) (listsEnd index i) (cellsIn N (recordsAt index i)) ++ drop (entryPlace index (i + 1)) index
   unfolding wordStart wordLength listStart singleCount pairCount
   entry-step i h =
       let e = sound-entry index s i h in
@@ -193,7 +198,8 @@ module _ (index : List ℕ) (s : Sound index) (b : Below 256 index) where
 
   directory-from : (i k : ℕ) → i + k ≡ wordCount index →
       drop (entryPlace index i) index
-      ≡ directoryBytes N (wordsEnd index i) (listsEnd index i) (listed (wordOf index) i k) (listed (recordsAt index) i k) ++ drop (entryPlace index (wordCount index)) index
+      ≡ directoryBytes N (wordsEnd index i) (listsEnd index i) (listed (wordOf index) i k) (listed (recordsAt index) i k)
+      ++ drop (entryPlace index (wordCount index)) index
   unfolding listed directoryBytes
   directory-from i zero e = let f : i ≡ wordCount index = omega arith in rw f
   directory-from i (suc k) e =

@@ -20,6 +20,7 @@ use Rattle.build.proofs.WordsLaws.{next-word, last-word}
 use Rattle.build.proofs.CountLaws.{sum-next, sum-first-none}
 use Rattle.build.proofs.ListsLaws.{lists-next, lists-none}
 use Rattle.layout.proofs.WriteLaws.{indexPlan, index-entered}
+use Rattle.list.specs.Front.{inFront}
 
 -- ---- one word
 
@@ -73,7 +74,8 @@ module _ {words counts numbers : List ℕ} {room : ℕ} {at : Spots} {start firs
       nothing [] e = refl
       nothing (w ∷ ws) e = absurd (omega arith)
 
-  module _ {end last : ℕ} (e : end ≡ start + wordEnd (drop start words)) (g : end ≤ length words) (l : last ≡ first + getD counts i 0) (h : i < length counts) where
+  module _ {end last : ℕ} (e : end ≡ start + wordEnd (drop start words)) (g : end ≤ length words) (l : last ≡ first + getD counts i 0)
+      (h : i < length counts) where
     -- the word is ended, since a word is left
     pub word-ended : end < length words
     word-ended =
@@ -135,7 +137,7 @@ module _ (n : ℕ) (ws xss : List (List ℕ)) (as-many : length xss ≡ length w
   -- the three regions from their starts, and the trailer behind them
   pub index-written : (out : List ℕ) → length (indexOf n ws xss) ≤ length out →
       sets (indexPlan n out (record { list = 0; word = W; entry = D }) ws xss) (D + 20 * length ws) (trailerBytes W D (length ws) n)
-      ≡ indexOf n ws xss ++ drop (length (indexOf n ws xss)) out
+      ≡ inFront (indexOf n ws xss) out
   unfolding indexOf
   index-written out h =
       let A = listsBytes n xss in

@@ -18,7 +18,7 @@ use Rattle.refusal.specs.First.{first}
 use Rattle.refusal.proofs.FirstLaws.{first-none}
 use Rattle.list.specs.declared.Written.the-variants as written
 use Rattle.list.proofs.RecordLaws.{Ascends}
-use Rattle.convert.specs.Front.{inFront}
+use Rattle.list.specs.Front.{inFront}
 use Rattle.convert.proofs.NumberLaws.{good-ascends, ascends-good}
 use Rattle.index.specs.declared.Checked.{Checked}
 use Rattle.index.specs.declared.Checked.the-variants.{Good, Refused}
@@ -29,7 +29,7 @@ use Rattle.layout.specs.declared.entry.Spots.{Spots}
 use Rattle.build.specs.Lent.{lentWords, wordTotal, badLent, badCount, badRest, sumTo, listsFrom}
 use Rattle.layout.specs.Layout.{cellsBytes, listsBytes, wordsBytes}
 use Rattle.build.specs.Build.{badWords, badCounts, badNumbers, faultThen, lentOf, indexFrom, buildOf, Builds}
-use Rattle.build.specs.Passes.{wordsAnswer, countFault, Fair, Lists, GoodLent, allEntered, AllWithin}
+use Rattle.build.specs.Passes.{wordsAnswer, countFault, Fair, Lists, GoodLent, lentEntered, AllWithin}
 use Rattle.build.proofs.LentLaws.{LentWord, lent-word, LentCount, lent-count, lent-rest, lists-length, lists-at}
 use Rattle.build.proofs.CountLaws.{list-none, fair-count}
 use Rattle.build.proofs.WordsLaws.{words-bytes-length}
@@ -72,7 +72,8 @@ module _ (n : ℕ) (words counts numbers : List ℕ) where
       unfolding lentOf
       refused-count i f = rw (le-ltb recordMax n h, e, f)
 
-      pub refused-number : badCounts words counts numbers ≡ Nowhere → (i : ℕ) → badNumbers n words counts numbers ≡ At i → lentOf n words counts numbers ≡ Refused (Number i)
+      pub refused-number : badCounts words counts numbers ≡ Nowhere → (i : ℕ) → badNumbers n words counts numbers ≡ At i →
+          lentOf n words counts numbers ≡ Refused (Number i)
       unfolding lentOf
       refused-number f i g = rw (le-ltb recordMax n h, e, f, g)
 
@@ -197,8 +198,9 @@ module _ {n : ℕ} {words counts numbers : List ℕ} (is : GoodLent n words coun
         let m = is .as-many in
         record { lists = omega arith; words = omega arith; entries = omega arith; small = omega arith; as-many = good-many (each-good (is .good)) }
 
-    pub good-written : (out : List ℕ) {o p : List ℕ} → length index ≤ length out → o ≡ allEntered out firstSpots (lentWords words) (listsFrom counts numbers) →
-        p ≡ sets o (lists + (length words - length counts) + 20 * length counts) (cellsBytes (lists ∷ (lists + (length words - length counts)) ∷ length counts ∷ n ∷ 1 ∷ [])) →
+    pub good-written : (out : List ℕ) {o p : List ℕ} → length index ≤ length out → o ≡ lentEntered out firstSpots words counts numbers →
+        p ≡ sets o (lists + (length words - length counts) + 20 * length counts)
+        (cellsBytes (lists ∷ (lists + (length words - length counts)) ∷ length counts ∷ n ∷ 1 ∷ [])) →
         p ≡ inFront index out
     good-written out h eo ep =
         let each : EachGood n words counts numbers = each-good (is .good) in

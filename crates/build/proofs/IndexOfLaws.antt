@@ -22,7 +22,7 @@ use Rattle.index.specs.declared.Checked.the-variants.{Good}
 use Rattle.index.specs.Check.{checkOf}
 use Rattle.index.proofs.CheckLaws.{length-good, edition-good, sound-good}
 use Rattle.build.specs.Lent.{lentBefore}
-use Rattle.layout.specs.Layout.{cellsBytes, cellSingles, lowersIn, uppersIn, keptBytes, cellsIn, listsBytes, wordsBytes, directoryBytes, trailerBytes, indexOf}
+use Rattle.layout.specs.Layout.{cellsBytes, cellSingles, cellLowers, cellUppers, keptBytes, cellsIn, listsBytes, wordsBytes, directoryBytes, trailerBytes, indexOf}
 use Rattle.layout.specs.Layout.{Below}
 use Rattle.build.specs.ReadsBack.{Indexable}
 use Rattle.layout.proofs.BytesLaws.{cellLimit, below-append, cells-below, cells-length, cells-append, cells-numbers, cellAt-behind, part-between}
@@ -76,7 +76,11 @@ module _ (n : ℕ) (ws xss : List (List ℕ)) where
 
   end-length : length xss ≡ length ws → length endCells ≡ 5 * length ws + 5
   end-length e =
-      omega (arith, length-append (directoryCells n wordsFirst 0 ws xss) (trailerCells wordsFirst directoryFirst (length ws) n), directory-length n wordsFirst 0 ws xss e)
+      omega (
+        arith,
+        length-append (directoryCells n wordsFirst 0 ws xss) (trailerCells wordsFirst directoryFirst (length ws) n),
+        directory-length n wordsFirst 0 ws xss e,
+      )
 
   -- Reference 5.1, rule 3: the length
   pub index-length : length xss ≡ length ws → length (indexOf n ws xss) ≡ directoryFirst + 20 * length ws + 20
@@ -108,7 +112,8 @@ module _ {n : ℕ} {ws xss : List (List ℕ)} (is : Indexable n ws xss) where
   cell-at : (k at : ℕ) → k < 5 * length ws + 5 → at ≡ D + 4 * k → cellAt index at ≡ getD (endCells n ws xss) k 0
   cell-at k at h e =
       rw (index-cells n ws xss)
-      (cellAt-behind (listsBytes n xss ++ wordsBytes ws) (endCells n ws xss) k at end-below (omega (arith, end-length n ws xss (is .as-many))) (omega (arith, front-length n ws xss)))
+      (cellAt-behind (listsBytes n xss ++ wordsBytes ws) (endCells n ws xss) k at end-below (omega (arith, end-length n ws xss (is .as-many)))
+      (omega (arith, front-length n ws xss)))
 
   -- ---- the trailer
 
@@ -163,7 +168,7 @@ module _ {n : ℕ} {ws xss : List (List ℕ)} (is : Indexable n ws xss) where
   unfolding singleCount
   built-single-count i h = entry-cell i 3 (entryPlace index i + 12) h (omega arith) (omega arith)
 
-  pub built-pair-count : (i : ℕ) → i < length ws → pairCount index i ≡ length (lowersIn (cellsIn n (getD xss i [])))
+  pub built-pair-count : (i : ℕ) → i < length ws → pairCount index i ≡ length (cellLowers (cellsIn n (getD xss i [])))
   unfolding pairCount
   built-pair-count i h = entry-cell i 4 (entryPlace index i + 16) h (omega arith) (omega arith)
 
@@ -230,16 +235,16 @@ module _ {n : ℕ} {ws xss : List (List ℕ)} (is : Indexable n ws xss) where
   bytesS i = cellsBytes (cellSingles (listAt i))
 
   abbrev bytesL : ℕ → List ℕ
-  bytesL i = cellsBytes (lowersIn (listAt i))
+  bytesL i = cellsBytes (cellLowers (listAt i))
 
   abbrev bytesU : ℕ → List ℕ
-  bytesU i = cellsBytes (uppersIn (listAt i))
+  bytesU i = cellsBytes (cellUppers (listAt i))
 
   long-singles : (i : ℕ) → i < length ws → 4 * singleCount index i ≡ length (bytesS i)
   long-singles i h = omega (arith, cells-length (cellSingles (listAt i)), built-single-count i h)
 
   long-lowers : (i : ℕ) → i < length ws → 4 * pairCount index i ≡ length (bytesL i)
-  long-lowers i h = omega (arith, cells-length (lowersIn (listAt i)), built-pair-count i h)
+  long-lowers i h = omega (arith, cells-length (cellLowers (listAt i)), built-pair-count i h)
 
   pub built-singles : (i : ℕ) → i < length ws → singlesOf index i ≡ cellsBytes (cellSingles (listAt i))
   unfolding singlesOf keptBytes
@@ -247,31 +252,31 @@ module _ {n : ℕ} {ws xss : List (List ℕ)} (is : Indexable n ws xss) where
       region i h (listStart index i) (4 * singleCount index i) [] (bytesS i) (bytesL i ++ bytesU i) (append-assoc (bytesS i) (bytesL i) (bytesU i))
       (omega arith) (long-singles i h)
 
-  pub built-lowers : (i : ℕ) → i < length ws → lowerOf index i ≡ cellsBytes (lowersIn (listAt i))
+  pub built-lowers : (i : ℕ) → i < length ws → lowerOf index i ≡ cellsBytes (cellLowers (listAt i))
   unfolding lowerOf keptBytes
   built-lowers i h =
       region i h (listStart index i + 4 * singleCount index i) (4 * pairCount index i) (bytesS i) (bytesL i) (bytesU i)
       (append-assoc (bytesS i) (bytesL i) (bytesU i)) (omega (arith, long-singles i h)) (long-lowers i h)
 
-  pub built-uppers : (i : ℕ) → i < length ws → upperOf index i ≡ cellsBytes (uppersIn (listAt i))
+  pub built-uppers : (i : ℕ) → i < length ws → upperOf index i ≡ cellsBytes (cellUppers (listAt i))
   unfolding upperOf keptBytes
   built-uppers i h =
       region i h (listStart index i + 4 * singleCount index i + 4 * pairCount index i) (4 * pairCount index i) (bytesS i ++ bytesL i) (bytesU i) []
       (ap (λ (r : List ℕ). bytesS i ++ bytesL i ++ r) (sym (append-nil (bytesU i))))
       (omega (arith, length-append (bytesS i) (bytesL i), long-singles i h, long-lowers i h))
-      (omega (arith, built-pair-count i h, uppers-length (listAt i), cells-length (uppersIn (listAt i))))
+      (omega (arith, built-pair-count i h, uppers-length (listAt i), cells-length (cellUppers (listAt i))))
 
-  below : (i : ℕ) → Below cellLimit (cellSingles (listAt i)) × Below cellLimit (lowersIn (listAt i)) × Below cellLimit (uppersIn (listAt i))
+  below : (i : ℕ) → Below cellLimit (cellSingles (listAt i)) × Below cellLimit (cellLowers (listAt i)) × Below cellLimit (cellUppers (listAt i))
   below i = parts-below n cellLimit (omega (arith, is .limit)) 1 (listAt i) (cells-proper-from (among (getD xss i [])) n n (omega arith))
 
   built-single-numbers : (i : ℕ) → i < length ws → numbersIn (singlesOf index i) ≡ cellSingles (listAt i)
   built-single-numbers i h = ap numbersIn (built-singles i h) ∙ cells-numbers (cellSingles (listAt i)) (below i .0)
 
-  built-lower-numbers : (i : ℕ) → i < length ws → numbersIn (lowerOf index i) ≡ lowersIn (listAt i)
-  built-lower-numbers i h = ap numbersIn (built-lowers i h) ∙ cells-numbers (lowersIn (listAt i)) (below i .1)
+  built-lower-numbers : (i : ℕ) → i < length ws → numbersIn (lowerOf index i) ≡ cellLowers (listAt i)
+  built-lower-numbers i h = ap numbersIn (built-lowers i h) ∙ cells-numbers (cellLowers (listAt i)) (below i .1)
 
-  built-upper-numbers : (i : ℕ) → i < length ws → numbersIn (upperOf index i) ≡ uppersIn (listAt i)
-  built-upper-numbers i h = ap numbersIn (built-uppers i h) ∙ cells-numbers (uppersIn (listAt i)) (below i .2)
+  built-upper-numbers : (i : ℕ) → i < length ws → numbersIn (upperOf index i) ≡ cellUppers (listAt i)
+  built-upper-numbers i h = ap numbersIn (built-uppers i h) ∙ cells-numbers (cellUppers (listAt i)) (below i .2)
 
   pub built-list : (i : ℕ) → i < length ws → listOf index i ≡ cellsIn n (getD xss i [])
   unfolding listOf
@@ -279,9 +284,13 @@ module _ {n : ℕ} {ws xss : List (List ℕ)} (is : Indexable n ws xss) where
 
   -- ---- it is sound
 
-  list-some : (i : ℕ) → i < length ws → 1 ≤ length (cellSingles (listAt i)) + length (lowersIn (listAt i))
+  list-some : (i : ℕ) → i < length ws → 1 ≤ length (cellSingles (listAt i)) + length (cellLowers (listAt i))
   list-some i h =
-      omega (arith, cells-count n 1 (listAt i) (cells-proper-from (among (getD xss i [])) n n (omega arith)), cells-some n (getD xss i []) (indexable-ascends is i h) (is .some i h))
+      omega (
+        arith,
+        cells-count n 1 (listAt i) (cells-proper-from (among (getD xss i [])) n n (omega arith)),
+        cells-some n (getD xss i []) (indexable-ascends is i h) (is .some i h),
+      )
 
   good-trailer : badTrailer index ≡ false
   unfolding badTrailer
@@ -291,7 +300,12 @@ module _ {n : ℕ} {ws xss : List (List ℕ)} (is : Indexable n ws xss) where
       let w = built-words-start in
       rw (built-highest, e, d, w)
       (
-      rw (le-ltb recordMax n (is .limit), le-ltb wordsMax (length ws) (is .few), le-ltb D W (omega arith), eq-eqb (D + 20 * length ws + 20) (length index) (sym long))
+      rw (
+        le-ltb recordMax n (is .limit),
+        le-ltb wordsMax (length ws) (is .few),
+        le-ltb D W (omega arith),
+        eq-eqb (D + 20 * length ws + 20) (length index) (sym long),
+      )
       )
 
   good-directory : (i : ℕ) → i < length ws → badDirectory index i ≡ false
@@ -305,7 +319,8 @@ module _ {n : ℕ} {ws xss : List (List ℕ)} (is : Indexable n ws xss) where
       rw (
         eq-eqb (wordStart index i) (wordsEnd index i) (built-word-start i h ∙ sym a),
         eq-eqb (listStart index i) (listsEnd index i) (built-list-start i h ∙ sym b),
-        ne-eqb (singleCount index i + pairCount index i) 0 (λ (e : singleCount index i + pairCount index i ≡ 0). omega (arith, built-single-count i h, built-pair-count i h)),
+        ne-eqb (singleCount index i + pairCount index i) 0
+            (λ (e : singleCount index i + pairCount index i ≡ 0). omega (arith, built-single-count i h, built-pair-count i h)),
         le-ltb (directoryStart index) (wordsEnd index (i + 1)) (omega (arith, built-directory-start, words-to-bound ws (i + 1))),
         le-ltb (wordsStart index) (listsEnd index (i + 1)) (omega (arith, built-words-start, lists-to-bound n xss (i + 1))),
       )

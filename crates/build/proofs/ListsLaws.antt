@@ -27,7 +27,8 @@ lists-next counts numbers i start {end} h e =
     let f : end - start ≡ getD counts i 0 = omega arith in
     rw (drop-next counts i h, f, drop-drop (getD counts i 0) start numbers, ← e)
 
-module _ {counts numbers : List ℕ} (is : Lists counts numbers) (i : ℕ) {start end : ℕ} (h : i < length counts) (s : start ≡ sumTo counts i) (e : end ≡ start + getD counts i 0) where
+module _ {counts numbers : List ℕ} (is : Lists counts numbers) (i : ℕ) {start end : ℕ} (h : i < length counts) (s : start ≡ sumTo counts i)
+    (e : end ≡ start + getD counts i 0) where
   pub list-good : badNumberOf (take (end - start) (drop start numbers)) ≡ Nowhere
   list-good = rw (list-part counts numbers i start end s e) (is .good i h)
 
@@ -41,7 +42,8 @@ pub lists-none : (counts numbers : List ℕ) (i : ℕ) → length counts ≤ i �
 unfolding listsFrom
 lists-none counts numbers i h = rw (drop-none counts i h)
 
-pub lists-bytes-next : (n : ℕ) (xs : List ℕ) (xss : List (List ℕ)) → length (listsBytes n (xs ∷ xss)) ≡ length (keptBytes (cellsIn n xs)) + length (listsBytes n xss)
+pub lists-bytes-next : (n : ℕ) (xs : List ℕ) (xss : List (List ℕ)) →
+    length (listsBytes n (xs ∷ xss)) ≡ length (keptBytes (cellsIn n xs)) + length (listsBytes n xss)
 unfolding listsBytes
 lists-bytes-next n xs xss = length-append (keptBytes (cellsIn n xs)) (listsBytes n xss)
 
@@ -64,7 +66,8 @@ module _ (n : ℕ) (h : n ≤ recordMax) where
   lists-limit [] f = refl
   lists-limit (xs ∷ xss) f = rw (cells-limit xs (f 0 (omega arith)), lists-limit xss (λ i g. f (suc i) (omega arith)))
 
-  pub directory-limit : (a b : ℕ) (ws xss : List (List ℕ)) → ((i : ℕ) → i < length xss → Ascends n 0 (getD xss i [])) → directoryBytes n a b ws xss ≡ directoryBytes recordMax a b ws xss
+  pub directory-limit : (a b : ℕ) (ws xss : List (List ℕ)) → ((i : ℕ) → i < length xss → Ascends n 0 (getD xss i [])) →
+      directoryBytes n a b ws xss ≡ directoryBytes recordMax a b ws xss
   unfolding directoryBytes
   directory-limit a b [] xss f = refl
   directory-limit a b (w ∷ ws) [] f = refl

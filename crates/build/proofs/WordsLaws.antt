@@ -44,7 +44,8 @@ Ended acc ws rest bs k = (ws ≡ (acc ++ take k bs) ∷ wordsFrom [] (drop (k + 
 
 ended-step : (acc : List ℕ) (b : ℕ) (bs : List ℕ) (t : Bool) → cond t 0 (suc (wordEnd bs)) < suc (length bs) →
     ((acc : List ℕ) → wordEnd bs < length bs → Ended acc (wordsFrom acc bs) (restFrom acc bs) bs (wordEnd bs)) →
-    Ended acc (cond t (acc ∷ wordsFrom [] bs) (wordsFrom (acc ++ b ∷ []) bs)) (cond t (restFrom [] bs) (restFrom (acc ++ b ∷ []) bs)) (b ∷ bs) (cond t 0 (suc (wordEnd bs)))
+    Ended acc (cond t (acc ∷ wordsFrom [] bs) (wordsFrom (acc ++ b ∷ []) bs)) (cond t (restFrom [] bs) (restFrom (acc ++ b ∷ []) bs)) (b ∷ bs)
+    (cond t 0 (suc (wordEnd bs)))
 ended-step acc b bs true h ih = (rw (append-nil acc), refl)
 ended-step acc b bs false h ih =
     let e : suc (wordEnd bs) + 1 ≡ suc (wordEnd bs + 1) = omega arith in
@@ -88,7 +89,8 @@ module _ (bytes : List ℕ) {start end : ℕ} (is : end ≡ start + wordEnd (dro
 bytes-step : (acc : List ℕ) (b : ℕ) (bs : List ℕ) (t : Bool) →
     ((acc : List ℕ) → length acc + length bs ≡ length (wordsBytes (wordsFrom acc bs)) + length (wordsFrom acc bs) + length (restFrom acc bs)) →
     length acc + suc (length bs)
-    ≡ length (wordsBytes (cond t (acc ∷ wordsFrom [] bs) (wordsFrom (acc ++ b ∷ []) bs))) + length (cond t (acc ∷ wordsFrom [] bs) (wordsFrom (acc ++ b ∷ []) bs))
+    ≡ length (wordsBytes (cond t (acc ∷ wordsFrom [] bs) (wordsFrom (acc ++ b ∷ []) bs)))
+    + length (cond t (acc ∷ wordsFrom [] bs) (wordsFrom (acc ++ b ∷ []) bs))
     + length (cond t (restFrom [] bs) (restFrom (acc ++ b ∷ []) bs))
 unfolding wordsBytes
 bytes-step acc b bs true ih = omega (arith, ih [], length-append acc (wordsBytes (wordsFrom [] bs)))
@@ -181,7 +183,8 @@ module _ {bytes : List ℕ} {prior priorEnd start count : ℕ} (at : Passing byt
         let o = any-one (restOf bytes) (rw (← (sym (w .1) ∙ at .rest)) (omega (arith, length-drop start bytes))) in
         first-is (badLent ws) count (wordTotal bytes) (record { below = omega arith; holds = bad (leb wordsMax count) n; before = at .good })
       where
-        bad : (t : Bool) → length ws ≤ count → t || leb (length ws) count || not (isWord (getD ws count [])) || not (before (lentBefore ws count) (getD ws count [])) ≡ true
+        bad : (t : Bool) → length ws ≤ count →
+            t || leb (length ws) count || not (isWord (getD ws count [])) || not (before (lentBefore ws count) (getD ws count [])) ≡ true
         bad true n = refl
         bad false n = rw (le-leb (length ws) count n)
 
@@ -199,7 +202,8 @@ module _ {bytes : List ℕ} {prior priorEnd start count : ℕ} (at : Passing byt
 
       pub pass-bad : (isWord word && before (take (priorEnd - prior) (drop prior bytes)) word) ≡ false → first (badLent ws) (wordTotal bytes) ≡ At count
       unfolding badLent
-      pass-bad e = at-bad (rw (here .is, ← at .last) (bad (leb wordsMax count) (leb (length ws) count) (isWord word) (before (take (priorEnd - prior) (drop prior bytes)) word) e))
+      pass-bad e = at-bad (rw (here .is, ← at .last)
+          (bad (leb wordsMax count) (leb (length ws) count) (isWord word) (before (take (priorEnd - prior) (drop prior bytes)) word) e))
         where
           bad : (a b c d : Bool) → c && d ≡ false → a || b || not c || not d ≡ true
           bad true b c d e = refl
@@ -208,7 +212,8 @@ module _ {bytes : List ℕ} {prior priorEnd start count : ℕ} (at : Passing byt
           bad false false true false e = refl
           bad false false false d e = refl
 
-      pub pass-next : (count ≡ wordsMax → ⊥) → (isWord word && before (take (priorEnd - prior) (drop prior bytes)) word) ≡ true → Passing bytes start end (end + 1) (count + 1)
+      pub pass-next : (count ≡ wordsMax → ⊥) → (isWord word && before (take (priorEnd - prior) (drop prior bytes)) word) ≡ true →
+          Passing bytes start end (end + 1) (count + 1)
       unfolding badLent
       pass-next f e =
           let b = and-both (isWord word) (before (take (priorEnd - prior) (drop prior bytes)) word) e in

@@ -26,7 +26,8 @@ badWords words = first (badLent (lentWords words)) (wordTotal words)
 -- Reference 9.1, row 18: the first bad count, or the word count
 abbrev pub badCounts : List ℕ → List ℕ → List ℕ → Found
 badCounts words counts numbers =
-    badPlace (first (badCount counts (length numbers)) (length (lentWords words))) (badRest counts (length numbers) (length (lentWords words))) (length (lentWords words))
+    badPlace (first (badCount counts (length numbers)) (length (lentWords words))) (badRest counts (length numbers) (length (lentWords words)))
+    (length (lentWords words))
 
 -- Reference 9.1, row 15: the first bad number among all
 abbrev pub badNumbers : ℕ → List ℕ → List ℕ → List ℕ → Found

@@ -64,6 +64,10 @@ abbrev pub allEntered : List ℕ → Spots → List (List ℕ) → List (List �
 allEntered out at ws xss =
     sets (sets (sets out (at .list) (listsBytes recordMax xss)) (at .word) (wordsBytes ws)) (at .entry) (directoryBytes recordMax (at .word) (at .list) ws xss)
 
+-- the same of what is lent
+abbrev pub lentEntered : List ℕ → Spots → List ℕ → List ℕ → List ℕ → List ℕ
+lentEntered out at words counts numbers = allEntered out at (lentWords words) (listsFrom counts numbers)
+
 pub record AllWithin (at : Spots) (ws xss : List (List ℕ)) (room : ℕ) : Type 0 where
   pub lists : at .list + length (listsBytes recordMax xss) ≤ at .word
   pub words : at .word + length (wordsBytes ws) ≤ at .entry

@@ -3,11 +3,11 @@ ghost use mathlib.Core.Path.{_≡_};
 ghost use Prim.Native.Nat.{_≤_};
 ghost use lib.ListN.{length};
 ghost use Rattle.limits.specs.Limits.{indexMax, recordMax};
-ghost use Rattle.convert.specs.Front.{inFront};
+ghost use Rattle.list.specs.Front.{inFront};
 ghost use Rattle.build.specs.Lent.{lentWords, listsFrom};
 ghost use Rattle.layout.specs.Layout.{listsBytes};
 ghost use Rattle.build.specs.Build.{indexFrom};
-ghost use Rattle.build.specs.Passes.{GoodLent, Lists, allEntered, AllWithin};
+ghost use Rattle.build.specs.Passes.{GoodLent, Lists, lentEntered, AllWithin};
 use crate::words::word_end;
 use layout::cells::put_five;
 use layout::entry::Spots;
@@ -18,7 +18,7 @@ fn write_words(out: &mut [u8], from: Spots, words: &[u8], counts: &[u32], number
     requires lists { ⌜ Lists (now counts) (now numbers) ⌝ }
     requires as_many { ⌜ length (lentWords (now words)) ≡ length (now counts) ⌝ }
     requires within { ⌜ AllWithin from (lentWords (now words)) (listsFrom (now counts) (now numbers)) (length (now out)) ⌝ }
-    ensures { λ _. ⌜ now (out .exit) ≡ allEntered (now (out .entry)) from (lentWords (now (words .entry))) (listsFrom (now (counts .entry)) (now (numbers .entry))) ⌝ }
+    ensures { λ _. ⌜ now (out .exit) ≡ lentEntered (now (out .entry)) from (now (words .entry)) (now (counts .entry)) (now (numbers .entry)) ⌝ }
 {
     let mut at = from;
     let mut start = 0;

@@ -3,8 +3,9 @@ use Prim.Native.Nat.{ℕ, zero, suc, _+_, _-_, _≤_, _<_}
 use native.Mathlib.Omega.{arith}
 use native.Mathlib.Numerals.{add-one}
 use mathlib.Core.Path.{_≡_, refl, sym, ap, _∙_, subst}
+use mathlib.Core.Bool.{true, _&&_}
 use mathlib.Core.List.{List, [], _∷_}
-use lib.Dec.{eqb}
+use lib.Dec.{eqb, leb}
 use lib.ListN.{length, getD, drop, drop-of-length-le, length-append, List·getD-eq-default}
 use borrow.Author.Tests.{lt-ltb, le-ltb, eqb-false}
 use Rattle.laws.proofs.Tests.{by-test, leb-cases}
@@ -14,9 +15,9 @@ use Rattle.question.specs.Grammar.{Tree, word, pair, part, Link, link, good, bi
 use Rattle.question.proofs.LevelLaws.{bad-good, bind-first, question-level}
 use Rattle.question.proofs.TreeWords.{Words, operand-words}
 use Rattle.question.proofs.RuleLaws.{from-left-keeps, from-left-link, from-left-none}
-use Rattle.codes.specs.Code.{wordCode, openCode, closeCode, noCode, opCode, opOf, codeOf, codesOf}
+use Rattle.codes.specs.Code.{wordCode, openCode, closeCode, andCode, notCode, noCode, opCode, opOf, codeOf, codesOf}
 use Rattle.codes.specs.Reads.{Reads}
-use Rattle.codes.proofs.CodeLaws.{op-back, op-range}
+use Rattle.codes.proofs.CodeLaws.{op-back, op-range, operator-code}
 
 -- ---- the token at a place
 
@@ -52,6 +53,18 @@ stands-end toks codes i e h =
 -- a code below the one that is read behind the last stands there
 pub code-within : (codes : List ℕ) (i : ℕ) → getD codes i noCode < noCode → i < length codes
 code-within codes i h = leb-cases (length codes) i (λ g. absurd (let e = List·getD-eq-default codes noCode g in omega arith)) (λ g. g)
+
+-- the code at place i is v
+abbrev pub Here : List ℕ → ℕ → ℕ → Type 0
+Here codes i v = (getD codes i noCode ≡ v) × (i < length codes)
+
+-- c was read there, and is v
+pub code-here : (codes : List ℕ) (i : ℕ) {c v : ℕ} → c ≡ getD codes i noCode → c ≡ v → v < noCode → Here codes i v
+code-here codes i e f h = (sym e ∙ f, code-within codes i (omega arith))
+
+-- c was read there, and is an operator's
+pub operator-here : (codes : List ℕ) (i : ℕ) {c : ℕ} → c ≡ getD codes i noCode → leb andCode c && leb c notCode ≡ true → Here codes i (opCode (opOf c))
+operator-here codes i {c} e f = code-here codes i e (operator-code c f) (let r = op-range (opOf c) in omega arith)
 
 -- ---- the token of a code
 
@@ -230,7 +243,8 @@ Level codes d k₀ i₀ i k Q =
 operand-count : (f d k : ℕ) (ts : List Tok) (t : Tree) (z : List Tok) (j : ℕ) → operand fromLeft f d k ts ≡ good t z j → j ≡ k + length (treeWords t)
 operand-count f d k ts t z j e = subst (Words treeWords k ts) e (operand-words fromLeft from-left-keeps f d k ts) .1
 
-pub level-start : (codes : List ℕ) (d k₀ i₀ i k : ℕ) (Q : Tree → Type 0) → ((f : ℕ) → Reads (operand fromLeft f d k₀) codes i₀ i k Q) → Level codes d k₀ i₀ i k Q
+pub level-start : (codes : List ℕ) (d k₀ i₀ i k : ℕ) (Q : Tree → Type 0) → ((f : ℕ) → Reads (operand fromLeft f d k₀) codes i₀ i k Q) →
+    Level codes d k₀ i₀ i k Q
 level-start codes d k₀ i₀ i k Q h f toks t rest j e r =
     let l = question-level fromLeft f d k₀ (drop i₀ toks) t rest j r in
     let v = h (l .fuel) toks (l .operand-tree) (l .rest) (l .count) e (l .reads-operand) in (
@@ -257,10 +271,12 @@ record Linked (d k : ℕ) (o : Op) (r : List Tok) (ls : List Link) (z : List Tok
   reads-links : links fromLeft fuel d count rest ≡ good others z j
   is : ls ≡ link o tree ∷ others
 
-put-inverse : (o : Op) (t : Tree) (ls ms : List Link) (r z : List Tok) (i j : ℕ) → good (link o t ∷ ls) r i ≡ good ms z j → (ms ≡ link o t ∷ ls) × (r ≡ z) × (i ≡ j)
+put-inverse : (o : Op) (t : Tree) (ls ms : List Link) (r z : List Tok) (i j : ℕ) → good (link o t ∷ ls) r i ≡ good ms z j →
+    (ms ≡ link o t ∷ ls) × (r ≡ z) × (i ≡ j)
 put-inverse o t ls ms r z i j e = ((cc), (cc), (cc))
 
-links-operator : (f d k : ℕ) (o : Op) (p : ℕ) (r : List Tok) (ls : List Link) (z : List Tok) (j : ℕ) → links fromLeft f d k (opT o p ∷ r) ≡ good ls z j → Linked d k o r ls z j
+links-operator : (f d k : ℕ) (o : Op) (p : ℕ) (r : List Tok) (ls : List Link) (z : List Tok) (j : ℕ) → links fromLeft f d k (opT o p ∷ r) ≡ good ls z j →
+    Linked d k o r ls z j
 unfolding links
 links-operator zero d k o p r ls z j e = bad-good 0 (opT o p ∷ r) ls z j e
 links-operator (suc f) d k o p r ls z j e =
@@ -302,7 +318,8 @@ level-step codes d k₀ i₀ i k i′ k′ Q R S o c l g q f toks t rest j e r =
         left = n .others;
         reads-left = rw (v .0, v .1) (n .reads-links);
         groups = y .groups ∙ ap (fromLeft (y .sofar)) (n .is) ∙ from-left-link (y .sofar) o (n .tree) (n .others);
-        count = pair-count k₀ k k′ o (y .sofar) (n .tree) (y .count) (v .1 ∙ operand-count (n .fuel) d k (drop (i + 1) toks) (n .tree) (n .rest) (n .count) (n .reads-operand));
+        count = pair-count k₀ k k′ o (y .sofar) (n .tree) (y .count)
+            (v .1 ∙ operand-count (n .fuel) d k (drop (i + 1) toks) (n .tree) (n .rest) (n .count) (n .reads-operand));
         holds = q (y .sofar) (n .tree) (y .count) (y .holds) (v .4);
       },
     )
@@ -313,7 +330,8 @@ level-ends : (toks : List Tok) (d k₀ i k : ℕ) (Q : Tree → Type 0) (t : Tre
 unfolding links
 level-ends toks d k₀ i k Q t rest j h y = go (y .fuel) (y .left) (y .reads-left) (y .groups)
   where
-    go : (f : ℕ) (left : List Link) → links fromLeft f d k (drop i toks) ≡ good left rest j → t ≡ fromLeft (y .sofar) left → (drop i toks ≡ rest) × (k ≡ j) × Q t
+    go : (f : ℕ) (left : List Link) → links fromLeft f d k (drop i toks) ≡ good left rest j → t ≡ fromLeft (y .sofar) left →
+        (drop i toks ≡ rest) × (k ≡ j) × Q t
     go zero left e g = bad-good 0 (drop i toks) left rest j e
     go (suc f) left e g =
         let w : good [] (drop i toks) k ≡ good left rest j = sym (h f) ∙ e in

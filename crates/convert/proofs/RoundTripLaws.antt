@@ -3,7 +3,7 @@ use mathlib.Core.Path.{_≡_, refl, sym, ap, _∙_}
 use Prim.Native.Nat.{ℕ, _+_, _*_, _/_, _≤_}
 use native.Mathlib.Omega.{arith}
 use mathlib.Core.Bool.{Bool, true, false, cond}
-use mathlib.Core.List.{List, _++_}
+use mathlib.Core.List.{List}
 use lib.Dec.{leb}
 use lib.ListN.{length, take, drop}
 use lib.Seq.{take-append-seam}
@@ -20,6 +20,7 @@ use Rattle.list.specs.Among.{among}
 use Rattle.convert.specs.Convert.{badNumberOf, badIntervalOf, intervalsOf, numbersOf, answerOf, ToIntervals, ToNumbers}
 use Rattle.list.proofs.StretchLaws.{cells-proper, cells-names, cells-even, is-cells}
 use Rattle.list.proofs.RecordLaws.{records-ascend, records-among, is-records, proper-count}
+use Rattle.list.specs.Front.{inFront}
 use Rattle.convert.proofs.NumberLaws.{good-ascends, ascends-good}
 use Rattle.convert.proofs.IntervalLaws.{good-proper, proper-good}
 
@@ -59,24 +60,25 @@ pub intervals-written : (xs out out′ : List ℕ) (n : ℕ) → ToIntervals xs 
 intervals-written xs out out′ n p =
     let w = answer-accepted Number (badNumberOf xs) (intervals (intervalsOf xs)) (length out / 2) n (sym (p .answer)) in
     let k : 2 * n ≡ length (intervalsOf xs) = ap (λ (m : ℕ). 2 * m) (w .wrote) ∙ cells-even (among xs) recordMax in
-    let e : out′ ≡ intervalsOf xs ++ drop (length (intervalsOf xs)) out = p .cells ∙ rw (w .good, w .fits) in
+    let e : out′ ≡ inFront (intervalsOf xs) out = p .cells ∙ rw (w .good, w .fits) in
     rw (e, k) (take-append-seam (intervalsOf xs) (drop (length (intervalsOf xs)) out))
 
 pub numbers-written : (c out out′ : List ℕ) (n : ℕ) → ToNumbers c out out′ (Wrote n) → take n out′ ≡ numbersOf c
 numbers-written c out out′ n p =
     let w = answer-accepted Interval (badIntervalOf c) (records c) (length out) n (sym (p .answer)) in
     let k : n ≡ length (numbersOf c) = w .wrote ∙ proper-count recordMax c (good-proper c (w .good)) in
-    let e : out′ ≡ numbersOf c ++ drop (length (numbersOf c)) out = p .cells ∙ rw (w .good, w .fits) in
+    let e : out′ ≡ inFront (numbersOf c) out = p .cells ∙ rw (w .good, w .fits) in
     rw (e, k) (take-append-seam (numbersOf c) (drop (length (numbersOf c)) out))
 
 -- numbers to intervals, and the cells written to numbers, with room for as many: the numbers lent
 pub to-numbers-back : (xs out out′ room room′ : List ℕ) (n : ℕ) (s : Written) →
     ToIntervals xs out out′ (Wrote n) → ToNumbers (take (2 * n) out′) room room′ s → length xs ≤ length room →
-    (s ≡ Wrote (length xs)) × (room′ ≡ xs ++ drop (length xs) room)
+    (s ≡ Wrote (length xs)) × (room′ ≡ inFront xs room)
 to-numbers-back xs out out′ room room′ n s p q h =
     let w = answer-accepted Number (badNumberOf xs) (intervals (intervalsOf xs)) (length out / 2) n (sym (p .answer)) in
     let e = numbers-back xs (w .good) in
-    let k : records (intervalsOf xs) ≡ length xs = proper-count recordMax (intervalsOf xs) (cells-proper (among xs) recordMax recordMax (omega arith)) ∙ ap length e in
+    let k : records (intervalsOf xs) ≡ length xs =
+    proper-count recordMax (intervalsOf xs) (cells-proper (among xs) recordMax recordMax (omega arith)) ∙ ap length e in
     let f : leb (length xs) (length room) ≡ true = le-leb (length xs) (length room) h in
     let v : ToNumbers (intervalsOf xs) room room′ s = rw (← intervals-written xs out out′ n p) q in
     (v .answer ∙ rw (intervals-good xs, k, f), v .cells ∙ rw (intervals-good xs, k, f, e))
@@ -84,7 +86,7 @@ to-numbers-back xs out out′ room room′ n s p q h =
 -- intervals to numbers, and the numbers written to intervals, with room for as many: the cells lent
 pub to-intervals-back : (c out out′ room room′ : List ℕ) (n : ℕ) (s : Written) →
     ToNumbers c out out′ (Wrote n) → ToIntervals (take n out′) room room′ s → length c ≤ length room →
-    (s ≡ Wrote (intervals c)) × (room′ ≡ c ++ drop (length c) room)
+    (s ≡ Wrote (intervals c)) × (room′ ≡ inFront c room)
 to-intervals-back c out out′ room room′ n s p q h =
     let w = answer-accepted Interval (badIntervalOf c) (records c) (length out) n (sym (p .answer)) in
     let e = intervals-back c (w .good) in

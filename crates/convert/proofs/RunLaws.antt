@@ -48,7 +48,8 @@ breaks u (x ∷ xs) = cond (eqb x (u + 1)) 0 1 + breaks x xs
 
 -- ---- one number of a slice
 
-pub breaks-at : (u : ℕ) (xs : List ℕ) (i : ℕ) → i < length xs → breaks u (drop i xs) ≡ cond (eqb (getD xs i 0) (u + 1)) 0 1 + breaks (getD xs i 0) (drop (i + 1) xs)
+pub breaks-at : (u : ℕ) (xs : List ℕ) (i : ℕ) → i < length xs →
+    breaks u (drop i xs) ≡ cond (eqb (getD xs i 0) (u + 1)) 0 1 + breaks (getD xs i 0) (drop (i + 1) xs)
 unfolding breaks
 breaks-at u xs i h = rw (drop-next xs i h)
 
@@ -57,7 +58,8 @@ unfolding breaks
 breaks-end u xs i h = rw (drop-none xs i h)
 
 runsFrom-at : (l u : ℕ) (xs : List ℕ) (i : ℕ) → i < length xs →
-    runsFrom l u (drop i xs) ≡ closed (eqb (getD xs i 0) (u + 1)) l u (runsFrom (startOf (eqb (getD xs i 0) (u + 1)) l (getD xs i 0)) (getD xs i 0) (drop (i + 1) xs))
+    runsFrom l u (drop i xs) ≡ closed (eqb (getD xs i 0) (u + 1)) l u
+    (runsFrom (startOf (eqb (getD xs i 0) (u + 1)) l (getD xs i 0)) (getD xs i 0) (drop (i + 1) xs))
 unfolding runsFrom
 runsFrom-at l u xs i h = rw (drop-next xs i h)
 

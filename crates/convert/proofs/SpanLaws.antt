@@ -132,7 +132,8 @@ spans-from : (p : ℕ → Bool) (n x m k : ℕ) (c : List ℕ) → ProperFrom n 
 unfolding recordsFrom spans names
 spans-from p n x zero k [] a h e f = refl
 spans-from p n x zero k (l ∷ u ∷ r) a h e f = absurd (omega arith)
-spans-from p n x (suc m) k [] a h e f = spans-none p x m (f x (omega arith)) (spans-from p n (x + 1) m (x + 1) [] tt (omega arith) (omega arith) (λ y i. f y (omega arith)))
+spans-from p n x (suc m) k [] a h e f = spans-none p x m (f x (omega arith))
+    (spans-from p n (x + 1) m (x + 1) [] tt (omega arith) (omega arith) (λ y i. f y (omega arith)))
 spans-from p n x (suc m) k (l ∷ u ∷ r) a h e f =
     spans-step p n x m k l u r a h f (λ k c b i g. spans-from p n (x + 1) m k c b i (omega arith) g) (decLe l x) (decLe u x)
 

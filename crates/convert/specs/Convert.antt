@@ -2,9 +2,9 @@
 use Prim.Native.Nat.{ℕ, zero, suc, _+_, _*_, _/_}
 use mathlib.Core.Path.{_≡_}
 use mathlib.Core.Bool.{Bool, cond, _||_}
-use mathlib.Core.List.{List, _++_}
+use mathlib.Core.List.{List}
 use lib.Dec.{leb, ltb}
-use lib.ListN.{length, getD, drop}
+use lib.ListN.{length, getD}
 use Rattle.limits.specs.Limits.{recordMax}
 use Rattle.refusal.specs.declared.Found.{Found}
 use Rattle.refusal.specs.declared.Found.the-variants.{At, Nowhere}
@@ -14,6 +14,7 @@ use Rattle.refusal.specs.First.{first}
 use Rattle.list.specs.declared.Written.{Written}
 use Rattle.list.specs.declared.Written.the-variants.{Wrote, Refused}
 use Rattle.list.specs.Interval.{names, intervals, records}
+use Rattle.list.specs.Front.{inFront}
 use Rattle.list.specs.Among.{among}
 use Rattle.list.specs.Stretches.{cellsOf, recordsOf}
 
@@ -47,7 +48,7 @@ answerOf refusal Nowhere needed room = cond (leb needed room) (Wrote needed) (Re
 -- Reference 7: what is written stands in front, and the rest stays; a refusal leaves all as it was
 abbrev pub leftOf : Found → ℕ → ℕ → List ℕ → List ℕ → List ℕ
 leftOf (At i) needed room written out = out
-leftOf Nowhere needed room written out = cond (leb needed room) (written ++ drop (length written) out) out
+leftOf Nowhere needed room written out = cond (leb needed room) (inFront written out) out
 
 -- Reference 9.2: 15, with the limit of all record numbers
 abbrev pub badNumberOf : List ℕ → Found

@@ -1,3 +1,2 @@
 pub mod Convert
 pub mod Runs
-pub mod Front

@@ -11,7 +11,7 @@ ghost use Prim.Native.Nat.{_≤_};
 ghost use lib.ListN.{length};
 ghost use Rattle.list.specs.Interval.{intervals};
 ghost use Rattle.convert.specs.Convert.{badNumberOf, intervalsOf, ToIntervals};
-ghost use Rattle.convert.specs.Front.{inFront};
+ghost use Rattle.list.specs.Front.{inFront};
 
 // How many intervals the numbers listed make.
 fn count_intervals(listed: &[u32]) -> usize

@@ -11,7 +11,7 @@ ghost use lib.Seq.{sets};
 ghost use Rattle.list.specs.Interval.{records};
 ghost use Rattle.list.specs.Stretches.{recordsFrom};
 ghost use Rattle.convert.specs.Convert.{badIntervalOf, numbersOf, ToNumbers};
-ghost use Rattle.convert.specs.Front.{inFront};
+ghost use Rattle.list.specs.Front.{inFront};
 
 // Reference 9.1, row 16: the first bad interval.
 fn first_bad_interval(cells: &[u32]) -> Found

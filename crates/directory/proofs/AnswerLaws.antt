@@ -13,7 +13,6 @@ use Rattle.refusal.specs.declared.Found.the-variants.{At, Nowhere}
 use Rattle.refusal.specs.First.{first}
 use Rattle.word.specs.Word.{same}
 use Rattle.list.specs.declared.probe.Probe.{Probe}
-use Rattle.list.specs.Ginix.{belowCount, overlapCount}
 use Rattle.index.specs.declared.Checked.{Checked}
 use Rattle.index.specs.declared.Checked.the-variants.{Good, Refused}
 use Rattle.index.specs.Format.{wordCount, wordStart, wordLength, wordOf, listOf}
@@ -21,7 +20,7 @@ use Rattle.index.specs.Check.{checkOf}
 use Rattle.index.proofs.CheckLaws.{not-good, good-sound}
 use Rattle.directory.specs.declared.Lookup.the-variants.{Entry, NoEntry}
 use Rattle.directory.specs.declared.Probed.the-variants.{Counted, NoCount}
-use Rattle.directory.specs.Entry.{lookupOf, entryAfter, entryCheck, entryStart, entryLength, badRange, rangeAnswer, probeOf}
+use Rattle.directory.specs.Entry.{lookupOf, entryAfter, entryCheck, entryStart, entryLength, badRange, rangeAnswer, listProbed, probeOf}
 use Rattle.directory.specs.Regions.{EntryIn}
 
 -- ---- a lookup
@@ -90,7 +89,7 @@ module _ (index : List ℕ) (i a b : ℕ) where
   unfolding probeOf
   probe-refused r e = rw e
 
-  pub probe-answered : entryCheck index i ≡ Good → probeOf index i a b ≡ rangeAnswer (badRange a b) (belowCount a (listOf index i)) (overlapCount a b (listOf index i))
+  pub probe-answered : entryCheck index i ≡ Good → probeOf index i a b ≡ listProbed (listOf index i) a b
   unfolding probeOf
   probe-answered e = rw e
 

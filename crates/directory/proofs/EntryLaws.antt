@@ -81,6 +81,7 @@ marks-regions {index} {i} r {c} e is s l u n =
     }
 
 -- the list that the regions hold is the entry's
-pub regions-list : {index : List ℕ} {i : ℕ} {r : Regions} → RegionsOf index i r → listIn (singlesIn index r) (lowerIn index r) (upperIn index r) ≡ listOf index i
+pub regions-list : {index : List ℕ} {i : ℕ} {r : Regions} → RegionsOf index i r →
+    listIn (singlesIn index r) (lowerIn index r) (upperIn index r) ≡ listOf index i
 unfolding listOf
 regions-list g = rw (g .singles, g .lower, g .upper)

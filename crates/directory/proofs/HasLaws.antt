@@ -117,7 +117,8 @@ module _ (index : List ℕ) (s : Sound index) (word : List ℕ) where
   split-step : (k : ℕ) → k < wordCount index → (t : Bool) → before (wordOf index k) word ≡ t → Splits index word k (belowWithin index k word) →
       Splits index word (suc k) (one t + belowWithin index k word)
   split-step k h true e w =
-      let all : Splits index word k k = record { within = omega arith; below = λ j l. below-down k j h e (omega arith); rest = λ j l u. absurd (omega arith) } in
+      let all : Splits index word k k =
+      record { within = omega arith; below = λ j l. below-down k j h e (omega arith); rest = λ j l u. absurd (omega arith) } in
       let q : belowWithin index k word ≡ k = splits-count index word k k all in
       record { within = omega arith; below = λ j l. below-down k j h e (omega arith); rest = λ j l u. absurd (omega arith) }
   split-step k h false e w =

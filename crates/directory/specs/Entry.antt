@@ -64,10 +64,14 @@ badRange a b = eqb a 0 || ltb b a || ltb recordMax b
 abbrev pub rangeAnswer : Bool → ℕ → ℕ → Probed
 rangeAnswer bad below overlapping = cond bad (NoCount ProbeRange) (Counted (record { below = below; overlapping = overlapping }))
 
+-- Reference 8.4: 20, then the two counts of a list
+abbrev pub listProbed : List ℕ → ℕ → ℕ → Probed
+listProbed c a b = rangeAnswer (badRange a b) (belowCount a c) (overlapCount a b c)
+
 abbrev pub probeAfter : Checked → Probed → Probed
 probeAfter (Refused r) counted = NoCount r
 probeAfter Good counted = counted
 
--- Reference 8.4: 14, then 20, then the two counts
+-- Reference 8.4: 14, then the probe of the entry's list
 unfoldable pub probeOf : List ℕ → ℕ → ℕ → ℕ → Probed
-probeOf index i a b = probeAfter (entryCheck index i) (rangeAnswer (badRange a b) (belowCount a (listOf index i)) (overlapCount a b (listOf index i)))
+probeOf index i a b = probeAfter (entryCheck index i) (listProbed (listOf index i) a b)

@@ -4,7 +4,7 @@ ghost use Prim.Native.Nat.{_≤_};
 ghost use Rattle.limits.specs.Limits.{recordMax};
 ghost use Rattle.list.specs.Ginix.{belowCount, overlapCount};
 ghost use Rattle.index.specs.Format.{listOf};
-ghost use Rattle.directory.specs.Entry.{badRange, rangeAnswer, probeOf};
+ghost use Rattle.directory.specs.Entry.{badRange, listProbed, probeOf};
 ghost use Rattle.directory.specs.Regions.{EntryIn};
 use crate::Probed;
 use crate::parts::Regions;
@@ -37,7 +37,7 @@ fn probe_parts(index: &[u8], i: usize, a: u32, b: u32) -> Probe
 // The probe of an entry that a sound index has.
 fn probe_sound(index: &[u8], i: usize, a: u32, b: u32) -> Probed
     requires { ⌜ EntryIn (now index) i ⌝ }
-    ensures { λ r. ⌜ r ≡ rangeAnswer (badRange a b) (belowCount a (listOf (now (index .entry)) i)) (overlapCount a b (listOf (now (index .entry)) i)) ⌝ }
+    ensures { λ r. ⌜ r ≡ listProbed (listOf (now (index .entry)) i) a b ⌝ }
 {
     if bad_range(a, b) {
         return Probed::NoCount(Refusal::ProbeRange);

@@ -1,3 +1,1 @@
 pub mod EvalLaws
-pub mod PairedSenses
-pub mod KeptSenses

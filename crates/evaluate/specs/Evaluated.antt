@@ -20,10 +20,13 @@ pub record Ready (codes : List ℕ) (i : ℕ) (index entries : List ℕ) (base :
   pub size : length ws ≤ windowMost
   pub near : base ≤ recordMax + 1
 
--- what it comes to, where k words stand before: the window holds what satisfies the tree that the codes read as
-pub record Evaluated (reading : ℕ → List Tok → Out Tree) (codes : List ℕ) (i k : ℕ) (index entries : List ℕ) (base : ℕ) (hints ws hints′ ws′ : List ℕ) (r : Step) : Type 0 where
-  pub ahead : i ≤ r .code
-  pub inside : r .code ≤ length codes
+-- the hints are moved, and nothing else is said of them
+pub record SameLengths (hints ws hints′ ws′ : List ℕ) : Type 0 where
   pub hints-long : length hints′ ≡ length hints
   pub ws-long : length ws′ ≡ length ws
-  pub reads : (f : ℕ) → Reads (reading f) codes i (r .code) (r .slot) (λ t. Holds (slotSatisfies (slotHas index entries) t k) base ws′)
+
+-- what it comes to, where k words stand before: the window holds what satisfies the tree that the codes read as
+pub record Evaluated (reading : ℕ → List Tok → Out Tree) (codes : List ℕ) (i k : ℕ) (index entries : List ℕ) (base : ℕ) (ws : List ℕ) (r : Step) : Type 0 where
+  pub ahead : i ≤ r .code
+  pub inside : r .code ≤ length codes
+  pub reads : (f : ℕ) → Reads (reading f) codes i (r .code) (r .slot) (λ t. Holds (slotSatisfies (slotHas index entries) t k) base ws)

@@ -1,3 +1,1 @@
-pub mod Senses
-pub mod Look
 pub mod Evaluated

@@ -1,7 +1,7 @@
 // A question answered for a window, by its codes: a level evaluates its first operand into the window, and each further one into a window of
 // its own, which is then combined with it. The bracket depth left falls at each call.
-ghost use Rattle.question.specs.Grammar.{fromLeft, question, operand};
-ghost use Rattle.evaluate.specs.Evaluated.{Ready, Evaluated};
+ghost use Rattle.codes.specs.Reads.{asLevel, asOperand};
+ghost use Rattle.evaluate.specs.Evaluated.{Ready, SameLengths, Evaluated};
 use crate::combine::combine_into;
 use codes::code::CLOSE_CODE;
 use codes::code::OPEN_CODE;
@@ -28,7 +28,8 @@ pub fn eval_level(
     ws: &mut [u64],
 ) -> Step
     requires { ⌜ Ready (now codes) i (now index) (now entries) base (now hints) (now ws) ⌝ }
-    ensures { λ r. ⌜ Evaluated (λ f. question fromLeft f d k) (now (codes .entry)) i k (now (index .entry)) (now (entries .entry)) base (now (hints .entry)) (now (ws .entry)) (now (hints .exit)) (now (ws .exit)) r ⌝ }
+    ensures keeps { λ _. ⌜ SameLengths (now (hints .entry)) (now (ws .entry)) (now (hints .exit)) (now (ws .exit)) ⌝ }
+    ensures reads { λ r. ⌜ Evaluated (asLevel d k) (now (codes .entry)) i k (now (index .entry)) (now (entries .entry)) base (now (ws .exit)) r ⌝ }
 {
     let first = eval_operand(codes, i, k, d, index, entries, base, hints, ws);
     let mut at = first.code;
@@ -70,7 +71,8 @@ fn eval_operand(
     ws: &mut [u64],
 ) -> Step
     requires { ⌜ Ready (now codes) i (now index) (now entries) base (now hints) (now ws) ⌝ }
-    ensures { λ r. ⌜ Evaluated (λ f. operand fromLeft f d k) (now (codes .entry)) i k (now (index .entry)) (now (entries .entry)) base (now (hints .entry)) (now (ws .entry)) (now (hints .exit)) (now (ws .exit)) r ⌝ }
+    ensures keeps { λ _. ⌜ SameLengths (now (hints .entry)) (now (ws .entry)) (now (hints .exit)) (now (ws .exit)) ⌝ }
+    ensures reads { λ r. ⌜ Evaluated (asOperand d k) (now (codes .entry)) i k (now (index .entry)) (now (entries .entry)) base (now (ws .exit)) r ⌝ }
 {
     let code = code_at(codes, i);
     if code == WORD_CODE {

@@ -27,7 +27,8 @@ stretch-within : (base l u e n : ℕ) → (base + n ≤ u → n < e) → (n < e 
 stretch-within base l u e n f g = ap₂ _&&_ lower upper
   where
     lower : leb l (base + n) ≡ leb (l - base) n
-    lower = leb-cases l (base + n) (λ h. le-leb l (base + n) h ∙ sym (le-leb (l - base) n (omega arith))) (λ h. lt-leb l (base + n) h ∙ sym (lt-leb (l - base) n (omega arith)))
+    lower = leb-cases l (base + n) (λ h. le-leb l (base + n) h ∙ sym (le-leb (l - base) n (omega arith)))
+        (λ h. lt-leb l (base + n) h ∙ sym (lt-leb (l - base) n (omega arith)))
 
     upper : leb (base + n) u ≡ ltb n e
     upper =
@@ -37,7 +38,8 @@ stretch-within base l u e n f g = ap₂ _&&_ lower upper
 
 -- ---- what stretches name, by their lower and upper ends
 
-names-drop : (x : ℕ) (L U : List ℕ) (q : ℕ) → length L ≡ length U → q ≤ length L → ((m : ℕ) → m < q → getD U m 0 < x) → names (pairs L U) x ≡ names (pairs (drop q L) (drop q U)) x
+names-drop : (x : ℕ) (L U : List ℕ) (q : ℕ) → length L ≡ length U → q ≤ length L → ((m : ℕ) → m < q → getD U m 0 < x) →
+    names (pairs L U) x ≡ names (pairs (drop q L) (drop q U)) x
 unfolding pairs
 names-drop x L U zero e h g = refl
 names-drop x [] U (suc q) e h g = absurd (omega arith)
@@ -66,7 +68,8 @@ names-ahead x L U q a e g =
     let d = length-drop q L in
     let c = length-drop q U in
     names-none x (drop q L) (drop q U) (omega arith)
-    (λ m w. rw (getD-drop q L m 0) (let z = ahead L a (x + 1) q (q + m) (omega arith) (let y = g (omega arith) in omega arith) (omega arith) (omega arith) in omega arith))
+    (λ m w. rw (getD-drop q L m 0)
+    (let z = ahead L a (x + 1) q (q + m) (omega arith) (let y = g (omega arith) in omega arith) (omega arith) (omega arith) in omega arith))
 
 -- ---- the two sides
 
@@ -154,7 +157,8 @@ module _ {p : ℕ → Bool} {L U : List ℕ} {base : ℕ} {ws₀ : List ℕ} {q 
     here : (e : ℕ) → ((n : ℕ) → n < 64 * length ws₀ → base + n ≤ u → n < e) → ((n : ℕ) → n < e → base + n ≤ u) → (n : ℕ) → n < 64 * length ws₀ →
         names (pairs (drop q L) (drop q U)) (base + n) ≡ within (l - base) e n || names (pairs (drop (q + 1) L) (drop (q + 1) U)) (base + n)
     here e a b n w =
-        let v : leb (getD L q 0) (base + n) && leb (base + n) (getD U q 0) ≡ within (l - base) e n = rw (← el, ← eu) (stretch-within base l u e n (a n w) (b n)) in
+        let v : leb (getD L q 0) (base + n) && leb (base + n) (getD U q 0) ≡ within (l - base) e n =
+        rw (← el, ← eu) (stretch-within base l u e n (a n w) (b n)) in
         names-next (base + n) L U q (side .long) h ∙ ap (λ (t : Bool). t || names (pairs (drop (q + 1) L) (drop (q + 1) U)) (base + n)) v
 
     pub side-step : {ws′ : List ℕ} → Filled ws (l - base) (u - base + 1) ws′ → SideFilling p L U base ws₀ (q + 1) ws′
@@ -167,7 +171,8 @@ module _ {p : ℕ → Bool} {L U : List ℕ} {base : ℕ} {ws₀ : List ℕ} {q 
         }
 
     -- it reaches past the window: it is filled to its end, and the next begins behind that
-    pub side-out : {e : ℕ} {ws′ : List ℕ} → (q + 1 < length L → u < getD L (q + 1) 0) → e ≡ 64 * length ws₀ → base + e ≤ u → Filled ws (l - base) e ws′ → Added p base ws₀ ws′
+    pub side-out : {e : ℕ} {ws′ : List ℕ} → (q + 1 < length L → u < getD L (q + 1) 0) → e ≡ 64 * length ws₀ → base + e ≤ u → Filled ws (l - base) e ws′ →
+        Added p base ws₀ ws′
     side-out {e} behind s g k =
         filling-end {left = names (pairs (drop (q + 1) L) (drop (q + 1) U))} (filling-step (f .filling) k (here e (λ n w v. omega arith) (λ n w. omega arith)))
         (λ n w. names-ahead (base + n) L U (q + 1) (side .lower-ascend) (side .long) (λ v. let z = behind v in omega arith))

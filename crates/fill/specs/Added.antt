@@ -2,8 +2,10 @@
 use mathlib.Core.Path.{_≡_}
 use Prim.Native.Nat.{ℕ, _+_, _*_, _≤_, _<_}
 use mathlib.Core.Bool.{Bool, _||_}
-use mathlib.Core.List.{List}
+use mathlib.Core.List.{List, []}
 use lib.ListN.{length, getD}
+use Rattle.list.specs.Cell.{numbersIn}
+use Rattle.list.specs.Kept.{walked}
 use Rattle.list.specs.Seek.{Ascends}
 use Rattle.window.specs.Window.{bitAt}
 
@@ -11,6 +13,10 @@ use Rattle.window.specs.Window.{bitAt}
 pub record Added (p : ℕ → Bool) (base : ℕ) (ws₀ ws : List ℕ) : Type 0 where
   pub long : length ws ≡ length ws₀
   pub bits : (n : ℕ) → n < 64 * length ws₀ → bitAt ws n ≡ bitAt ws₀ n || p (base + n)
+
+-- the list of the pairs alone
+abbrev pub pairsIn : List ℕ → List ℕ → List ℕ
+pairsIn lower upper = walked [] (numbersIn lower) (numbersIn upper)
 
 -- the pairs of a kept list: each a stretch that stands apart from the next
 pub record Apart (L U : List ℕ) : Type 0 where

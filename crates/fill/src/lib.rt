@@ -1,17 +1,15 @@
 // A kept list filled into a window: the singles bit by bit, the pairs stretch by stretch, each side from what does not end before the window.
 ghost use mathlib.Core.Path.{_≡_};
 ghost use Prim.Native.Nat.{_+_, _-_, _≤_, _<_};
-ghost use mathlib.Core.List.{[]};
 ghost use lib.ListN.{length};
 ghost use Rattle.limits.specs.Limits.{recordMax};
 ghost use Rattle.list.specs.Cell.{numbersIn};
 ghost use Rattle.list.specs.Among.{among};
 ghost use Rattle.list.specs.Interval.{names};
-ghost use Rattle.list.specs.Kept.{walked};
 ghost use Rattle.list.specs.Reading.{KeptIn, listIn, readingPlace};
 ghost use Rattle.list.specs.Seek.{Ascends, countBelow};
 ghost use Rattle.window.specs.Tuning.{windowMost};
-ghost use Rattle.fill.specs.Added.{Added, Apart};
+ghost use Rattle.fill.specs.Added.{Added, pairsIn, Apart};
 use list::PairAt;
 use list::Place;
 use list::SingleAt;
@@ -52,7 +50,7 @@ fn fill_pairs(lower: &[u8], upper: &[u8], from: PairAt, base: u32, ws: &mut [u64
     requires begins { ⌜ from .0 ≡ countBelow base (numbersIn (now upper)) ⌝ }
     requires size { ⌜ length (now ws) ≤ windowMost ⌝ }
     requires near { ⌜ base ≤ recordMax + 1 ⌝ }
-    ensures { λ r. ⌜ Added (names (walked [] (numbersIn (now (lower .entry))) (numbersIn (now (upper .entry))))) base (now (ws .entry)) (now (ws .exit)) ⌝ }
+    ensures { λ r. ⌜ Added (names (pairsIn (now (lower .entry)) (now (upper .entry)))) base (now (ws .entry)) (now (ws .exit)) ⌝ }
 {
     let size = 64 * ws.len() as u32;
     if size == 0 {

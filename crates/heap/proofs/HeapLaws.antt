@@ -34,7 +34,8 @@ count-set y (x ∷ xs) zero v h = omega arith
 count-set y (x ∷ xs) (suc i) v h = let r = count-set y xs i v (omega arith) in omega arith
 
 -- the same in the first n cells
-pub count-set-take : (y n : ℕ) (xs : List ℕ) (i v : ℕ) → i < n → n ≤ length xs → countOf y (take n (set xs i v)) + one (eqb y (getD xs i 0)) ≡ one (eqb y v) + countOf y (take n xs)
+pub count-set-take : (y n : ℕ) (xs : List ℕ) (i v : ℕ) → i < n → n ≤ length xs →
+    countOf y (take n (set xs i v)) + one (eqb y (getD xs i 0)) ≡ one (eqb y v) + countOf y (take n xs)
 count-set-take y n xs i v h g =
     let e = getD-take n xs i 0 h in
     let l = length-take-le n xs g in

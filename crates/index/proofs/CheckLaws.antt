@@ -89,7 +89,8 @@ place-none Nowhere true n e = somewhere n e
 place-none Nowhere false n e = (refl, refl)
 
 pub entries-good : (index : List ℕ) → badEntryOf index ≡ Nowhere → (i : ℕ) → i < wordCount index → badEntry index i ≡ false
-entries-good index e = first-none (badEntry index) (wordCount index) (place-none (first (badEntry index) (wordCount index)) (badEnd index) (wordCount index) e .0)
+entries-good index e = first-none (badEntry index) (wordCount index)
+    (place-none (first (badEntry index) (wordCount index)) (badEnd index) (wordCount index) e .0)
 
 pub good-sound : (index : List ℕ) → checkOf index ≡ Good → Sound index
 unfolding checkOf contentsOf
@@ -110,4 +111,5 @@ good-sound index e =
 pub sound-good : (index : List ℕ) → Sound index → checkOf index ≡ Good
 sound-good index s =
     check-contents index (s .size) (s .edition-one) (s .trailer)
-    ∙ contents-good index (rw (first-none-is (badEntry index) (wordCount index) (s .entries), s .ends)) (first-none-is (badList index) (wordCount index) (s .lists))
+    ∙ contents-good index (rw (first-none-is (badEntry index) (wordCount index) (s .entries), s .ends))
+    (first-none-is (badList index) (wordCount index) (s .lists))

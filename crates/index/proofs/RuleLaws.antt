@@ -48,10 +48,14 @@ unfolding badDirectory listLength
 directory-rule index i t e words lists is of w l =
     rw (w, l, wordsEnd-next index i, listsEnd-next index i, of .word-start, of .word-length, of .list-start, of .singles, of .pairs, is .directory, is .words)
     (
-    rw (not-ltb (directoryStart index) (wordsEnd index i + wordLength index i), not-ltb (wordsStart index) (listsEnd index i + 4 * (singleCount index i + 2 * pairCount index i)))
+    rw (
+      not-ltb (directoryStart index) (wordsEnd index i + wordLength index i),
+      not-ltb (wordsStart index) (listsEnd index i + 4 * (singleCount index i + 2 * pairCount index i)),
+    )
     (
     none-of (eqb (wordStart index i) (wordsEnd index i)) (eqb (listStart index i) (listsEnd index i)) (eqb (singleCount index i + pairCount index i) 0)
-    (ltb (directoryStart index) (wordsEnd index i + wordLength index i)) (ltb (wordsStart index) (listsEnd index i + 4 * (singleCount index i + 2 * pairCount index i)))
+    (ltb (directoryStart index) (wordsEnd index i + wordLength index i))
+    (ltb (wordsStart index) (listsEnd index i + 4 * (singleCount index i + 2 * pairCount index i)))
     )
     )
 

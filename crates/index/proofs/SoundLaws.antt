@@ -154,7 +154,8 @@ sound-word-room index s i h =
     within : (d n size x : ℕ) → d + 20 * n + 20 ≡ size → x ≤ d → x ≤ size
     within d n size x t h = omega arith
 
-pub sound-list-room : (index : List ℕ) → Sound index → (i : ℕ) → i < wordCount index → listStart index i + 4 * singleCount index i + 8 * pairCount index i ≤ length index
+pub sound-list-room : (index : List ℕ) → Sound index → (i : ℕ) → i < wordCount index →
+    listStart index i + 4 * singleCount index i + 8 * pairCount index i ≤ length index
 unfolding listLength
 sound-list-room index s i h =
     let t = sound-trailer index s in
@@ -187,7 +188,8 @@ upper-length index s i h =
 
 -- ---- the words
 
-word-facts : (index : List ℕ) → Sound index → (i : ℕ) → i < wordCount index → (isWord (wordOf index i) ≡ true) × (before (wordBefore index i) (wordOf index i) ≡ true)
+word-facts : (index : List ℕ) → Sound index → (i : ℕ) → i < wordCount index →
+    (isWord (wordOf index i) ≡ true) × (before (wordBefore index i) (wordOf index i) ≡ true)
 unfolding badEntry badWord
 word-facts index s i h =
     let a = isWord (wordOf index i) in

@@ -7,6 +7,7 @@ ghost use Rattle.index.specs.Read.{Framed, EntryCells};
 pub struct Entry {
     pub word_start: usize,
     pub word_length: usize,
+    // S, the singles, stands from there; L and U, the bounds of the pairs, follow
     pub list_start: usize,
     pub singles: usize,
     pub pairs: usize,

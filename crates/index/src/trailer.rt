@@ -1,4 +1,4 @@
-// Looking a word up in the directory.
+// The trailer of an index, and how many words it says there are.
 ghost use mathlib.Core.Path.{_≡_};
 ghost use Prim.Native.Nat.{_≤_};
 ghost use lib.ListN.{length};
@@ -17,11 +17,15 @@ pub fn word_count(index: &[u8]) -> usize
     trailer.count
 }
 
-// Where the words and the directory start, how many words there are, the highest record, and the edition.
+// Reference 4.2: the last 20 bytes, five cells, from which a reader starts.
 pub struct Trailer {
+    // W, the byte at which the words start: all lists stand before it
     pub words: usize,
+    // D, the byte at which the directory starts
     pub directory: usize,
+    // n, how many words there are, and so how many entries
     pub count: usize,
+    // N, the highest record that may be listed
     pub highest: u32,
     pub edition: u32,
 }

@@ -31,7 +31,8 @@ unfolding listsOf
 asked-bound index [] a = absurd (let h = a .some in omega arith)
 asked-bound index (e ∷ es) a = intersection-bound (listOf index e) (listsOf index es) (asked-proper a)
 
-pub join-bound : (m : Method) {index entries : List ℕ} → SoundRequest index entries → intervals (joinOf m (listsOf index entries)) ≤ intervalSum (listsOf index entries)
+pub join-bound : (m : Method) {index entries : List ℕ} → SoundRequest index entries →
+    intervals (joinOf m (listsOf index entries)) ≤ intervalSum (listsOf index entries)
 join-bound ScanLine a = union-bound _ (asked-proper a)
 join-bound ActiveInterval a = union-bound _ (asked-proper a)
 join-bound TwinHeap a = asked-bound _ _ a
@@ -49,5 +50,6 @@ module _ {method : List (List ℕ) → List ℕ} {index entries out : List ℕ} 
   pub joins-refused : {r : Refusal} → requestOf index entries ≡ Refused r → Joins method index entries out out (answer.Refused r)
   joins-refused e = record { answer = rw e; cells = rw e }
 
-  pub joins-asked : {out′ : List ℕ} {r : Answer} → requestOf index entries ≡ Good → Listing (method (listsOf index entries)) out out′ r → Joins method index entries out out′ r
+  pub joins-asked : {out′ : List ℕ} {r : Answer} → requestOf index entries ≡ Good → Listing (method (listsOf index entries)) out out′ r →
+      Joins method index entries out out′ r
   joins-asked e l = record { answer = l .answer ∙ rw e; cells = l .cells ∙ rw e }

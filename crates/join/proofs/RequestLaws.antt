@@ -42,7 +42,8 @@ module _ (index entries : List ℕ) where
   unfolding entriesOf badListCount
   entries-many h = rw (ne-eqb (length entries) 0 (λ (e : length entries ≡ 0). omega arith), lt-ltb 16 (length entries) h)
 
-  pub entries-counted : (length entries ≡ 0 → ⊥) → length entries ≤ 16 → entriesOf index entries ≡ entriesAfter (first (badEntryNumber index entries) (length entries))
+  pub entries-counted : (length entries ≡ 0 → ⊥) → length entries ≤ 16 →
+      entriesOf index entries ≡ entriesAfter (first (badEntryNumber index entries) (length entries))
   unfolding entriesOf badListCount
   entries-counted g h = rw (ne-eqb (length entries) 0 g, le-ltb 16 (length entries) h)
 

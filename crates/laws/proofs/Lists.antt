@@ -1,10 +1,10 @@
 -- Laws of lists in the code's form: the code counts by + 1, the library's lemmas by suc.
-use mathlib.Core.Path.{_≡_, ap, _∙_}
-use Prim.Native.Nat.{ℕ, suc, _+_, _≤_, _<_}
+use mathlib.Core.Path.{_≡_, refl, ap, _∙_}
+use Prim.Native.Nat.{ℕ, zero, suc, _+_, _≤_, _<_}
 use native.Mathlib.Omega.{arith}
 use native.Mathlib.Numerals.{add-one, add-two}
 use mathlib.Core.List.{List, [], _∷_, _++_}
-use lib.ListN.{length, getD, drop, set, drop-of-length-le}
+use lib.ListN.{length, getD, drop, set, replicate, drop-of-length-le}
 use lib.Seq.{drop-cons, sets, sets-eq}
 
 pub drop-next : (xs : List ℕ) (i : ℕ) → i < length xs → drop i xs ≡ getD xs i 0 ∷ drop (i + 1) xs
@@ -15,6 +15,12 @@ drop-two xs i h = rw (add-one i, add-two i) (drop-cons xs i 0 (omega arith) ∙ 
 
 pub drop-none : (xs : List ℕ) (i : ℕ) → length xs ≤ i → drop i xs ≡ []
 drop-none xs i h = drop-of-length-le xs h
+
+-- in zeros every cell is 0, and beyond them too
+pub zeros-at : (k i : ℕ) → getD {A = ℕ} (replicate k 0) i 0 ≡ 0
+zeros-at zero i = refl
+zeros-at (suc k) zero = refl
+zeros-at (suc k) (suc i) = zeros-at k i
 
 -- what a writer has still to write, one cell or two cells on
 pub sets-one : (out : List ℕ) (k v : ℕ) (vs : List ℕ) → sets out k (v ∷ vs) ≡ sets (set out k v) (k + 1) vs

@@ -128,7 +128,8 @@ cellAt-cells (x ∷ xs) (suc i) b h =
     rw e (cellAt-drop (cellBytes x ++ cellsBytes xs) 4 (4 * i) ∙ cellAt-cells xs i (b .1) (omega arith))
 
 -- cell i of the cells behind other bytes
-pub cellAt-behind : (a : List ℕ) (xs : List ℕ) (i at : ℕ) → Below cellLimit xs → i < length xs → at ≡ length a + 4 * i → cellAt (a ++ cellsBytes xs) at ≡ getD xs i 0
+pub cellAt-behind : (a : List ℕ) (xs : List ℕ) (i at : ℕ) → Below cellLimit xs → i < length xs → at ≡ length a + 4 * i →
+    cellAt (a ++ cellsBytes xs) at ≡ getD xs i 0
 cellAt-behind a xs i at b h e =
     rw e (cellAt-drop (a ++ cellsBytes xs) (length a) (4 * i) ∙ rw (drop-at a (cellsBytes xs) (length a) refl) (cellAt-cells xs i b h))
 

@@ -11,7 +11,7 @@ use lib.Seq.{take-length, getD-append-add}
 use borrow.Author.Tests.{leb-true}
 use Rattle.laws.proofs.Tests.{and-both, or-either}
 use Rattle.word.specs.Word.{between, isWordByte, allWordBytes, isOperator, isWord}
-use Rattle.layout.specs.Layout.{cellsBytes, cellSingles, lowersIn, keptBytes, cellsIn, listsBytes, wordsBytes, entryBytes, directoryBytes}
+use Rattle.layout.specs.Layout.{cellsBytes, cellSingles, cellLowers, keptBytes, cellsIn, listsBytes, wordsBytes, entryBytes, directoryBytes}
 use Rattle.layout.specs.Layout.{Below}
 use Rattle.layout.proofs.BytesLaws.{cellLimit, below-append, cells-append}
 use Rattle.layout.proofs.KeptBytesLaws.{kept-length, kept-below}
@@ -79,7 +79,7 @@ module _ (n : ℕ) where
 -- ---- the directory
 
 abbrev pub entryCells : ℕ → List ℕ → ℕ → List ℕ → List ℕ
-entryCells wordAt w listAt c = wordAt ∷ length w ∷ listAt ∷ length (cellSingles c) ∷ length (lowersIn c) ∷ []
+entryCells wordAt w listAt c = wordAt ∷ length w ∷ listAt ∷ length (cellSingles c) ∷ length (cellLowers c) ∷ []
 
 -- the directory as cells
 unfoldable pub directoryCells : ℕ → ℕ → ℕ → List (List ℕ) → List (List ℕ) → List ℕ
@@ -131,7 +131,8 @@ module _ (n : ℕ) where
       (
       getD-append-add (entryCells a w b c) (directoryCells n a′ b′ ws xss) (5 * i + j) 0
       ∙ directory-at a′ b′ ws xss i j (omega arith) (omega arith) g
-      ∙ entry-same (a′ + wordsTo ws i) (b′ + listsTo n xss i) (a + wordsTo (w ∷ ws) (suc i)) (b + listsTo n (xs ∷ xss) (suc i)) (getD ws i []) (cellsIn n (getD xss i []))
+      ∙ entry-same (a′ + wordsTo ws i) (b′ + listsTo n xss i) (a + wordsTo (w ∷ ws) (suc i)) (b + listsTo n (xs ∷ xss) (suc i)) (getD ws i [])
+      (cellsIn n (getD xss i []))
       (omega (arith, length-append w (wordsBytes (take i ws)))) (omega (arith, length-append (keptBytes c) (listsBytes n (take i xss)))) j
       )
 
@@ -144,8 +145,16 @@ module _ (n : ℕ) where
       let c = cellsIn n xs in
       let p = length-append w (wordsBytes ws) in
       let q = length-append (keptBytes c) (listsBytes n xss) in
-      let k = kept-length c in
-      (omega arith, (omega arith, (omega arith, (omega arith, (omega arith, directory-below (a + length w) (b + length (keptBytes c)) ws xss (omega arith) (omega arith))))))
+      let k = kept-length c in (
+        omega arith,
+        (
+          omega arith,
+          (
+            omega arith,
+            (omega arith, (omega arith, directory-below (a + length w) (b + length (keptBytes c)) ws xss (omega arith) (omega arith))),
+          ),
+        ),
+      )
 
 -- ---- all that is written is bytes
 

@@ -13,10 +13,11 @@ use borrow.Author.Tests.{eqb-true, eq-eqb, ne-eqb}
 use Rattle.laws.proofs.Lists.{drop-next, drop-none, sets-append, sets-front}
 use Rattle.laws.proofs.Parts.{tail-written}
 use Rattle.list.specs.Ginix.{one}
+use Rattle.list.specs.Front.{inFront}
 use Rattle.convert.proofs.RunLaws.{closed, startOf, runsFrom, runs, runs-at}
 use Rattle.layout.specs.declared.kept.Places.{Places}
 use Rattle.layout.specs.declared.entry.Spots.{Spots}
-use Rattle.layout.specs.Layout.{cellBytes, cellsBytes, cellSingles, lowersIn, uppersIn, keptBytes, cellsIn, listsBytes, wordsBytes, entryBytes, directoryBytes}
+use Rattle.layout.specs.Layout.{cellBytes, cellsBytes, cellSingles, cellLowers, cellUppers, keptBytes, cellsIn, listsBytes, wordsBytes, entryBytes, directoryBytes}
 use Rattle.layout.specs.Laid.{laid, laidTo, LaidWithin, entered, enteredTo}
 use Rattle.layout.proofs.BytesLaws.{cells-length}
 use Rattle.layout.proofs.KeptBytesLaws.{kept-length}
@@ -58,7 +59,7 @@ sets-comm out a vs b (w ∷ ws) h =
     ap (λ (o : List ℕ). sets o (suc b) ws) (set-sets out a vs b w h) ∙ sets-comm (set out b w) a vs (suc b) ws (omega arith)
 
 -- what was written from the start of a lent tail, said of the whole
-pub tail-sets : (a : ℕ) (xs vs : List ℕ) {ys : List ℕ} → a + length vs ≤ length xs → ys ≡ vs ++ drop (length vs) (midOf a (length xs - a) xs) →
+pub tail-sets : (a : ℕ) (xs vs : List ℕ) {ys : List ℕ} → a + length vs ≤ length xs → ys ≡ inFront vs (midOf a (length xs - a) xs) →
     putMid a (length xs - a) xs ys ≡ sets xs a vs
 tail-sets a xs vs {ys} h e = tail-written a xs ys vs e ∙ sym (sets-eq vs xs a h)
 
@@ -70,7 +71,8 @@ tail-length a xs ys vs e = ap length e ∙ length-sets xs a vs
 abbrev pub plan : List ℕ → ℕ → List ℕ → ℕ → List ℕ → ℕ → List ℕ → List ℕ
 plan out a xs b ys d zs = sets (sets (sets out a xs) b ys) d zs
 
-pub plan-turn : (out : List ℕ) (a : ℕ) (x xs : List ℕ) (b : ℕ) (y ys : List ℕ) (d : ℕ) (z zs : List ℕ) → a + length x + length xs ≤ b → b + length y + length ys ≤ d →
+pub plan-turn : (out : List ℕ) (a : ℕ) (x xs : List ℕ) (b : ℕ) (y ys : List ℕ) (d : ℕ) (z zs : List ℕ) → a + length x + length xs ≤ b →
+    b + length y + length ys ≤ d →
     plan out a (x ++ xs) b (y ++ ys) d (z ++ zs) ≡ plan (plan out a x b y d z) (a + length x) xs (b + length y) ys (d + length z) zs
 plan-turn out a x xs b y ys d z zs h g =
     let a′ = a + length x in
@@ -90,7 +92,7 @@ plan-turn out a x xs b y ys d z zs h g =
 -- ---- a list: singles, lower and upper bounds
 
 abbrev pub keptPlan : List ℕ → Places → List ℕ → List ℕ
-keptPlan out at c = plan out (at .single) (cellsBytes (cellSingles c)) (at .lower) (cellsBytes (lowersIn c)) (at .upper) (cellsBytes (uppersIn c))
+keptPlan out at c = plan out (at .single) (cellsBytes (cellSingles c)) (at .lower) (cellsBytes (cellLowers c)) (at .upper) (cellsBytes (cellUppers c))
 
 -- there is room for so many singles and pairs
 pub record Placed (at : Places) (singles pairs room : ℕ) : Type 0 where
@@ -99,14 +101,15 @@ pub record Placed (at : Places) (singles pairs room : ℕ) : Type 0 where
   pub upper : at .upper + 4 * pairs ≤ room
 
 abbrev pub PlacedFor : Places → List ℕ → ℕ → Type 0
-PlacedFor at c room = Placed at (length (cellSingles c)) (length (lowersIn c)) room
+PlacedFor at c room = Placed at (length (cellSingles c)) (length (cellLowers c)) room
 
 -- the three regions where one interval more stands in front, of which t says whether it is a single
 abbrev planOf : Bool → List ℕ → Places → ℕ → ℕ → List ℕ → List ℕ → List ℕ → List ℕ
 planOf t out at l u S L U =
     plan out (at .single) (cellsBytes (cond t (l ∷ S) S)) (at .lower) (cellsBytes (cond t L (l ∷ L))) (at .upper) (cellsBytes (cond t U (u ∷ U)))
 
-laid-step : (t : Bool) (out : List ℕ) (at : Places) (l u : ℕ) (S L U : List ℕ) {room : ℕ} → Placed at (length (cond t (l ∷ S) S)) (length (cond t L (l ∷ L))) room →
+laid-step : (t : Bool) (out : List ℕ) (at : Places) (l u : ℕ) (S L U : List ℕ) {room : ℕ} →
+    Placed at (length (cond t (l ∷ S) S)) (length (cond t L (l ∷ L))) room →
     planOf t out at l u S L U
     ≡ plan (laid t out at l u) (laidTo t at .single) (cellsBytes S) (laidTo t at .lower) (cellsBytes L) (laidTo t at .upper) (cellsBytes U)
 unfolding cellsBytes
@@ -125,12 +128,12 @@ placed-step false at l S L room is = ((omega arith, omega arith), record { singl
 
 module _ (at : Places) (l u : ℕ) (r : List ℕ) {room : ℕ} (is : PlacedFor at (l ∷ u ∷ r) room) where
   pub kept-laid : (out : List ℕ) → keptPlan out at (l ∷ u ∷ r) ≡ keptPlan (laid (eqb l u) out at l u) (laidTo (eqb l u) at) r
-  unfolding cellSingles lowersIn uppersIn
-  kept-laid out = laid-step (eqb l u) out at l u (cellSingles r) (lowersIn r) (uppersIn r) is
+  unfolding cellSingles cellLowers cellUppers
+  kept-laid out = laid-step (eqb l u) out at l u (cellSingles r) (cellLowers r) (cellUppers r) is
 
   pub placed-on : LaidWithin (eqb l u) at room × PlacedFor (laidTo (eqb l u) at) r room
-  unfolding cellSingles lowersIn
-  placed-on = placed-step (eqb l u) at l (cellSingles r) (lowersIn r) room is
+  unfolding cellSingles cellLowers
+  placed-on = placed-step (eqb l u) at l (cellSingles r) (cellLowers r) room is
 
 pub laid-length : (t : Bool) (out : List ℕ) (at : Places) (l u : ℕ) → length (laid t out at l u) ≡ length out
 laid-length true out at l u = length-sets out (at .single) (cellBytes l)
@@ -138,25 +141,25 @@ laid-length false out at l u = simp length-sets
 
 -- nothing is left
 pub kept-done : (out : List ℕ) (at : Places) → keptPlan out at [] ≡ out
-unfolding cellSingles lowersIn uppersIn cellsBytes
+unfolding cellSingles cellLowers cellUppers cellsBytes
 kept-done out at = refl
 
 -- where the three regions begin
 abbrev pub keptPlaces : ℕ → ℕ → Places
 keptPlaces singles pairs = record { single = 0; lower = 4 * singles; upper = 4 * (singles + pairs) }
 
-module _ (c : List ℕ) (singles pairs : ℕ) (s : singles ≡ length (cellSingles c)) (m : pairs ≡ length (lowersIn c)) where
+module _ (c : List ℕ) (singles pairs : ℕ) (s : singles ≡ length (cellSingles c)) (m : pairs ≡ length (cellLowers c)) where
   pub placed-start : (room : ℕ) → length (keptBytes c) ≤ room → PlacedFor (keptPlaces singles pairs) c room
   placed-start room h = let k = kept-length c in record { single = omega arith; lower = omega arith; upper = omega arith }
 
-  pub kept-start : (out : List ℕ) → length (keptBytes c) ≤ length out → keptPlan out (keptPlaces singles pairs) c ≡ keptBytes c ++ drop (length (keptBytes c)) out
+  pub kept-start : (out : List ℕ) → length (keptBytes c) ≤ length out → keptPlan out (keptPlaces singles pairs) c ≡ inFront (keptBytes c) out
   unfolding keptBytes
   kept-start out h =
       let S = cellsBytes (cellSingles c) in
-      let L = cellsBytes (lowersIn c) in
-      let U = cellsBytes (uppersIn c) in
+      let L = cellsBytes (cellLowers c) in
+      let U = cellsBytes (cellUppers c) in
       let p : 0 + length S ≡ 4 * singles = omega (arith, cells-length (cellSingles c)) in
-      let q : 0 + length (S ++ L) ≡ 4 * (singles + pairs) = omega (arith, length-append S L, cells-length (cellSingles c), cells-length (lowersIn c)) in
+      let q : 0 + length (S ++ L) ≡ 4 * (singles + pairs) = omega (arith, length-append S L, cells-length (cellSingles c), cells-length (cellLowers c)) in
       sym
       (
       sym (sets-front (keptBytes c) out h)
@@ -195,30 +198,30 @@ broke-off true k = omega arith
 broke-off false k = omega arith
 
 pairs-step : (l u x : ℕ) (xs : List ℕ) (t : Bool) → eqb x (u + 1) ≡ t → l ≤ u →
-    ((l : ℕ) → l ≤ x → length (lowersIn (runsFrom l x xs)) ≡ 1 - one (eqb l x) + pairsFrom (one (eqb l x)) x xs) →
-    length (lowersIn (closed t l u (runsFrom (startOf t l x) x xs)))
+    ((l : ℕ) → l ≤ x → length (cellLowers (runsFrom l x xs)) ≡ 1 - one (eqb l x) + pairsFrom (one (eqb l x)) x xs) →
+    length (cellLowers (closed t l u (runsFrom (startOf t l x) x xs)))
     ≡ 1 - one (eqb l u) + (one (ltb (cond t 0 1) (one (eqb l u))) + pairsFrom (cond t 0 1) x xs)
-unfolding lowersIn
+unfolding cellLowers
 pairs-step l u x xs true e h ih =
     let q = eqb-true x (u + 1) e in
     (rw (ne-eqb l x (λ (g : l ≡ x). omega arith)) at (ih l (omega arith))) ∙ sym (went-on (eqb l u) (pairsFrom 0 x xs))
 pairs-step l u x xs false e h ih =
     let r = rw (eq-eqb x x refl) at (ih x (omega arith)) in
-    omega (arith, pair-step l (eqb l u) (lowersIn (runsFrom x x xs)), broke-off (eqb l u) (pairsFrom 1 x xs))
+    omega (arith, pair-step l (eqb l u) (cellLowers (runsFrom x x xs)), broke-off (eqb l u) (pairsFrom 1 x xs))
 
-pairs-from : (l u : ℕ) (xs : List ℕ) → l ≤ u → length (lowersIn (runsFrom l u xs)) ≡ 1 - one (eqb l u) + pairsFrom (one (eqb l u)) u xs
-unfolding runsFrom pairsFrom lowersIn
+pairs-from : (l u : ℕ) (xs : List ℕ) → l ≤ u → length (cellLowers (runsFrom l u xs)) ≡ 1 - one (eqb l u) + pairsFrom (one (eqb l u)) u xs
+unfolding runsFrom pairsFrom cellLowers
 pairs-from l u [] h = pair-step l (eqb l u) []
 pairs-from l u (x ∷ xs) h = pairs-step l u x xs (eqb x (u + 1)) refl h (λ l g. pairs-from l x xs g)
 
-pub runs-pairs : (xs : List ℕ) → 0 < length xs → length (lowersIn (runs xs)) ≡ pairsFrom 1 (getD xs 0 0) (drop 1 xs)
+pub runs-pairs : (xs : List ℕ) → 0 < length xs → length (cellLowers (runs xs)) ≡ pairsFrom 1 (getD xs 0 0) (drop 1 xs)
 runs-pairs xs h =
     let x = getD xs 0 0 in
-    let e = ap (λ (c : List ℕ). length (lowersIn c)) (runs-at xs 0 h) in
+    let e = ap (λ (c : List ℕ). length (cellLowers c)) (runs-at xs 0 h) in
     omega (arith, rw (eq-eqb x x refl) at (pairs-from x x (drop 1 xs) (omega arith)))
 
-pub none-kept : (length (cellSingles []) ≡ 0) × (length (lowersIn []) ≡ 0) × (keptBytes [] ≡ [])
-unfolding cellSingles lowersIn uppersIn keptBytes cellsBytes
+pub none-kept : (length (cellSingles []) ≡ 0) × (length (cellLowers []) ≡ 0) × (keptBytes [] ≡ [])
+unfolding cellSingles cellLowers cellUppers keptBytes cellsBytes
 none-kept = (refl, refl, refl)
 
 -- ---- an index: lists, words and entries
@@ -227,7 +230,7 @@ abbrev pub indexPlan : ℕ → List ℕ → Spots → List (List ℕ) → List (
 indexPlan n out at ws xss = plan out (at .list) (listsBytes n xss) (at .word) (wordsBytes ws) (at .entry) (directoryBytes n (at .word) (at .list) ws xss)
 
 -- a word's list, its bytes and its entry, written one after the other
-pub word-entered : (out : List ℕ) (at : Spots) (w c : List ℕ) {s m : ℕ} {o p q : List ℕ} → s ≡ length (cellSingles c) → m ≡ length (lowersIn c) →
+pub word-entered : (out : List ℕ) (at : Spots) (w c : List ℕ) {s m : ℕ} {o p q : List ℕ} → s ≡ length (cellSingles c) → m ≡ length (cellLowers c) →
     o ≡ sets out (at .list) (keptBytes c) → p ≡ sets o (at .word) w → q ≡ sets p (at .entry) (cellsBytes (at .word ∷ length w ∷ at .list ∷ s ∷ m ∷ [])) →
     q ≡ entered out at w c
 word-entered out at w c es em eo ep eq = eq ∙ rw (ep, eo, es, em)
@@ -243,4 +246,4 @@ index-entered n out at w ws xs xss h g =
     (omega (arith, length-append (keptBytes c) (listsBytes n xss))) (omega (arith, length-append w (wordsBytes ws)))
     ∙ ap (λ (k : ℕ). plan (entered out at w c) (at .list + length (keptBytes c)) (listsBytes n xss) (at .word + length w) (wordsBytes ws) k
     (directoryBytes n (at .word + length w) (at .list + length (keptBytes c)) ws xss))
-    (ap (λ (k : ℕ). at .entry + k) (cells-length (at .word ∷ length w ∷ at .list ∷ length (cellSingles c) ∷ length (lowersIn c) ∷ [])))
+    (ap (λ (k : ℕ). at .entry + k) (cells-length (at .word ∷ length w ∷ at .list ∷ length (cellSingles c) ∷ length (cellLowers c) ∷ [])))

@@ -10,12 +10,12 @@ use Rattle.convert.specs.Convert.{intervalsOf}
 use Rattle.layout.specs.declared.size.ListCounts.{ListCounts}
 use Rattle.layout.specs.declared.kept.Places.{Places}
 use Rattle.layout.specs.declared.entry.Spots.{Spots}
-use Rattle.layout.specs.Layout.{cellBytes, cellSingles, lowersIn, keptBytes, entryBytes}
+use Rattle.layout.specs.Layout.{cellBytes, cellSingles, cellLowers, keptBytes, entryBytes}
 
 -- Reference 3.4: how many singles and pairs the numbers make, in no more cells than there are numbers
 pub record ListCountsOf (numbers : List ℕ) (k : ListCounts) : Type 0 where
   pub singles : k .singles ≡ length (cellSingles (intervalsOf numbers))
-  pub pairs : k .pairs ≡ length (lowersIn (intervalsOf numbers))
+  pub pairs : k .pairs ≡ length (cellLowers (intervalsOf numbers))
   pub most : k .singles + 2 * k .pairs ≤ length numbers
 
 -- an interval written where the next of its kind belongs: a single, or a lower and an upper bound

@@ -26,19 +26,19 @@ cellSingles [] = []
 cellSingles (l ∷ []) = []
 cellSingles (l ∷ u ∷ r) = cond (eqb l u) (l ∷ cellSingles r) (cellSingles r)
 
-unfoldable pub lowersIn : List ℕ → List ℕ
-lowersIn [] = []
-lowersIn (l ∷ []) = []
-lowersIn (l ∷ u ∷ r) = cond (eqb l u) (lowersIn r) (l ∷ lowersIn r)
+unfoldable pub cellLowers : List ℕ → List ℕ
+cellLowers [] = []
+cellLowers (l ∷ []) = []
+cellLowers (l ∷ u ∷ r) = cond (eqb l u) (cellLowers r) (l ∷ cellLowers r)
 
-unfoldable pub uppersIn : List ℕ → List ℕ
-uppersIn [] = []
-uppersIn (l ∷ []) = []
-uppersIn (l ∷ u ∷ r) = cond (eqb l u) (uppersIn r) (u ∷ uppersIn r)
+unfoldable pub cellUppers : List ℕ → List ℕ
+cellUppers [] = []
+cellUppers (l ∷ []) = []
+cellUppers (l ∷ u ∷ r) = cond (eqb l u) (cellUppers r) (u ∷ cellUppers r)
 
 -- Reference 3.4: one list, as it is kept
 unfoldable pub keptBytes : List ℕ → List ℕ
-keptBytes c = cellsBytes (cellSingles c) ++ cellsBytes (lowersIn c) ++ cellsBytes (uppersIn c)
+keptBytes c = cellsBytes (cellSingles c) ++ cellsBytes (cellLowers c) ++ cellsBytes (cellUppers c)
 
 -- Reference 3.2: the intervals of a word's records
 abbrev pub cellsIn : ℕ → List ℕ → List ℕ
@@ -56,7 +56,7 @@ wordsBytes (w ∷ ws) = w ++ wordsBytes ws
 
 -- Reference 4.3: an entry
 abbrev pub entryBytes : ℕ → List ℕ → ℕ → List ℕ → List ℕ
-entryBytes wordAt w listAt c = cellsBytes (wordAt ∷ length w ∷ listAt ∷ length (cellSingles c) ∷ length (lowersIn c) ∷ [])
+entryBytes wordAt w listAt c = cellsBytes (wordAt ∷ length w ∷ listAt ∷ length (cellSingles c) ∷ length (cellLowers c) ∷ [])
 
 -- Reference 4.3: the directory of words and lists, of which the first start at wordAt and listAt
 unfoldable pub directoryBytes : ℕ → ℕ → ℕ → List (List ℕ) → List (List ℕ) → List ℕ

@@ -3,7 +3,7 @@ ghost use mathlib.Core.Path.{_≡_};
 ghost use Prim.Native.Nat.{_≤_};
 ghost use lib.ListN.{length};
 ghost use Rattle.convert.specs.Convert.{badNumberOf, intervalsOf};
-ghost use Rattle.convert.specs.Front.{inFront};
+ghost use Rattle.list.specs.Front.{inFront};
 ghost use Rattle.layout.specs.Laid.{entered, enteredTo, EnteredWithin};
 use crate::cells::put_five;
 use crate::kept::write_list;

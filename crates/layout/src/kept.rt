@@ -4,7 +4,7 @@ ghost use Prim.Native.Nat.{_≤_};
 ghost use lib.Dec.{eqb};
 ghost use lib.ListN.{length};
 ghost use Rattle.convert.specs.Convert.{badNumberOf, intervalsOf};
-ghost use Rattle.convert.specs.Front.{inFront};
+ghost use Rattle.list.specs.Front.{inFront};
 ghost use Rattle.layout.specs.Layout.{keptBytes};
 ghost use Rattle.layout.specs.Laid.{ListCountsOf, laid, laidTo, LaidWithin};
 use crate::cells::put_cell;

@@ -4,9 +4,10 @@ use mathlib.Core.Path.{_≡_}
 use mathlib.Core.Bool.{cond}
 use mathlib.Core.List.{List, [], _∷_, _++_}
 use lib.Dec.{ltb}
-use lib.ListN.{length, take, drop}
+use lib.ListN.{length, take}
 use lib.Seq.{sets}
 use Rattle.refusal.specs.Refusal.{numberOf, valueOf}
+use Rattle.list.specs.Front.{inFront}
 use Rattle.list.specs.declared.answer.Tally.{Tally}
 use Rattle.list.specs.declared.answer.Answer.{Answer}
 use Rattle.list.specs.declared.answer.Answer.the-variants.{Listed, Refused}
@@ -59,4 +60,4 @@ pub record PutText (out : List ℕ) (at : ℕ) (text out′ : List ℕ) (r : ℕ
 -- Reference 10: a text put from byte 0 on, and how long it is
 pub record PutFirst (out text out′ : List ℕ) (r : ℕ) : Type 0 where
   pub size : r ≡ length text
-  pub bytes : out′ ≡ text ++ drop (length text) out
+  pub bytes : out′ ≡ inFront text out

@@ -79,7 +79,8 @@ kept-more true x a b h = omega arith
 kept-more false x a b h = h
 
 more-step : (l u x k : ℕ) (r : List ℕ) → starts (l ∷ u ∷ r) (x + 1) k ≤ 1 + starts r (x + 1) k → Dec (x ≡ l) →
-    length (consIf (startsAt (l ∷ u ∷ r) x) x (recordsFrom (startsAt (l ∷ u ∷ r)) (x + 1) k)) ≤ 1 + length (consIf (startsAt r x) x (recordsFrom (startsAt r) (x + 1) k))
+    length (consIf (startsAt (l ∷ u ∷ r) x) x (recordsFrom (startsAt (l ∷ u ∷ r)) (x + 1) k))
+    ≤ 1 + length (consIf (startsAt r x) x (recordsFrom (startsAt r) (x + 1) k))
 more-step l u x k r ih (yes e) =
     let s = recordsFrom-same (startsAt (l ∷ u ∷ r)) (startsAt r) (x + 1) k (λ y h g. past-start l u y r (λ (f : y ≡ l). omega arith)) in
     omega (

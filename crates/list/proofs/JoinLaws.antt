@@ -74,7 +74,8 @@ unfolding unionOf
 union-limit n cs h p = cells-limit (inSome cs) n recordMax h (λ x g w. inSome-above n x cs p g)
 
 -- one list within 1 to n is enough
-pub intersection-limit : (n : ℕ) (c : List ℕ) (cs : List (List ℕ)) → n ≤ recordMax → isProper n c ≡ true → cellsOf (inEvery (c ∷ cs)) n ≡ intersectionOf (c ∷ cs)
+pub intersection-limit : (n : ℕ) (c : List ℕ) (cs : List (List ℕ)) → n ≤ recordMax → isProper n c ≡ true →
+    cellsOf (inEvery (c ∷ cs)) n ≡ intersectionOf (c ∷ cs)
 unfolding intersectionOf
 intersection-limit n c cs h p = cells-limit (inEvery (c ∷ cs)) n recordMax h (λ x g w. inEvery-above n x c cs p g)
 

@@ -22,7 +22,8 @@ Left S L at k = (at .p .0 ≤ length S) × (at .q .0 ≤ length L) × ((length S
 
 count-step : (S L U : List ℕ) (at : Place) (k : ℕ) (v : Bool) → areLonger L U ≡ true → singleNext S L (at .p .0) (at .q .0) ≡ v → Left S L at (suc k) →
     ((to : Place) → Left S L to k → heldFrom S L to ≤ records (walkFrom S L U to k)) →
-    heldFrom S L at ≤ cond v (getD S (at .p .0) 0) (getD U (at .q .0) 0) + 1 - cond v (getD S (at .p .0) 0) (getD L (at .q .0) 0) + records (walkFrom S L U (moved v at) k)
+    heldFrom S L at ≤ cond v (getD S (at .p .0) 0) (getD U (at .q .0) 0) + 1 - cond v (getD S (at .p .0) 0) (getD L (at .q .0) 0)
+    + records (walkFrom S L U (moved v at) k)
 count-step S L U at k true e f w ih =
     let h = single-next-left S L (at .p .0) (at .q .0) f in
     omega (arith, ih (moved true at) (omega arith, w .1, omega arith))

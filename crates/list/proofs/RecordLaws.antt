@@ -136,7 +136,8 @@ among-above n k x (y ∷ ys) p h = rw (ne-eqb x y (λ (e : x ≡ y). omega arith
 among-first : (p : ℕ → Bool) (x k : ℕ) (v : Bool) → among (consIf v x (recordsFrom p (x + 1) k)) x ≡ v
 unfolding among
 among-first p x k true = rw (eq-eqb x x refl)
-among-first p x k false = among-below (x + k) x x (recordsFrom p (x + 1) k) (recordsFrom-ascends p (x + k) x (x + 1) k (omega arith) (omega arith)) (omega arith)
+among-first p x k false = among-below (x + k) x x (recordsFrom p (x + 1) k) (recordsFrom-ascends p (x + k) x (x + 1) k (omega arith) (omega arith))
+    (omega arith)
 
 among-later : (p : ℕ → Bool) (x k y : ℕ) (v : Bool) → x < y → among (recordsFrom p (x + 1) k) y ≡ p y → among (consIf v x (recordsFrom p (x + 1) k)) y ≡ p y
 unfolding among

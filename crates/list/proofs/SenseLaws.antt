@@ -120,7 +120,8 @@ module _ (S L U : List ℕ) (n x : ℕ) (k : Kept n S L U) where
         same = λ y l u. walked-names S L U (k .long) y ∙ rw (among-at S y (countBelow x S) h (omega arith));
       }
 
-  pub sense-pair : n ≤ recordMax → countBelow x U < length L → getD L (countBelow x U) 0 ≤ x → Steady (names (walked S L U)) x true (getD U (countBelow x U) 0 + 1)
+  pub sense-pair : n ≤ recordMax → countBelow x U < length L → getD L (countBelow x U) 0 ≤ x →
+      Steady (names (walked S L U)) x true (getD U (countBelow x U) 0 + 1)
   sense-pair m h g =
       let long = k .long in
       let a = count-ahead 0 x U (k .upper-ascend) (countBelow x U) (omega arith) (omega arith) in

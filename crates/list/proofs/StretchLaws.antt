@@ -201,7 +201,8 @@ stretches-skip p v (suc j) x (suc k) h q =
     let e : p x ≡ v = q x (omega arith) (omega arith) in
     let s : x + 1 + j ≡ x + suc j = omega arith in
     let t : k - j ≡ suc k - suc j = omega arith in
-    let i : stretches p v (x + 1) k ≡ stretches p v (x + 1 + j) (k - j) = stretches-skip p v j (x + 1) k (omega arith) (λ y f g. q y (omega arith) (omega arith)) in
+    let i : stretches p v (x + 1) k ≡ stretches p v (x + 1 + j) (k - j) =
+    stretches-skip p v j (x + 1) k (omega arith) (λ y f g. q y (omega arith) (omega arith)) in
     rw (e, turned-same v x (stretches p v (x + 1) k), i, s, t)
 
 -- from x to below y the value is v: x alone can bring a cell

@@ -5,7 +5,7 @@ use native.Mathlib.Omega.{arith}
 use native.Mathlib.Nat.{zero-add}
 use mathlib.Core.Bool.{Bool, true, false, cond}
 use mathlib.Core.List.{List, [], _∷_, _++_, append-nil, append-assoc}
-use lib.ListN.{length, drop, set, length-append}
+use lib.ListN.{length, set, length-append}
 use lib.Seq.{sets, length-sets}
 use Rattle.laws.proofs.Tests.{leb-cases}
 use Rattle.laws.proofs.Lists.{sets-two, sets-front, sets-append}
@@ -13,6 +13,7 @@ use Rattle.list.specs.Interval.{records}
 use Rattle.list.specs.Stretches.{stretches, cellsOf, recordsFrom, recordsOf}
 use Rattle.list.proofs.StretchLaws.{cells-start, cells-length, stretches-on, stretches-end}
 use Rattle.list.proofs.RecordLaws.{recordsFrom-parts, recordsFrom-length, records-count}
+use Rattle.list.specs.Front.{inFront}
 
 -- the numbers below x are swept: k cells are done, recs records are counted, and b says whether x - 1 is in
 pub record Swept (p : ℕ → Bool) (n : ℕ) (writing : Bool) (out₀ out : List ℕ) (b : Bool) (x k recs : ℕ) : Type 0 where
@@ -67,7 +68,8 @@ none-in p x zero h = refl
 none-in p x (suc k) h = rw (h x (omega arith) (omega arith)) (none-in p (x + 1) k (λ y f g. h y (omega arith) (omega arith)))
 
 -- from x on to y
-pub members-on : (p : ℕ → Bool) (x y : ℕ) → 1 ≤ x → x ≤ y → length (recordsFrom p 1 (y - 1)) ≡ length (recordsFrom p 1 (x - 1)) + length (recordsFrom p x (y - x))
+pub members-on : (p : ℕ → Bool) (x y : ℕ) → 1 ≤ x → x ≤ y →
+    length (recordsFrom p 1 (y - 1)) ≡ length (recordsFrom p 1 (x - 1)) + length (recordsFrom p x (y - x))
 members-on p x y h g =
     let e : y - 1 ≡ x - 1 + (y - x) = omega arith in
     let s : 1 + (x - 1) ≡ x = omega arith in
@@ -106,7 +108,8 @@ module _ {p : ℕ → Bool} {n : ℕ} {writing : Bool} {out₀ out : List ℕ} {
         (λ a. let e : u + 1 - 1 ≡ u = omega arith in stretches-end p true n (u + 1) (omega arith) ∙ rw (e, stretches-end p false n (u + 1) (omega arith)))
         (λ a. let e : u + 1 - 1 ≡ u = omega arith in
         stretches-on p true false n (u + 1) (u + 2) (omega arith) (omega arith) (λ z f g. let w : z ≡ u + 1 = omega arith in ap p w ∙ stop a)
-        ∙ rw e (ap (λ (r : List ℕ). u ∷ r) (sym (stretches-on p false false n (u + 1) (u + 2) (omega arith) (omega arith) (λ z f g. let w : z ≡ u + 1 = omega arith in ap p w ∙ stop a)))))
+        ∙ rw e (ap (λ (r : List ℕ). u ∷ r)
+        (sym (stretches-on p false false n (u + 1) (u + 2) (omega arith) (omega arith) (λ z f g. let w : z ≡ u + 1 = omega arith in ap p w ∙ stop a)))))
 
     stretch : stretches p false x (n + 1 - x) ≡ l ∷ u ∷ stretches p false (u + 1) (n + 1 - (u + 1))
     stretch =
@@ -124,12 +127,21 @@ module _ {p : ℕ → Bool} {n : ℕ} {writing : Bool} {out₀ out : List ℕ} {
     pub swept-room : writing ≡ true → length (cellsOf p n) ≤ length out₀ → k + 2 ≤ length out
     swept-room w h =
         let o : out ≡ sets out₀ 0 (s .done) = s .written ∙ ap (λ (t : Bool). cond t (sets out₀ 0 (s .done)) out₀) w in
-        omega (arith, ap length put-left, length-append (s .done ++ l ∷ u ∷ []) (stretches p false (u + 1) (n + 1 - (u + 1))), put-count, ap length o, length-sets out₀ 0 (s .done))
+        omega (
+          arith,
+          ap length put-left,
+          length-append (s .done ++ l ∷ u ∷ []) (stretches p false (u + 1) (n + 1 - (u + 1))),
+          put-count,
+          ap length o,
+          length-sets out₀ 0 (s .done),
+        )
 
     put-written : (w : Bool) → writing ≡ w → cond w (set (set out k l) (k + 1) u) out ≡ cond w (sets out₀ 0 (s .done ++ l ∷ u ∷ [])) out₀
     put-written true e =
         let o : out ≡ sets out₀ 0 (s .done) = s .written ∙ ap (λ (t : Bool). cond t (sets out₀ 0 (s .done)) out₀) e in
-        sym (sets-two out k l u []) ∙ ap (λ (o : List ℕ). sets o k (l ∷ u ∷ [])) o ∙ ap (λ (j : ℕ). sets (sets out₀ 0 (s .done)) j (l ∷ u ∷ [])) (sym (zero-add k) ∙ ap (λ (j : ℕ). 0 + j) (sym (s .count))) ∙ sym (sets-append out₀ 0 (s .done) (l ∷ u ∷ []))
+        sym (sets-two out k l u []) ∙ ap (λ (o : List ℕ). sets o k (l ∷ u ∷ [])) o
+        ∙ ap (λ (j : ℕ). sets (sets out₀ 0 (s .done)) j (l ∷ u ∷ [])) (sym (zero-add k) ∙ ap (λ (j : ℕ). 0 + j) (sym (s .count)))
+        ∙ sym (sets-append out₀ 0 (s .done) (l ∷ u ∷ []))
     put-written false e = s .written ∙ ap (λ (t : Bool). cond t (sets out₀ 0 (s .done)) out₀) e
 
     pub swept-put : Swept p n writing out₀ (cond writing (set (set out k l) (k + 1) u) out) false (u + 1) (k + 2) (recs + (u + 1 - l))
@@ -138,7 +150,12 @@ module _ {p : ℕ → Bool} {n : ℕ} {writing : Bool} {out₀ out : List ℕ} {
       count = put-count;
       left = put-left;
       written = put-written writing refl;
-      members = let a = s .near in omega (arith, s .members, members-none p x l (a .0) xl low, members-all p l (u + 1) (omega arith) (omega arith) (λ z f g. high z f (omega arith)));
+      members = let a = s .near in omega (
+        arith,
+        s .members,
+        members-none p x l (a .0) xl low,
+        members-all p l (u + 1) (omega arith) (omega arith) (λ z f g. high z f (omega arith)),
+      );
       near = (omega arith, omega arith);
     }
 
@@ -155,9 +172,10 @@ module _ {p : ℕ → Bool} {n : ℕ} {writing : Bool} {out₀ out : List ℕ} {
   unfolding recordsOf
   swept-records = let e : n + 1 - 1 ≡ n = omega arith in s .members ∙ ap (λ (j : ℕ). length (recordsFrom p 1 j)) e ∙ sym (records-count p n)
 
-  pub swept-written : (writing ≡ true → length (cellsOf p n) ≤ length out₀) → out ≡ cond writing (cellsOf p n ++ drop (length (cellsOf p n)) out₀) out₀
+  pub swept-written : (writing ≡ true → length (cellsOf p n) ≤ length out₀) → out ≡ cond writing (inFront (cellsOf p n) out₀) out₀
   swept-written h = go writing refl
     where
-      go : (w : Bool) → writing ≡ w → out ≡ cond w (cellsOf p n ++ drop (length (cellsOf p n)) out₀) out₀
-      go true e = s .written ∙ ap (λ (t : Bool). cond t (sets out₀ 0 (s .done)) out₀) e ∙ ap (sets out₀ 0) (sym swept-cells) ∙ sets-front (cellsOf p n) out₀ (h e)
+      go : (w : Bool) → writing ≡ w → out ≡ cond w (inFront (cellsOf p n) out₀) out₀
+      go true e = s .written ∙ ap (λ (t : Bool). cond t (sets out₀ 0 (s .done)) out₀) e ∙ ap (sets out₀ 0) (sym swept-cells)
+          ∙ sets-front (cellsOf p n) out₀ (h e)
       go false e = s .written ∙ ap (λ (t : Bool). cond t (sets out₀ 0 (s .done)) out₀) e

@@ -2,14 +2,15 @@
 use Prim.Native.Nat.{ℕ, _/_, _≤_}
 use mathlib.Core.Path.{_≡_}
 use mathlib.Core.Bool.{Bool, true, cond}
-use mathlib.Core.List.{List, _++_}
+use mathlib.Core.List.{List}
 use lib.Dec.{leb}
-use lib.ListN.{length, drop}
+use lib.ListN.{length}
 use Rattle.refusal.specs.declared.Refusal.the-variants.{Room}
 use Rattle.list.specs.declared.answer.Tally.{Tally}
 use Rattle.list.specs.declared.answer.Answer.{Answer}
 use Rattle.list.specs.declared.answer.Answer.the-variants.{Listed, Refused}
 use Rattle.list.specs.Interval.{intervals, records}
+use Rattle.list.specs.Front.{inFront}
 
 -- Reference 7: what is reported of the list c
 abbrev pub tallyOf : List ℕ → Tally
@@ -21,7 +22,7 @@ listAnswer c room = cond (leb (intervals c) room) (Listed (tallyOf c)) (Refused 
 
 -- Reference 7: the list stands in front, and the cells behind it stay
 abbrev pub listCells : List ℕ → ℕ → List ℕ → List ℕ
-listCells c room out = cond (leb (intervals c) room) (c ++ drop (length c) out) out
+listCells c room out = cond (leb (intervals c) room) (inFront c out) out
 
 -- all but refusal 12 is excluded: the list c, or that refusal
 pub record Listing (c out out′ : List ℕ) (r : Answer) : Type 0 where
@@ -35,4 +36,4 @@ HasRoom c writing out = writing ≡ true → length c ≤ length out
 -- what a pass does: it counts the list c, and writes it where it is asked to
 pub record Sweeps (c : List ℕ) (writing : Bool) (out out′ : List ℕ) (r : Tally) : Type 0 where
   pub tally : r ≡ tallyOf c
-  pub cells : out′ ≡ cond writing (c ++ drop (length c) out) out
+  pub cells : out′ ≡ cond writing (inFront c out) out

@@ -4,6 +4,7 @@ pub mod Stretches
 pub mod Ginix
 pub mod Cell
 pub mod Kept
+pub mod Front
 pub mod Answer
 pub mod Seek
 pub mod Passed

@@ -35,14 +35,16 @@ module _ (R : RattleType) (one : Single (R .mir)) (spell : R .Denot → List Val
     pub cells-in : Is (Array R n) xs (mach xs ∷ []) → ent 𝓤 (sem 𝓤 H A (fat fullShare arrayTy b o (mach xs))) (sem 𝓤 H A (cells (mem R) xs b o))
     unfolding partOf
     cells-in is =
-        qed W (‵ (fat fullShare arrayTy b o (mach xs)) ∷ []) ∵ use1 W (‵ (cellAt fullShare (Array R n .mir) (mach xs ∷ []) b o)) (W .laws .at-raw fullShare arrayTy b o (mach xs)) $
+        qed W (‵ (fat fullShare arrayTy b o (mach xs)) ∷ []) ∵ use1 W (‵ (cellAt fullShare (Array R n .mir) (mach xs ∷ []) b o))
+        (W .laws .at-raw fullShare arrayTy b o (mach xs)) $
         owned ! (Array R n) (Is (Array R n)) (array-makes 𝓤 H A W R made n) xs (mach xs ∷ []) is $ move ! (1 ∷ 0 ∷ []) $ fjoin ! $
         fpack ! (List Val) (λ vs. fsep (cellAt fullShare (Array R n .mir) vs b o) (Array R n .own xs vs)) (mach xs ∷ []) $
         use1 W (‵ (fsep (feq ℕ (length xs) n) (row R fullShare xs b o))) (array-apart 𝓤 H A W R fullShare one n xs b o) $ fsplit ! $ drop ! $
         use1 W (‵ (cells (mem R) xs b o)) (whole-in 𝓤 H A W R xs b o) $ done !
 
     -- n elements make the local's cell, and it holds that array
-    pub cells-out : length xs ≡ n → ent 𝓤 (sem 𝓤 H A (cells (mem R) xs b o)) (guard 𝓤 (Is (Array R n) xs (mach xs ∷ [])) (sem 𝓤 H A (fat fullShare arrayTy b o (mach xs))))
+    pub cells-out : length xs ≡ n →
+        ent 𝓤 (sem 𝓤 H A (cells (mem R) xs b o)) (guard 𝓤 (Is (Array R n) xs (mach xs ∷ [])) (sem 𝓤 H A (fat fullShare arrayTy b o (mach xs))))
     unfolding partOf
     cells-out l =
         qed W (‵ (cells (mem R) xs b o) ∷ []) ∵ use1 W (‵ (row R fullShare xs b o)) (whole-out 𝓤 H A W R xs b o) $ feqI ! ℕ (length xs) n l $ fjoin ! $

@@ -30,7 +30,8 @@ module _ {index : List ℕ} {i : ℕ} (n : EntryIn index i) {at : Place} (g : Go
   bounds-of : (t : Bool) → singleNext (entrySingles index i) (entryLowers index i) (at .p .0) (at .q .0) ≡ t →
       (cond t (getD (entrySingles index i) (at .p .0) 0) (getD (entryLowers index i) (at .q .0) 0) ≤ highest index)
       × (cond t (getD (entrySingles index i) (at .p .0) 0) (getD (entryUppers index i) (at .q .0) 0) ≤ highest index)
-  bounds-of true e = let b = entry-kept n .single-at (at .p .0) (single-next-left (entrySingles index i) (entryLowers index i) (at .p .0) (at .q .0) e) in (b .1, b .1)
+  bounds-of true e = let b = entry-kept n .single-at (at .p .0) (single-next-left (entrySingles index i) (entryLowers index i) (at .p .0) (at .q .0) e) in
+      (b .1, b .1)
   bounds-of false e =
       let b = entry-kept n .pair-at (at .q .0) (pair-next-left (entrySingles index i) (entryLowers index i) (at .p .0) (at .q .0) e (g .single) (g .more)) in
       (omega arith, b .2)
@@ -64,7 +65,8 @@ pub record ReadAt (index entries : List ℕ) (j : ℕ) (at : Place) (most : ℕ)
   pub begun : 1 ≤ from
   pub near : from ≤ most
   pub high : highest index ≤ recordMax
-  pub read : ReadTo (highest index) (entrySingles index (getD entries j 0)) (entryLowers index (getD entries j 0)) (entryUppers index (getD entries j 0)) at from
+  pub read : ReadTo (highest index) (entrySingles index (getD entries j 0)) (entryLowers index (getD entries j 0))
+      (entryUppers index (getD entries j 0)) at from
 
 -- so each at its place
 pub record AllRead (index entries : List ℕ) (places : List Place) (most : ℕ) : Type 0 where
@@ -134,7 +136,8 @@ module _ {index entries : List ℕ} {j : ℕ} {at : Place} {most : ℕ} (r : Rea
     unfolding listOf
     next-before x h f = read-before (r .read) g x (let n = r .near in omega arith) f
 
-    pub next-inside : (x : ℕ) → nextLowerIn index (getD entries j 0) at ≤ x → x ≤ nextUpperIn index (getD entries j 0) at → names (listOf index (getD entries j 0)) x ≡ true
+    pub next-inside : (x : ℕ) → nextLowerIn index (getD entries j 0) at ≤ x → x ≤ nextUpperIn index (getD entries j 0) at →
+        names (listOf index (getD entries j 0)) x ≡ true
     unfolding listOf
     next-inside x h f = read-inside (r .read) g x h f
 
@@ -148,14 +151,21 @@ module _ {index entries : List ℕ} {j : ℕ} {at : Place} {most : ℕ} (r : Rea
     next-later n = read-bounds (read-next (r .read) g) n .0
 
     pub read-on : ReadAt index entries j (placeBehind index (getD entries j 0) at) (nextUpperIn index (getD entries j 0) at + 2)
-    read-on = record { from = nextUpperIn index (getD entries j 0) at + 2; begun = omega arith; near = omega arith; high = r .high; read = read-next (r .read) g }
+    read-on = record {
+      from = nextUpperIn index (getD entries j 0) at + 2;
+      begun = omega arith;
+      near = omega arith;
+      high = r .high;
+      read = read-next (r .read) g;
+    }
 
   -- the list is used up
   pub quiet-used : usedUp index (getD entries j 0) at ≡ true → (x : ℕ) → most ≤ x + 1 → names (listOf index (getD entries j 0)) x ≡ false
   unfolding listOf
   quiet-used t x h =
       let n = r .near in
-      read-end (r .read) (leb-true (length (entrySingles index (getD entries j 0)) + length (entryLowers index (getD entries j 0))) (at .p .0 + at .q .0) t) x (omega arith)
+      read-end (r .read) (leb-true (length (entrySingles index (getD entries j 0)) + length (entryLowers index (getD entries j 0))) (at .p .0 + at .q .0) t) x
+      (omega arith)
 
   -- no mark below m is due: the list names nothing below m
   pub quiet-below : (m : ℕ) → ((b : ℕ) (bs : List ℕ) → lowerDue index (getD entries j 0) at ≡ b ∷ bs → lowerMark m ≤ b) →
@@ -173,7 +183,8 @@ module _ {index entries : List ℕ} {j : ℕ} {at : Place} {most : ℕ} (r : Rea
 
 -- ---- list j goes on
 
-pub all-read-later : {index entries : List ℕ} {places : List Place} {most most′ : ℕ} → AllRead index entries places most → most ≤ most′ → AllRead index entries places most′
+pub all-read-later : {index entries : List ℕ} {places : List Place} {most most′ : ℕ} → AllRead index entries places most → most ≤ most′ →
+    AllRead index entries places most′
 all-read-later r h = record { wide = r .wide; list = λ j n. read-later (r .list j n) h }
 
 module _ (index entries : List ℕ) (places : List Place) (j : ℕ) where
@@ -195,7 +206,8 @@ module _ {index entries : List ℕ} (asked : SoundRequest index entries) {places
     pub read-at-on : ReadAt index entries j (getD (placesOn index entries places j) j start) (upperNext index entries places j + 2)
     read-at-on = rw places-own (read-on (r .list j h) g)
 
-    pub on-later : GoesAt index entries (placesOn index entries places j) j → upperNext index entries places j + 2 ≤ lowerNext index entries (placesOn index entries places j) j
+    pub on-later : GoesAt index entries (placesOn index entries places j) j →
+        upperNext index entries places j + 2 ≤ lowerNext index entries (placesOn index entries places j) j
     on-later n = rw places-own (next-later (r .list j h) g (rw places-own at n))
 
     pub all-read-on : {most′ : ℕ} → most ≤ most′ → upperNext index entries places j + 2 ≤ most′ → AllRead index entries (placesOn index entries places j) most′
@@ -209,7 +221,8 @@ module _ {index entries : List ℕ} (asked : SoundRequest index entries) {places
     left-less e = rw e (
         let f = next-fits (entrySingles index (getD entries j 0)) (entryLowers index (getD entries j 0)) (getD places j start) g in
         let m = g .more in
-        let left : ℕ → Place → ℕ = λ i at. length (entrySingles index (getD entries i 0)) + length (entryLowers index (getD entries i 0)) - (at .p .0 + at .q .0) in
+        let left : ℕ → Place → ℕ = λ i at. length (entrySingles index (getD entries i 0))
+        + length (entryLowers index (getD entries i 0)) - (at .p .0 + at .q .0) in
         let own = ap (left j) places-own in
         let c = sum-change (leftOf index entries places) (leftOf index entries (placesOn index entries places j)) (length entries) j h
         (λ i w ne. ap (left i) (sym (places-other index entries places j i ne))) in

@@ -13,7 +13,7 @@ use Rattle.directory.specs.Entry.{entryCheck, entryWord}
 use Rattle.index.proofs.SoundLaws.{part-length, sound-word-room}
 use Rattle.directory.proofs.AnswerLaws.{entry-good, start-answered, start-refused, length-answered, length-refused}
 use Rattle.naburain.specs.declared.PartResult.{PartResult}
-use Rattle.naburain.specs.Result.{wordResult}
+use Rattle.naburain.specs.Result.{wordResult, partResult}
 use Rattle.naburain.specs.Agree.{Reported}
 
 -- 0 is the number of no refusal, so that a caller tells an answer by it
@@ -70,6 +70,6 @@ agree-at index i (Refused x) e =
 
 -- any return that the contract of the one call allows, and any that the other's does
 pub word-parts-agree : (index : Slice) (i : ℕ) (r : Slice) (w : PartResult) →
-    r ≡ entryWord index i → w ≡ wordResult (entryCheck (index .bytes) i) (wordStart (index .bytes) i) (wordLength (index .bytes) i) →
+    r ≡ entryWord index i → w ≡ partResult (index .bytes) i →
     Reported index i r w
 word-parts-agree index i r w p q = rw (p, q) (agree-at index i (entryCheck (index .bytes) i) refl)

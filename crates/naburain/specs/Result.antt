@@ -1,5 +1,6 @@
 -- Reference 7: what the exported calls return, the refusal's number and value, or 0 and 0, and then what the call reports, 0 where it was refused.
 use Prim.Native.Nat.{ℕ}
+use mathlib.Core.List.{List}
 use Rattle.refusal.specs.Refusal.{numberOf, valueOf}
 use Rattle.list.specs.declared.Written.{Written}
 use Rattle.list.specs.declared.Written.the-variants as written
@@ -7,6 +8,8 @@ use Rattle.list.specs.declared.answer.Answer.{Answer}
 use Rattle.list.specs.declared.answer.Answer.the-variants as answer
 use Rattle.index.specs.declared.Checked.{Checked}
 use Rattle.index.specs.declared.Checked.the-variants as checked
+use Rattle.index.specs.Format.{wordStart, wordLength}
+use Rattle.directory.specs.Entry.{entryCheck}
 use Rattle.directory.specs.declared.Lookup.{Lookup}
 use Rattle.directory.specs.declared.Lookup.the-variants.{Entry, NoEntry}
 use Rattle.directory.specs.declared.Probed.{Probed}
@@ -32,6 +35,9 @@ lookupResult (NoEntry r) = record { refusal = numberOf r; value = valueOf r; ent
 abbrev pub wordResult : Checked → ℕ → ℕ → PartResult
 wordResult checked.Good start length = record { refusal = 0; value = 0; start = start; length = length }
 wordResult (checked.Refused r) start length = record { refusal = numberOf r; value = valueOf r; start = 0; length = 0 }
+
+abbrev pub partResult : List ℕ → ℕ → PartResult
+partResult index i = wordResult (entryCheck index i) (wordStart index i) (wordLength index i)
 
 -- Reference 8.4
 abbrev pub probeResult : Probed → ProbedResult

@@ -1,9 +1,8 @@
 // The calls for C programs (Reference 8): numbers and slices in, a struct of numbers out by value, so that a refused call writes nothing anywhere.
 ghost use mathlib.Core.Path.{_≡_};
-ghost use Rattle.index.specs.Format.{wordStart, wordLength};
 ghost use Rattle.index.specs.Check.{checkOf};
-ghost use Rattle.directory.specs.Entry.{lookupOf, entryCheck, probeOf};
-ghost use Rattle.naburain.specs.Result.{checkResult, lookupResult, wordResult, probeResult, writeResult, answerResult};
+ghost use Rattle.directory.specs.Entry.{lookupOf, probeOf};
+ghost use Rattle.naburain.specs.Result.{checkResult, lookupResult, partResult, probeResult, writeResult, answerResult};
 ghost use Rattle.list.specs.Ginix.{unionOf, intersectionOf};
 ghost use Rattle.naburain.specs.Exported.{IntervalsExported, NumbersExported, JoinExported, AskExported, BuildExported};
 use directory::Lookup;
@@ -164,7 +163,7 @@ pub extern "C" fn naburain_lookup(index: &[u8], word: &[u8]) -> FoundResult
 // Reference 8.3: where the word of an entry stands in the index; refusals 1 to 5, 14.
 #[no_mangle]
 pub extern "C" fn naburain_word(index: &[u8], entry: u32) -> PartResult
-    ensures { λ r. ⌜ r ≡ wordResult (entryCheck (now (index .entry)) entry) (wordStart (now (index .entry)) entry) (wordLength (now (index .entry)) entry) ⌝ }
+    ensures { λ r. ⌜ r ≡ partResult (now (index .entry)) entry ⌝ }
 {
     match directory::entry::entry_refusal(index, entry) {
         Checked::Good => {

@@ -21,7 +21,8 @@ use Rattle.probing.specs.Probing.{cellsBetween, PiecesFit, PiecesPut}
 
 -- ---- it has whole intervals
 
-even-step : (p : ℕ → Bool) (x k l : ℕ) (b v : Bool) → ((h : ℕ) → 2 * (length (consIf v h (stretches p v (x + 1) k)) / 2) ≡ length (consIf v h (stretches p v (x + 1) k))) →
+even-step : (p : ℕ → Bool) (x k l : ℕ) (b v : Bool) →
+    ((h : ℕ) → 2 * (length (consIf v h (stretches p v (x + 1) k)) / 2) ≡ length (consIf v h (stretches p v (x + 1) k))) →
     2 * (length (consIf b l (turned b v x (stretches p v (x + 1) k))) / 2) ≡ length (consIf b l (turned b v x (stretches p v (x + 1) k)))
 even-step p x k l false false ih = ih l
 even-step p x k l false true ih = ih x
@@ -94,7 +95,8 @@ module _ {p : ℕ → Bool} {writing : Bool} {out₀ out : List ℕ} {t : Tally}
   done-count : length (at-a .done ++ cellsBetween p a b) ≡ 2 * t .intervals + length (cellsBetween p a b)
   done-count = length-append (at-a .done) (cellsBetween p a b) ∙ ap (λ (i : ℕ). i + length (cellsBetween p a b)) (at-a .count)
 
-  done-written : (w : Bool) → writing ≡ w → cond w (sets out (2 * t .intervals) (cellsBetween p a b)) out ≡ cond w (sets out₀ 0 (at-a .done ++ cellsBetween p a b)) out₀
+  done-written : (w : Bool) → writing ≡ w →
+      cond w (sets out (2 * t .intervals) (cellsBetween p a b)) out ≡ cond w (sets out₀ 0 (at-a .done ++ cellsBetween p a b)) out₀
   done-written true e =
       let o : out ≡ sets out₀ 0 (at-a .done) = at-a .written ∙ ap (λ (v : Bool). cond v (sets out₀ 0 (at-a .done)) out₀) e in
       let c : 2 * t .intervals ≡ 0 + length (at-a .done) = sym (at-a .count) ∙ sym (zero-add (length (at-a .done))) in

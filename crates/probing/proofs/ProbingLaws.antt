@@ -32,7 +32,8 @@ pub record Best (index entries : List ℕ) (best fewest j : ℕ) : Type 0 where
   pub counts : fewest ≡ intervals (listOf index (getD entries best 0))
   pub least : (i : ℕ) → i < j → fewest ≤ intervals (listOf index (getD entries i 0))
 
-pub best-start : {index entries : List ℕ} {fewest : ℕ} → 1 ≤ length entries → fewest ≡ intervals (listOf index (getD entries 0 0)) → Best index entries 0 fewest 1
+pub best-start : {index entries : List ℕ} {fewest : ℕ} → 1 ≤ length entries → fewest ≡ intervals (listOf index (getD entries 0 0)) →
+    Best index entries 0 fewest 1
 best-start h e = record { inside = h; within = h; counts = e; least = λ i g. let z : i ≡ 0 = omega arith in rw z (omega arith) }
 
 module _ {index entries : List ℕ} {best fewest j count : ℕ} (b : Best index entries best fewest j) (h : j < length entries)
@@ -48,7 +49,8 @@ module _ {index entries : List ℕ} {best fewest j count : ℕ} (b : Best index 
 
 -- ---- a list that x is not in decides
 
-pub probe-out : {index entries : List ℕ} {j x until b : ℕ} {inside : Bool} → StandsIn index entries j x b → x ≤ b → (k : ℕ) → k < length entries → inside ≡ false →
+pub probe-out : {index entries : List ℕ} {j x until b : ℕ} {inside : Bool} → StandsIn index entries j x b → x ≤ b → (k : ℕ) → k < length entries →
+    inside ≡ false →
     Steady (names (listOf index (getD entries k 0))) x inside until → Steady (inAll index entries) x false (min until (b + 1))
 probe-out {index} {entries} w g k h o s =
     let m = w .high in
@@ -105,7 +107,8 @@ cells-put-long false out out′ t c r q = ap length (q .cells)
 
 module _ {writing : Bool} {out₀ : List ℕ} {t₀ : Tally} {c₀ out : List ℕ} {t : Tally} where
   -- the first interval of what is left fits, where all does
-  left-fits : {l u : ℕ} {c : List ℕ} → l ≤ u → u ≤ recordMax → Left writing out₀ t₀ c₀ out t (l ∷ u ∷ c) → PiecesFit writing out₀ t₀ c₀ → Fitting writing out t (record { lower = l; upper = u })
+  left-fits : {l u : ℕ} {c : List ℕ} → l ≤ u → u ≤ recordMax → Left writing out₀ t₀ c₀ out t (l ∷ u ∷ c) → PiecesFit writing out₀ t₀ c₀ →
+      Fitting writing out t (record { lower = l; upper = u })
   left-fits {l} {u} {c} o m s f = record {
     room = λ w. let g = f .room w in omega (arith, s .intervals-left, long w);
     few = let g = f .intervals-small in omega (arith, s .intervals-left);
@@ -119,7 +122,8 @@ module _ {writing : Bool} {out₀ : List ℕ} {t₀ : Tally} {c₀ out : List �
           let e = rw w at (s .cells-left) in
           sym (length-sets out (2 * t .intervals) (l ∷ u ∷ c)) ∙ ap length (sym e) ∙ length-sets out₀ (2 * t₀ .intervals) c₀
 
-  left-put : {l u : ℕ} {c out′ : List ℕ} {t′ : Tally} → Left writing out₀ t₀ c₀ out t (l ∷ u ∷ c) → Put writing out out′ t (record { lower = l; upper = u }) t′ →
+  left-put : {l u : ℕ} {c out′ : List ℕ} {t′ : Tally} → Left writing out₀ t₀ c₀ out t (l ∷ u ∷ c) →
+      Put writing out out′ t (record { lower = l; upper = u }) t′ →
       Left writing out₀ t₀ c₀ out′ t′ c
   unfolding records
   left-put {l} {u} {c} {out′} {t′} s q =
@@ -197,14 +201,16 @@ cut-start h = record {
 
 module _ {p : ℕ → Bool} {a b : ℕ} {writing : Bool} {out₀ : List ℕ} {t₀ : Tally} {out : List ℕ} {t : Tally} {o : Bool} {l x : ℕ}
     (c : Cut p a b writing out₀ t₀ out t o l x) where
-  part-fits : (v : Bool) (r : List ℕ) → b ≤ recordMax → PiecesFit writing out₀ t₀ (cellsBetween p a b) → pending p b o l x ≡ closed (closes o v) l x r → closes o v ≡ true →
+  part-fits : (v : Bool) (r : List ℕ) → b ≤ recordMax → PiecesFit writing out₀ t₀ (cellsBetween p a b) → pending p b o l x ≡ closed (closes o v) l x r →
+      closes o v ≡ true →
       Fitting writing out t (upTo l x)
   part-fits v r m f e k =
       let n = c .near in
       let g = c .begun (and-both o (not v) k .0) in
       left-fits (omega arith) (omega arith) (rw (e, k) at (c .left)) f
 
-  pub cut-fits : {v : Bool} {u : ℕ} → b ≤ recordMax → PiecesFit writing out₀ t₀ (cellsBetween p a b) → Steady p x v u → u ≤ b + 1 → closes o v ≡ true → Fitting writing out t (upTo l x)
+  pub cut-fits : {v : Bool} {u : ℕ} → b ≤ recordMax → PiecesFit writing out₀ t₀ (cellsBetween p a b) → Steady p x v u → u ≤ b + 1 → closes o v ≡ true →
+      Fitting writing out t (upTo l x)
   cut-fits {v} {u} m f s h = part-fits v (pending p b v (lowerOn o l x) u) m f (pending-next p b o v l x u s h)
 
   pub cut-end-fits : b ≤ recordMax → PiecesFit writing out₀ t₀ (cellsBetween p a b) → b < x → closes o false ≡ true → Fitting writing out t (upTo l x)
@@ -214,7 +220,8 @@ module _ {p : ℕ → Bool} {a b : ℕ} {writing : Bool} {out₀ : List ℕ} {t�
   begun-next true v u f h e = let g = f refl in omega arith
   begun-next false v u f h e = h
 
-  left-next : (v : Bool) (r out′ : List ℕ) (t′ : Tally) → pending p b o l x ≡ closed (closes o v) l x r → PutWhere (closes o v) writing out out′ t (upTo l x) t′ →
+  left-next : (v : Bool) (r out′ : List ℕ) (t′ : Tally) → pending p b o l x ≡ closed (closes o v) l x r →
+      PutWhere (closes o v) writing out out′ t (upTo l x) t′ →
       Left writing out₀ t₀ (cellsBetween p a b) out′ t′ r
   left-next v r out′ t′ e q =
       by-test (closes o v)
@@ -232,5 +239,6 @@ module _ {p : ℕ → Bool} {a b : ℕ} {writing : Bool} {out₀ : List ℕ} {t�
         left = left-next v (pending p b v (lowerOn o l x) u) out′ t′ (pending-next p b o v l x u s h) q;
       }
 
-  pub cut-end : {out′ : List ℕ} {t′ : Tally} → b < x → PutWhere (closes o false) writing out out′ t (upTo l x) t′ → PiecesPut writing out₀ out′ t₀ (cellsBetween p a b) t′
+  pub cut-end : {out′ : List ℕ} {t′ : Tally} → b < x → PutWhere (closes o false) writing out out′ t (upTo l x) t′ →
+      PiecesPut writing out₀ out′ t₀ (cellsBetween p a b) t′
   cut-end {out′} {t′} h q = left-end (left-next false [] out′ t′ (pending-end p b o l x h) q)

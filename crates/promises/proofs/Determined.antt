@@ -3,7 +3,6 @@ use Prim.Native.Nat.{ℕ}
 use mathlib.Core.Path.{_≡_, sym, ap, _∙_}
 use mathlib.Core.List.{List}
 use Rattle.convert.specs.Convert.{ToIntervals, ToNumbers}
-use Rattle.index.specs.Format.{wordStart, wordLength}
 use Rattle.index.specs.Part.{Slice}
 use Rattle.index.specs.Check.{checkOf}
 use Rattle.directory.specs.Entry.{lookupOf, entryCheck, entryWord, probeOf}
@@ -12,7 +11,7 @@ use Rattle.question.specs.Grammar.{Rule, fromLeft}
 use Rattle.question.specs.Reading.{verdictOf}
 use Rattle.query.specs.Ask.{Answers, Asks}
 use Rattle.build.specs.Build.{Builds}
-use Rattle.naburain.specs.Result.{checkResult, lookupResult, wordResult, probeResult, writeResult, answerResult}
+use Rattle.naburain.specs.Result.{checkResult, lookupResult, partResult, probeResult, writeResult, answerResult}
 use Rattle.naburain.specs.Exported.{IntervalsExported, NumbersExported, JoinExported, AskExported, BuildExported}
 use Rattle.promises.specs.Outcome.{OneReturn, OneOutcome}
 
@@ -70,8 +69,8 @@ check-exported-determined index = one-value (checkResult (checkOf index))
 pub lookup-exported-determined : (index word : List ℕ) → OneReturn (λ r. r ≡ lookupResult (lookupOf index word))
 lookup-exported-determined index word = one-value (lookupResult (lookupOf index word))
 
-pub word-exported-determined : (index : List ℕ) (i : ℕ) → OneReturn (λ r. r ≡ wordResult (entryCheck index i) (wordStart index i) (wordLength index i))
-word-exported-determined index i = one-value (wordResult (entryCheck index i) (wordStart index i) (wordLength index i))
+pub word-exported-determined : (index : List ℕ) (i : ℕ) → OneReturn (λ r. r ≡ partResult index i)
+word-exported-determined index i = one-value (partResult index i)
 
 pub probe-exported-determined : (index : List ℕ) (i a b : ℕ) → OneReturn (λ r. r ≡ probeResult (probeOf index i a b))
 probe-exported-determined index i a b = one-value (probeResult (probeOf index i a b))

@@ -44,7 +44,8 @@ none-alone : Alone []
 unfolding tokens tokensAt gather tokenWords
 none-alone = refl
 
-flush-alone : (start : ℕ) (acc : List ℕ) (ts : List Tok) → allWordBytes acc ≡ true → Alone (firstOf (tokenWords ts)) → Alone (firstOf (tokenWords (flush start acc ts)))
+flush-alone : (start : ℕ) (acc : List ℕ) (ts : List Tok) → allWordBytes acc ≡ true → Alone (firstOf (tokenWords ts)) →
+    Alone (firstOf (tokenWords (flush start acc ts)))
 unfolding tokenWords
 flush-alone start [] ts e h = h
 flush-alone start (a ∷ az) ts e h = go (operatorOf (a ∷ az)) refl
@@ -77,7 +78,8 @@ first-alone n start acc (b ∷ bs) e = go (isWordByte b) refl (first-alone (n + 
   where
     go : (t : Bool) → isWordByte b ≡ t → (allWordBytes (acc ++ b ∷ []) ≡ true → Alone (firstOf (tokenWords (gather (n + 1) start (acc ++ b ∷ []) bs)))) →
         Alone (firstOf (tokenWords (gather (n + 1) (n + 1) [] bs))) →
-        Alone (firstOf (tokenWords (choose t (λ _. gather (n + 1) start (acc ++ (b ∷ [])) bs) (λ _. flush start acc (mark n b (gather (n + 1) (n + 1) [] bs))))))
+        Alone (firstOf (tokenWords (choose t (λ _. gather (n + 1) start (acc ++ (b ∷ [])) bs)
+        (λ _. flush start acc (mark n b (gather (n + 1) (n + 1) [] bs))))))
     go true p more rest = more (all-and acc b e p)
     go false p more rest =
         flush-alone start acc (mark n b (gather (n + 1) (n + 1) [] bs)) e (mark-alone n (gather (n + 1) (n + 1) [] bs) (eqb b 32) (eqb b 40) (eqb b 41) rest)

@@ -41,7 +41,8 @@ module _ {A R : Type 0} (refused : R → Bool) (f : Writer A R) where
   pub leaving-accepted : (left : A → List ℕ → List ℕ) (a : A) (out : List ℕ) → Accepts refused f a out → leaving refused left f a out .1 ≡ left a out
   leaving-accepted left a out e = rw e
 
-  pub refusing-kind : (refusal : A → List ℕ → R) → ((a : A) (out : List ℕ) → refused (refusal a out) ≡ true) → Refusing refused (returning (λ a out r. refusal a out) f)
+  pub refusing-kind : (refusal : A → List ℕ → R) → ((a : A) (out : List ℕ) → refused (refusal a out) ≡ true) →
+      Refusing refused (returning (λ a out r. refusal a out) f)
   refusing-kind refusal e a out = e a out
 
   pub fixed-kind : (cells : List ℕ → List ℕ) → Fixed refused (leaving refused (λ a out. cells out) f)
@@ -56,11 +57,13 @@ module _ {A R : Type 0} (refused : R → Bool) (f : Writer A R) where
       let left : A → List ℕ → List ℕ = λ a out. f (first a) out .1 in
       leaving-accepted left a out p ∙ sym (ap (λ b. f b out .1) (twice a)) ∙ sym (leaving-accepted left (first a) out q)
 
-pub inventing-kind : {A R : Type 0} (f : Writer A R) (number : R → Option ℕ) (change : ℕ → R → R) → ((n : ℕ) (r : R) (m : ℕ) → number (change n r) ≡ some m → m ≡ n) →
+pub inventing-kind : {A R : Type 0} (f : Writer A R) (number : R → Option ℕ) (change : ℕ → R → R) →
+    ((n : ℕ) (r : R) (m : ℕ) → number (change n r) ≡ some m → m ≡ n) →
     (n : List ℕ → ℕ) → Inventing number (returning (λ a out. change (n out)) f)
 inventing-kind f number change same n a b out i j p q = same (n out) (f a out .0) i p ∙ sym (same (n out) (f b out .0) j q)
 
-pub misreporting-kind : {A R : Type 0} {promise : Promise A R} (f : Writer A R) → Meets promise f → (number : R → Option ℕ) (change : A → List ℕ → R → R) (a : A) (out : List ℕ) →
+pub misreporting-kind : {A R : Type 0} {promise : Promise A R} (f : Writer A R) → Meets promise f →
+    (number : R → Option ℕ) (change : A → List ℕ → R → R) (a : A) (out : List ℕ) →
     (number (change a out (f a out .0)) ≡ number (f a out .0) → ⊥) → Misreporting promise number (returning change f)
 misreporting-kind f m number change a out differ =
     record { asked = a; lent = out; after = f a out .1; answer = f a out .0; promised = m a out; other = differ }
@@ -69,7 +72,8 @@ misreporting-kind f m number change a out differ =
 pub refusing-all-kind : {A R : Type 0} (refused : R → Bool) (refusal : A → R) → ((a : A) → refused (refusal a) ≡ true) → RefusingAll refused refusal
 refusing-all-kind refused refusal e = e
 
-pub inventing-all-kind : {A R : Type 0} (f : A → R) (number : R → Option ℕ) (change : ℕ → R → R) → ((n : ℕ) (r : R) (m : ℕ) → number (change n r) ≡ some m → m ≡ n) →
+pub inventing-all-kind : {A R : Type 0} (f : A → R) (number : R → Option ℕ) (change : ℕ → R → R) →
+    ((n : ℕ) (r : R) (m : ℕ) → number (change n r) ≡ some m → m ≡ n) →
     (n : ℕ) → InventingAll number (λ a. change n (f a))
 inventing-all-kind f number change same n a b i j p q = same n (f a) i p ∙ sym (same n (f b) j q)
 
@@ -143,7 +147,8 @@ module _ {A R : Type 0} (promise : Promise A R) (refused : R → Bool) (f : Writ
   pub wrong-first : (first : A → A) → ((a : A) → first (first a) ≡ first a) → Fails promise (FirstOnly refused first) → WrongFirst promise refused first f
   wrong-first first twice fails = fails (leaving refused (λ a out. f (first a) out .1) f) (first-kind refused f first twice)
 
-pub wrong-counts : {A : Type 0} {promise : Promise A Answer} (f : Writer A Answer) → Fails promise (Inventing intervalsIn) → Fails promise (Inventing recordsIn) →
+pub wrong-counts : {A : Type 0} {promise : Promise A Answer} (f : Writer A Answer) → Fails promise (Inventing intervalsIn) →
+    Fails promise (Inventing recordsIn) →
     Fails promise (Inventing neededIn) → WrongCounts promise f
 wrong-counts f intervals records room =
     record {
@@ -152,7 +157,8 @@ wrong-counts f intervals records room =
       room = λ n. room (returning (λ a out. withNeeded (n out)) f) (inventing-kind f neededIn withNeeded one-needed n);
     }
 
-pub wrong-written : {A : Type 0} {promise : Promise A Written} (f : Writer A Written) → Fails promise (Inventing writtenIn) → Fails promise (Inventing neededBy) →
+pub wrong-written : {A : Type 0} {promise : Promise A Written} (f : Writer A Written) → Fails promise (Inventing writtenIn) →
+    Fails promise (Inventing neededBy) →
     WrongWritten promise f
 wrong-written f count room =
     record {

@@ -68,7 +68,8 @@ pub ask-refusing : Fails asks (Refusing answerRefused)
 ask-refusing = refusing-fails one answerRefused tide-asked lent (outcomes .0) refl
 
 pub ask-fixed : Fails asks (Fixed answerRefused)
-ask-fixed = fixed-fails one answerRefused tide-asked maps-asked lent (outcomes .0) (outcomes .1) refl refl (differ-at 1 (2 ∷ 4 ∷ 8 ∷ 9 ∷ []) (2 ∷ 9 ∷ 0 ∷ 0 ∷ []) (λ e. omega arith))
+ask-fixed = fixed-fails one answerRefused tide-asked maps-asked lent (outcomes .0) (outcomes .1) refl refl
+    (differ-at 1 (2 ∷ 4 ∷ 8 ∷ 9 ∷ []) (2 ∷ 9 ∷ 0 ∷ 0 ∷ []) (λ e. omega arith))
 
 pub ask-silent : Fails asks (Silent answerRefused)
 ask-silent = silent-fails one answerRefused tide-asked lent (outcomes .0) refl (differ-at 0 (2 ∷ 4 ∷ 8 ∷ 9 ∷ []) lent (λ e. omega arith))

@@ -15,7 +15,7 @@ use Rattle.list.specs.declared.Written.{Written}
 use Rattle.list.specs.declared.Written.the-variants.{Wrote, Refused}
 use Rattle.refusal.specs.declared.Refusal.the-variants.{Room}
 use Rattle.build.specs.Lent.{wordsFrom, lentWords, restFrom, restOf, wordTotal, badLent, sumTo, badCount, badRest, beginsList, badListed, listsFrom}
-use Rattle.layout.specs.Layout.{cellsBytes, cellSingles, lowersIn, uppersIn, keptBytes, listsBytes, wordsBytes, directoryBytes, indexOf}
+use Rattle.layout.specs.Layout.{cellsBytes, cellSingles, cellLowers, cellUppers, keptBytes, listsBytes, wordsBytes, directoryBytes, indexOf}
 use Rattle.build.specs.Build.{lentOf, indexFrom, buildOf, bytesAfter}
 use Rattle.promises.specs.Outcome.{OneOutcome}
 use Rattle.promises.specs.Wrong.{Fails, builds, Refusing, Fixed, Silent, FirstOnly, Inventing, Misreporting, writtenRefused, firstBuilt}
@@ -61,7 +61,7 @@ Outcomes =
     × (getD (after one zeros) 4 0 ≡ 97)
 
 outcomes : Outcomes
-unfolding firstFrom first isWordByte allWordBytes same before isAnd isOr isNot isOperator isWord stretches cellsOf among wordsFrom lentWords restFrom restOf wordTotal badLent sumTo badCount badRest beginsList badListed listsFrom cellsBytes cellSingles lowersIn uppersIn keptBytes listsBytes wordsBytes directoryBytes indexOf lentOf buildOf
+unfolding firstFrom first isWordByte allWordBytes same before isAnd isOr isNot isOperator isWord stretches cellsOf among wordsFrom lentWords restFrom restOf wordTotal badLent sumTo badCount badRest beginsList badListed listsFrom cellsBytes cellSingles cellLowers cellUppers keptBytes listsBytes wordsBytes directoryBytes indexOf lentOf buildOf
 outcomes = (refl, refl, refl, refl, refl, refl, refl)
 
 differ : after two zeros ≡ after one zeros → ⊥
@@ -96,7 +96,8 @@ build-inventing =
 
 pub build-inventing-room : Fails builds (Inventing neededBy)
 build-inventing-room =
-    inventing-fails determined neededBy two one [] 70 45 (known two []) (known one []) (ap neededBy (outcomes .2)) (ap neededBy (outcomes .3)) (λ e. omega arith)
+    inventing-fails determined neededBy two one [] 70 45 (known two []) (known one []) (ap neededBy (outcomes .2)) (ap neededBy (outcomes .3))
+    (λ e. omega arith)
 
 pub build-misreporting : (number : Written → Option ℕ) → Fails builds (Misreporting builds number)
 build-misreporting = misreporting-fails determined

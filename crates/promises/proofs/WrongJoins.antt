@@ -57,11 +57,16 @@ UnionOutcomes =
 union-outcomes : UnionOutcomes
 unfolding firstFrom first properFrom isProper names records stretches cellsOf inSome numbersIn walkFrom walked entryPlace listStart singleCount pairCount singlesOf lowerOf upperOf listOf badListCount badEntryNumber entriesOf listsOf
 union-outcomes = (
-  joins-example unionOf (0 ∷ 3 ∷ []) lent (2 ∷ 4 ∷ 8 ∷ 9 ∷ []) refl (union-is (listsOf example (0 ∷ 3 ∷ [])) (2 ∷ 4 ∷ 8 ∷ 9 ∷ []) (refl, (refl, tt)) refl) (2 ∷ 4 ∷ 8 ∷ 9 ∷ []) (tallied 2 5) refl refl,
-  joins-example unionOf (0 ∷ 2 ∷ []) lent (2 ∷ 9 ∷ []) refl (union-is (listsOf example (0 ∷ 2 ∷ [])) (2 ∷ 9 ∷ []) (refl, (refl, tt)) refl) (2 ∷ 9 ∷ 0 ∷ 0 ∷ []) (tallied 1 8) refl refl,
-  joins-example unionOf (0 ∷ []) lent (2 ∷ 4 ∷ 8 ∷ 8 ∷ []) refl (union-is (listsOf example (0 ∷ [])) (2 ∷ 4 ∷ 8 ∷ 8 ∷ []) (refl, tt) refl) (2 ∷ 4 ∷ 8 ∷ 8 ∷ []) (tallied 2 4) refl refl,
-  joins-example unionOf (0 ∷ 3 ∷ []) [] (2 ∷ 4 ∷ 8 ∷ 9 ∷ []) refl (union-is (listsOf example (0 ∷ 3 ∷ [])) (2 ∷ 4 ∷ 8 ∷ 9 ∷ []) (refl, (refl, tt)) refl) [] (Refused (Room 2)) refl refl,
-  joins-example unionOf (0 ∷ 2 ∷ []) [] (2 ∷ 9 ∷ []) refl (union-is (listsOf example (0 ∷ 2 ∷ [])) (2 ∷ 9 ∷ []) (refl, (refl, tt)) refl) [] (Refused (Room 1)) refl refl,
+  joins-example unionOf (0 ∷ 3 ∷ []) lent (2 ∷ 4 ∷ 8 ∷ 9 ∷ []) refl (union-is (listsOf example (0 ∷ 3 ∷ [])) (2 ∷ 4 ∷ 8 ∷ 9 ∷ []) (refl, (refl, tt)) refl)
+      (2 ∷ 4 ∷ 8 ∷ 9 ∷ []) (tallied 2 5) refl refl,
+  joins-example unionOf (0 ∷ 2 ∷ []) lent (2 ∷ 9 ∷ []) refl (union-is (listsOf example (0 ∷ 2 ∷ [])) (2 ∷ 9 ∷ []) (refl, (refl, tt)) refl) (2 ∷ 9 ∷ 0 ∷ 0 ∷ [])
+      (tallied 1 8) refl refl,
+  joins-example unionOf (0 ∷ []) lent (2 ∷ 4 ∷ 8 ∷ 8 ∷ []) refl (union-is (listsOf example (0 ∷ [])) (2 ∷ 4 ∷ 8 ∷ 8 ∷ []) (refl, tt) refl) (2 ∷ 4 ∷ 8 ∷ 8 ∷ [])
+      (tallied 2 4) refl refl,
+  joins-example unionOf (0 ∷ 3 ∷ []) [] (2 ∷ 4 ∷ 8 ∷ 9 ∷ []) refl (union-is (listsOf example (0 ∷ 3 ∷ [])) (2 ∷ 4 ∷ 8 ∷ 9 ∷ []) (refl, (refl, tt)) refl) []
+      (Refused (Room 2)) refl refl,
+  joins-example unionOf (0 ∷ 2 ∷ []) [] (2 ∷ 9 ∷ []) refl (union-is (listsOf example (0 ∷ 2 ∷ [])) (2 ∷ 9 ∷ []) (refl, (refl, tt)) refl) []
+      (Refused (Room 1)) refl refl,
 )
 
 pub union-refusing : Fails (joins unionOf) (Refusing answerRefused)
@@ -73,7 +78,8 @@ union-fixed =
     (differ-at 1 (2 ∷ 4 ∷ 8 ∷ 9 ∷ []) (2 ∷ 9 ∷ 0 ∷ 0 ∷ []) (λ e. omega arith))
 
 pub union-silent : Fails (joins unionOf) (Silent answerRefused)
-union-silent = silent-fails (one unionOf) answerRefused (example, 0 ∷ 3 ∷ []) lent (union-outcomes .0) refl (differ-at 0 (2 ∷ 4 ∷ 8 ∷ 9 ∷ []) lent (λ e. omega arith))
+union-silent = silent-fails (one unionOf) answerRefused (example, 0 ∷ 3 ∷ []) lent (union-outcomes .0) refl
+    (differ-at 0 (2 ∷ 4 ∷ 8 ∷ 9 ∷ []) lent (λ e. omega arith))
 
 pub union-first : Fails (joins unionOf) (FirstOnly answerRefused firstEntry)
 union-first =
@@ -81,13 +87,16 @@ union-first =
     (differ-at 3 (2 ∷ 4 ∷ 8 ∷ 9 ∷ []) (2 ∷ 4 ∷ 8 ∷ 8 ∷ []) (λ e. omega arith))
 
 pub union-inventing-intervals : Fails (joins unionOf) (Inventing intervalsIn)
-union-inventing-intervals = inventing-fails (one unionOf) intervalsIn (example, 0 ∷ 3 ∷ []) (example, 0 ∷ 2 ∷ []) lent 2 1 (union-outcomes .0) (union-outcomes .1) refl refl (λ e. omega arith)
+union-inventing-intervals = inventing-fails (one unionOf) intervalsIn (example, 0 ∷ 3 ∷ []) (example, 0 ∷ 2 ∷ []) lent 2 1 (union-outcomes .0)
+    (union-outcomes .1) refl refl (λ e. omega arith)
 
 pub union-inventing-records : Fails (joins unionOf) (Inventing recordsIn)
-union-inventing-records = inventing-fails (one unionOf) recordsIn (example, 0 ∷ 3 ∷ []) (example, 0 ∷ 2 ∷ []) lent 5 8 (union-outcomes .0) (union-outcomes .1) refl refl (λ e. omega arith)
+union-inventing-records = inventing-fails (one unionOf) recordsIn (example, 0 ∷ 3 ∷ []) (example, 0 ∷ 2 ∷ []) lent 5 8 (union-outcomes .0)
+    (union-outcomes .1) refl refl (λ e. omega arith)
 
 pub union-inventing-room : Fails (joins unionOf) (Inventing neededIn)
-union-inventing-room = inventing-fails (one unionOf) neededIn (example, 0 ∷ 3 ∷ []) (example, 0 ∷ 2 ∷ []) [] 2 1 (union-outcomes .3) (union-outcomes .4) refl refl (λ e. omega arith)
+union-inventing-room = inventing-fails (one unionOf) neededIn (example, 0 ∷ 3 ∷ []) (example, 0 ∷ 2 ∷ []) [] 2 1 (union-outcomes .3)
+    (union-outcomes .4) refl refl (λ e. omega arith)
 
 -- ---- the intersection
 
@@ -102,11 +111,16 @@ IntersectionOutcomes =
 intersection-outcomes : IntersectionOutcomes
 unfolding firstFrom first properFrom isProper names records stretches cellsOf inEvery numbersIn walkFrom walked entryPlace listStart singleCount pairCount singlesOf lowerOf upperOf listOf badListCount badEntryNumber entriesOf listsOf
 intersection-outcomes = (
-  joins-example intersectionOf (0 ∷ 3 ∷ []) lent (3 ∷ 3 ∷ 8 ∷ 8 ∷ []) refl (intersection-is (listOf example 0) (listsOf example (3 ∷ [])) (3 ∷ 3 ∷ 8 ∷ 8 ∷ []) refl refl) (3 ∷ 3 ∷ 8 ∷ 8 ∷ []) (tallied 2 2) refl refl,
-  joins-example intersectionOf (1 ∷ 3 ∷ []) lent (3 ∷ 3 ∷ []) refl (intersection-is (listOf example 1) (listsOf example (3 ∷ [])) (3 ∷ 3 ∷ []) refl refl) (3 ∷ 3 ∷ 0 ∷ 0 ∷ []) (tallied 1 1) refl refl,
-  joins-example intersectionOf (0 ∷ []) lent (2 ∷ 4 ∷ 8 ∷ 8 ∷ []) refl (intersection-is (listOf example 0) (listsOf example []) (2 ∷ 4 ∷ 8 ∷ 8 ∷ []) refl refl) (2 ∷ 4 ∷ 8 ∷ 8 ∷ []) (tallied 2 4) refl refl,
-  joins-example intersectionOf (0 ∷ 3 ∷ []) [] (3 ∷ 3 ∷ 8 ∷ 8 ∷ []) refl (intersection-is (listOf example 0) (listsOf example (3 ∷ [])) (3 ∷ 3 ∷ 8 ∷ 8 ∷ []) refl refl) [] (Refused (Room 2)) refl refl,
-  joins-example intersectionOf (1 ∷ 3 ∷ []) [] (3 ∷ 3 ∷ []) refl (intersection-is (listOf example 1) (listsOf example (3 ∷ [])) (3 ∷ 3 ∷ []) refl refl) [] (Refused (Room 1)) refl refl,
+  joins-example intersectionOf (0 ∷ 3 ∷ []) lent (3 ∷ 3 ∷ 8 ∷ 8 ∷ []) refl
+      (intersection-is (listOf example 0) (listsOf example (3 ∷ [])) (3 ∷ 3 ∷ 8 ∷ 8 ∷ []) refl refl) (3 ∷ 3 ∷ 8 ∷ 8 ∷ []) (tallied 2 2) refl refl,
+  joins-example intersectionOf (1 ∷ 3 ∷ []) lent (3 ∷ 3 ∷ []) refl (intersection-is (listOf example 1) (listsOf example (3 ∷ [])) (3 ∷ 3 ∷ []) refl refl)
+      (3 ∷ 3 ∷ 0 ∷ 0 ∷ []) (tallied 1 1) refl refl,
+  joins-example intersectionOf (0 ∷ []) lent (2 ∷ 4 ∷ 8 ∷ 8 ∷ []) refl (intersection-is (listOf example 0) (listsOf example []) (2 ∷ 4 ∷ 8 ∷ 8 ∷ []) refl refl)
+      (2 ∷ 4 ∷ 8 ∷ 8 ∷ []) (tallied 2 4) refl refl,
+  joins-example intersectionOf (0 ∷ 3 ∷ []) [] (3 ∷ 3 ∷ 8 ∷ 8 ∷ []) refl
+      (intersection-is (listOf example 0) (listsOf example (3 ∷ [])) (3 ∷ 3 ∷ 8 ∷ 8 ∷ []) refl refl) [] (Refused (Room 2)) refl refl,
+  joins-example intersectionOf (1 ∷ 3 ∷ []) [] (3 ∷ 3 ∷ []) refl (intersection-is (listOf example 1) (listsOf example (3 ∷ [])) (3 ∷ 3 ∷ []) refl refl) []
+      (Refused (Room 1)) refl refl,
 )
 
 pub intersection-refusing : Fails (joins intersectionOf) (Refusing answerRefused)
@@ -114,11 +128,13 @@ intersection-refusing = refusing-fails (one intersectionOf) answerRefused (examp
 
 pub intersection-fixed : Fails (joins intersectionOf) (Fixed answerRefused)
 intersection-fixed =
-    fixed-fails (one intersectionOf) answerRefused (example, 0 ∷ 3 ∷ []) (example, 1 ∷ 3 ∷ []) lent (intersection-outcomes .0) (intersection-outcomes .1) refl refl
+    fixed-fails (one intersectionOf) answerRefused (example, 0 ∷ 3 ∷ []) (example, 1 ∷ 3 ∷ []) lent (intersection-outcomes .0)
+    (intersection-outcomes .1) refl refl
     (differ-at 2 (3 ∷ 3 ∷ 8 ∷ 8 ∷ []) (3 ∷ 3 ∷ 0 ∷ 0 ∷ []) (λ e. omega arith))
 
 pub intersection-silent : Fails (joins intersectionOf) (Silent answerRefused)
-intersection-silent = silent-fails (one intersectionOf) answerRefused (example, 0 ∷ 3 ∷ []) lent (intersection-outcomes .0) refl (differ-at 0 (3 ∷ 3 ∷ 8 ∷ 8 ∷ []) lent (λ e. omega arith))
+intersection-silent = silent-fails (one intersectionOf) answerRefused (example, 0 ∷ 3 ∷ []) lent (intersection-outcomes .0) refl
+    (differ-at 0 (3 ∷ 3 ∷ 8 ∷ 8 ∷ []) lent (λ e. omega arith))
 
 pub intersection-first : Fails (joins intersectionOf) (FirstOnly answerRefused firstEntry)
 intersection-first =
@@ -126,13 +142,16 @@ intersection-first =
     (differ-at 0 (3 ∷ 3 ∷ 8 ∷ 8 ∷ []) (2 ∷ 4 ∷ 8 ∷ 8 ∷ []) (λ e. omega arith))
 
 pub intersection-inventing-intervals : Fails (joins intersectionOf) (Inventing intervalsIn)
-intersection-inventing-intervals = inventing-fails (one intersectionOf) intervalsIn (example, 0 ∷ 3 ∷ []) (example, 1 ∷ 3 ∷ []) lent 2 1 (intersection-outcomes .0) (intersection-outcomes .1) refl refl (λ e. omega arith)
+intersection-inventing-intervals = inventing-fails (one intersectionOf) intervalsIn (example, 0 ∷ 3 ∷ []) (example, 1 ∷ 3 ∷ []) lent 2 1
+    (intersection-outcomes .0) (intersection-outcomes .1) refl refl (λ e. omega arith)
 
 pub intersection-inventing-records : Fails (joins intersectionOf) (Inventing recordsIn)
-intersection-inventing-records = inventing-fails (one intersectionOf) recordsIn (example, 0 ∷ 3 ∷ []) (example, 1 ∷ 3 ∷ []) lent 2 1 (intersection-outcomes .0) (intersection-outcomes .1) refl refl (λ e. omega arith)
+intersection-inventing-records = inventing-fails (one intersectionOf) recordsIn (example, 0 ∷ 3 ∷ []) (example, 1 ∷ 3 ∷ []) lent 2 1 (intersection-outcomes .0)
+    (intersection-outcomes .1) refl refl (λ e. omega arith)
 
 pub intersection-inventing-room : Fails (joins intersectionOf) (Inventing neededIn)
-intersection-inventing-room = inventing-fails (one intersectionOf) neededIn (example, 0 ∷ 3 ∷ []) (example, 1 ∷ 3 ∷ []) [] 2 1 (intersection-outcomes .3) (intersection-outcomes .4) refl refl (λ e. omega arith)
+intersection-inventing-room = inventing-fails (one intersectionOf) neededIn (example, 0 ∷ 3 ∷ []) (example, 1 ∷ 3 ∷ []) [] 2 1 (intersection-outcomes .3)
+    (intersection-outcomes .4) refl refl (λ e. omega arith)
 
 -- ---- all joins
 

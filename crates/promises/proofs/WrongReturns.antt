@@ -71,7 +71,8 @@ probe-inventing-below =
 
 pub probe-inventing-overlapping : FailsToBe probe (InventingAll overlappingIn)
 probe-inventing-overlapping =
-    inventing-all-fails probe overlappingIn (example, 0, 1, 9) (example, 0, 5, 9) 2 1 (ap overlappingIn (counts .0)) (ap overlappingIn (counts .1)) (λ e. omega arith)
+    inventing-all-fails probe overlappingIn (example, 0, 1, 9) (example, 0, 5, 9) 2 1 (ap overlappingIn (counts .0)) (ap overlappingIn (counts .1))
+    (λ e. omega arith)
 
 pub reading-refusing : FailsToBe verdictOf (RefusingAll verdictRefused)
 unfolding isWordByte same isAnd isOr isNot operatorOf firstFrom first run gather tokensAt tokens fromLeft question operand links whole isForeign refusalOf parsed verdictOf

@@ -27,8 +27,7 @@ use Rattle.query.specs.Ask.{satisfying, Answers, Asks}
 use Rattle.codes.specs.Code.{codesOf, wordCodes}
 use Rattle.codes.proofs.CodeLaws.{codes-words}
 use Rattle.slots.specs.Slots.{slotHas}
-use Rattle.slots.specs.declared.compile.Compiled.{Compiled}
-use Rattle.slots.specs.Compile.{Compiles}
+use Rattle.slots.specs.Compile.{WritesCodes, FillsSlots}
 use Rattle.query.specs.Drive.{TreeOf, testOf, AskedBy}
 use Rattle.query.specs.Prepared.{Prepared}
 use Rattle.query.proofs.QuestionBound.{question-bound}
@@ -39,25 +38,26 @@ use Rattle.slots.proofs.WholeLaws.{slot-satisfies, compiled-slots}
 asked-tree : (s codes : List ℕ) (t : Tree) (k : ℕ) → parsed fromLeft s ≡ parses t k → codes ≡ codesOf (tokens s) → TreeOf codes t
 asked-tree s codes t k is e = record { toks = tokens s; are = sym e; fuel = 2 * length s + 2; words = k; reads = asked-accepts fromLeft s t k is .reads }
 
-module _ {index s codes codes′ entries entries′ : List ℕ} {r : Compiled} (c : Compiles index s codes codes′ entries entries′ r) (sound : Sound index)
+module _ {index s codes codes′ entries entries′ : List ℕ} {n slots : ℕ} (c : WritesCodes s codes codes′ n × FillsSlots index s entries entries′ slots)
+    (sound : Sound index)
     (t : Tree) (k : ℕ) (is : parsed fromLeft s ≡ parses t k) where
   -- they are lent from the first on
-  compiled-codes : take (r .codes - 0) codes′ ≡ codesOf (tokens s)
-  compiled-codes = rw (sub-zero (r .codes)) (c .coded)
+  compiled-codes : take (n - 0) codes′ ≡ codesOf (tokens s)
+  compiled-codes = rw (sub-zero n) (c .0 .coded)
 
-  pub compiled-asked : length entries ≡ 16 → AskedBy (take (r .codes - 0) codes′) index entries′ (r .slots)
+  pub compiled-asked : length entries ≡ 16 → AskedBy (take (n - 0) codes′) index entries′ slots
   compiled-asked long = record {
     sound = sound;
-    entries-long = c .entries-long ∙ long;
-    few = omega (arith, c .count, accepted-within fromLeft s t k is .words);
-    all = c .count ∙ sym (codes-words (tokens s)) ∙ ap wordCodes (sym compiled-codes);
+    entries-long = c .1 .long ∙ long;
+    few = omega (arith, c .1 .count, accepted-within fromLeft s t k is .words);
+    all = c .1 .count ∙ sym (codes-words (tokens s)) ∙ ap wordCodes (sym compiled-codes);
   }
 
-  pub compiled-prepared : Prepared (take (r .codes - 0) codes′) index entries′ (r .slots) t
+  pub compiled-prepared : Prepared (take (n - 0) codes′) index entries′ slots t
   compiled-prepared =
-      let have = compiled-slots c t k is in
+      let have = compiled-slots (c .1) t k is in
       record {
-        reads = asked-tree s (take (r .codes - 0) codes′) t k is compiled-codes;
+        reads = asked-tree s (take (n - 0) codes′) t k is compiled-codes;
         same = λ x. slot-satisfies (slotHas index entries′) (has index) t x (λ i h. have .1 i h x);
         bound = rw (have .0) (question-bound index entries′ sound t (have .1));
       }
@@ -80,7 +80,8 @@ module _ {codes index entries : List ℕ} {slots n : ℕ} {t : Tree} (prepared :
 -- ---- the question's promise
 
 module _ (rule : Rule) (index question out : List ℕ) where
-  pub listing-answers : (out′ : List ℕ) (r : Answer) (t : Tree) (k : ℕ) → parsed rule question ≡ parses t k → Listing (satisfying index t) out out′ r → Answers rule index question out out′ r
+  pub listing-answers : (out′ : List ℕ) (r : Answer) (t : Tree) (k : ℕ) → parsed rule question ≡ parses t k → Listing (satisfying index t) out out′ r →
+      Answers rule index question out out′ r
   listing-answers out′ r t k e l = record { answer = rw e (l .answer); cells = rw e (l .cells) }
 
   pub refused-answers : (x : Refusal) → parsed rule question ≡ refuses x → Answers rule index question out out (answer.Refused x)

@@ -16,7 +16,7 @@ use Prim.Native.Nat.{ℕ, _*_, _/_, _≤_}
 use native.Mathlib.Omega.{arith}
 use mathlib.Core.Path.{_≡_, refl, sym, ap, _∙_}
 use mathlib.Core.Bool.{Bool, true, false, cond}
-use mathlib.Core.List.{List, [], _++_}
+use mathlib.Core.List.{List, []}
 use lib.Dec.{leb}
 use lib.ListN.{length, take, drop}
 use lib.Seq.{take-at}
@@ -27,6 +27,7 @@ use Rattle.list.specs.declared.answer.Answer.the-variants.{Listed, Refused}
 use Rattle.list.specs.Interval.{names, intervals}
 use Rattle.list.specs.Answer.{tallyOf, listAnswer, listCells}
 use Rattle.list.proofs.FewestLaws.{fewest-of}
+use Rattle.list.specs.Front.{inFront}
 use Rattle.index.specs.declared.Checked.the-variants.{Good}
 use Rattle.index.specs.Format.{highest}
 use Rattle.directory.specs.Has.{has}
@@ -60,8 +61,8 @@ module _ (rule : Rule) (index question : List ℕ) (t : Tree) (out out′ : List
   left : out′ ≡ listCells cells (length out / 2) out
   left = rw (a .sound, a .accepted) at (a .promise .cells)
 
-  by-room : (f : Bool) → Listed tally ≡ cond f (Listed (tallyOf cells)) (Refused (Room (intervals cells))) → out′ ≡ cond f (cells ++ drop (length cells) out) out →
-      (tally ≡ tallyOf cells) × (out′ ≡ cells ++ drop (length cells) out)
+  by-room : (f : Bool) → Listed tally ≡ cond f (Listed (tallyOf cells)) (Refused (Room (intervals cells))) → out′ ≡ cond f (inFront cells out) out →
+      (tally ≡ tallyOf cells) × (out′ ≡ inFront cells out)
   by-room true e g = ((cc), g)
   by-room false e g = absurd (let z : _≡_ {A = ℕ} 0 1 = cc in omega arith)
 
@@ -71,10 +72,12 @@ module _ (rule : Rule) (index question : List ℕ) (t : Tree) (out out′ : List
   pub answered-cells : written tally out′ ≡ satisfying index t
   answered-cells =
       ap (λ (o : List ℕ). written tally o) (by-room fit answer left .1)
-      ∙ take-at cells (drop (length cells) out) (2 * tally .intervals) (sym (satisfying-even index t) ∙ ap (λ (w : Tally). 2 * w .intervals) (sym answered-tally))
+      ∙ take-at cells (drop (length cells) out) (2 * tally .intervals)
+      (sym (satisfying-even index t) ∙ ap (λ (w : Tally). 2 * w .intervals) (sym answered-tally))
 
   -- Reference 3.2: of whatever cells name just the records that satisfy the question
-  pub fewest-intervals : (c : List ℕ) → names c 0 ≡ false → ((x : ℕ) → 1 ≤ x → x ≤ highest index → names c x ≡ satisfies (has index) t x) → tally .intervals ≤ intervals c
+  pub fewest-intervals : (c : List ℕ) → names c 0 ≡ false → ((x : ℕ) → 1 ≤ x → x ≤ highest index → names c x ≡ satisfies (has index) t x) →
+      tally .intervals ≤ intervals c
   unfolding satisfying
   fewest-intervals c e f = rw answered-tally (fewest-of (satisfies (has index) t) (highest index) c e f)
 
@@ -96,11 +99,12 @@ module _ (rule rule′ : Rule) (index first second : List ℕ) (t u : Tree) (out
 -- ---- what any call writes, once nothing but room can refuse it
 
 module _ (cells : List ℕ) (even : 2 * intervals cells ≡ length cells) (out out′ : List ℕ) (r : Answer) where
-  call-step : (f : Bool) → r ≡ cond f (Listed (tallyOf cells)) (Refused (Room (intervals cells))) → out′ ≡ cond f (cells ++ drop (length cells) out) out →
+  call-step : (f : Bool) → r ≡ cond f (Listed (tallyOf cells)) (Refused (Room (intervals cells))) → out′ ≡ cond f (inFront cells out) out →
       (writtenBy r out′ ≡ cond f cells []) × OnlyWritten r out out′ × ListOrRoom r
   call-step true e g =
-      let taken : written (tallyOf cells) out′ ≡ cells = ap (λ (o : List ℕ). take (2 * intervals cells) o) g ∙ take-at cells (drop (length cells) out) (2 * intervals cells) (sym even) in
-      rw e (taken, g ∙ ap (λ (c : List ℕ). c ++ drop (length c) out) (sym taken), tt)
+      let taken : written (tallyOf cells) out′ ≡ cells =
+      ap (λ (o : List ℕ). take (2 * intervals cells) o) g ∙ take-at cells (drop (length cells) out) (2 * intervals cells) (sym even) in
+      rw e (taken, g ∙ ap (λ (c : List ℕ). inFront c out) (sym taken), tt)
   call-step false e g = rw e (refl, g, refl)
 
   call-writes : (room : ℕ) → r ≡ listAnswer cells room → out′ ≡ listCells cells room out →
@@ -174,7 +178,8 @@ parsed-once : (rule : Rule) (s : List ℕ) (t u : Tree) (n m : ℕ) → parsed r
 parsed-once rule s t u n m e f = cc
 
 -- no premise is empty: any pair of brackets in an accepted question may be exchanged, for itself if for nothing else
-pub exchanging-itself : (rule : Rule) (index before a behind : List ℕ) → checkOf index ≡ Good → (t : Tree) (n : ℕ) → parsed rule (around before a behind) ≡ parses t n → Matched a →
+pub exchanging-itself : (rule : Rule) (index before a behind : List ℕ) → checkOf index ≡ Good → (t : Tree) (n : ℕ) →
+    parsed rule (around before a behind) ≡ parses t n → Matched a →
     ExchangingPair rule index before a a behind
 exchanging-itself rule index before a behind sound t n accepted matched =
     let by = inside-accepted rule before a behind t n accepted matched in
@@ -200,6 +205,7 @@ module _ (index before a b behind : List ℕ) where
   pub exchange-pair-from-left : ExchangingPair fromLeft index before a b behind → CallsAgree fromLeft index (around before a behind) (around before b behind)
   exchange-pair-from-left = exchange-pair fromLeft from-left-respects index before a b behind
 
-pub exchanging-itself-from-left : (index before a behind : List ℕ) → checkOf index ≡ Good → (t : Tree) (n : ℕ) → parsed fromLeft (around before a behind) ≡ parses t n → Matched a →
+pub exchanging-itself-from-left : (index before a behind : List ℕ) → checkOf index ≡ Good → (t : Tree) (n : ℕ) →
+    parsed fromLeft (around before a behind) ≡ parses t n → Matched a →
     ExchangingPair fromLeft index before a a behind
 exchanging-itself-from-left = exchanging-itself fromLeft

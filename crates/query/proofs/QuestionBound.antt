@@ -29,5 +29,6 @@ question-bound index entries s t f =
     let e : cellsOf (satisfies (has index) t) (highest index) ≡ cellsOf (slotSatisfies v t 0) (highest index) =
     cells-same (satisfies (has index) t) (slotSatisfies v t 0) (highest index) (λ x h l. sym (slot-satisfies v (has index) t x (λ i g. f i g x))) in
     rw (e, ← tests-together index entries s 0 n)
-    (cells-bound (slotSatisfies v t 0) (tests v 0 n) (highest index) (slots-none v 0 (λ j. slot-zero index entries s j) t 0) (tests-out v 0 n (λ j. slot-zero index entries s j))
+    (cells-bound (slotSatisfies v t 0) (tests v 0 n) (highest index) (slots-none v 0 (λ j. slot-zero index entries s j) t 0)
+    (tests-out v 0 n (λ j. slot-zero index entries s j))
     (λ x h w. satisfies-still v t 0 x (λ j g l. tests-still v 0 n x j w g l)))

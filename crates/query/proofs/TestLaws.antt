@@ -9,6 +9,7 @@ use lib.ListN.{length, getD, replicate, length-replicate}
 use borrow.Author.Tests.{ltb-true}
 use borrow.Rule.Slice.PartMut.{midOf, mid-len}
 use Rattle.laws.proofs.Tests.{by-test}
+use Rattle.limits.specs.Limits.{bracketsMax}
 use Rattle.list.specs.declared.answer.Tally.{Tally}
 use Rattle.list.specs.Interval.{records}
 use Rattle.list.specs.Sense.{Steady}
@@ -20,21 +21,21 @@ use Rattle.list.proofs.SweepLaws.{Swept, swept-count, swept-records, swept-writ
 use Rattle.index.specs.Format.{wordCount, highest, listOf}
 use Rattle.index.specs.Sound.{Sound}
 use Rattle.directory.proofs.HasLaws.{list-proper}
-use Rattle.question.specs.Token.{Tok}
-use Rattle.question.specs.Grammar.{Tree, Out, fromLeft, question, treeWords}
+use Rattle.question.specs.Grammar.{Tree, fromLeft, treeWords}
 use Rattle.question.specs.Limits.{tokenWords}
 use Rattle.question.proofs.RuleLaws.{from-left-keeps}
 use Rattle.question.proofs.TreeWords.{Words, question-words}
 use Rattle.window.specs.Window.{member, Holds}
 use Rattle.window.specs.Flips.{odd, flips}
 use Rattle.window.proofs.SweepLaws.{window-part, jump-part}
-use Rattle.evaluate.specs.declared.look.Look.{Look}
+use Rattle.senses.specs.declared.look.Look.{Look}
 use Rattle.evaluate.specs.declared.eval.Step.{Step}
 use Rattle.codes.specs.Code.{wordCodes}
+use Rattle.codes.specs.Reads.{asLevel}
 use Rattle.slots.specs.Slots.{slotHas}
-use Rattle.evaluate.specs.Senses.{Known}
-use Rattle.evaluate.specs.Evaluated.{Evaluated}
-use Rattle.evaluate.specs.Look.{Looks}
+use Rattle.senses.specs.Senses.{Known}
+use Rattle.evaluate.specs.Evaluated.{SameLengths, Evaluated}
+use Rattle.senses.specs.Look.{Looks}
 use Rattle.window.specs.Steps.{Constant}
 use Rattle.query.specs.Drive.{TreeOf, testOf}
 use Rattle.codes.proofs.CodeLaws.{codes-words}
@@ -50,12 +51,13 @@ tree-words codes t o =
     sym (ap length (w .0 ∙ append-nil (treeWords t))) ∙ sym (codes-words (o .toks)) ∙ ap wordCodes (o .are)
 
 module _ {codes : List ℕ} {t : Tree} (o : TreeOf codes t) where
-  pub tree-holds : {index entries hints ws hints′ ws′ : List ℕ} {x : ℕ} {r : Step} →
-      Evaluated (λ f. question fromLeft f 8 0) codes 0 0 index entries x hints ws hints′ ws′ r → Holds (testOf index entries t) x ws′
+  pub tree-holds : {index entries ws : List ℕ} {x : ℕ} {r : Step} → Evaluated (asLevel bracketsMax 0) codes 0 0 index entries x ws r →
+      Holds (testOf index entries t) x ws
   tree-holds e = e .reads (o .fuel) (o .toks) t [] (o .words) (o .are) (o .reads) .4
 
-  pub tree-steady : (index entries : List ℕ) (slots x : ℕ) {senses : List ℕ} {r : Look} → slots ≡ wordCodes codes → Known (slotHas index entries) senses slots x →
-      Looks (λ f. question fromLeft f 8 0) codes 0 0 senses r → Steady (testOf index entries t) x (r .inside) (r .until)
+  pub tree-steady : (index entries : List ℕ) (slots x : ℕ) {senses : List ℕ} {r : Look} → slots ≡ wordCodes codes →
+      Known (slotHas index entries) senses slots x →
+      Looks (asLevel bracketsMax 0) codes 0 0 senses r → Steady (testOf index entries t) x (r .inside) (r .until)
   tree-steady index entries slots x all known e =
       e .reads (o .fuel) (o .toks) t [] (o .words) (o .are) (o .reads) .4 (slotHas index entries) slots x (omega (arith, tree-words codes t o)) known
 
@@ -65,7 +67,8 @@ slot-above : (index entries : List ℕ) → Sound index → (k x : ℕ) → high
 unfolding slotHas
 slot-above index entries s k x h =
     by-test (ltb (getD entries k 0) (wordCount index))
-    (λ e. rw e (proper-names-above (highest index) x (listOf index (getD entries k 0)) (list-proper index s (getD entries k 0) (ltb-true (getD entries k 0) (wordCount index) e)) h))
+    (λ e. rw e (proper-names-above (highest index) x (listOf index (getD entries k 0))
+    (list-proper index s (getD entries k 0) (ltb-true (getD entries k 0) (wordCount index) e)) h))
     (λ e. rw e)
 
 pub test-above : (index entries : List ℕ) → Sound index → (t : Tree) (x : ℕ) → highest index < x → testOf index entries t x ≡ false
@@ -84,8 +87,7 @@ pub window-room : (p : ℕ → Bool) (x k : ℕ) (ws out : List ℕ) → Holds p
 window-room p x k ws out h room = rw (window-part p x k (64 * length ws) ws refl h) room
 
 -- the window is evaluated from a blank one
-pub evaluated-length : {reading : ℕ → List Tok → Out Tree} {codes index entries hints hints′ ws ws′ : List ℕ} {i k x : ℕ} {r : Step} (ws₀ : List ℕ) →
-    Evaluated reading codes i k index entries x hints ws hints′ ws′ r → ws ≡ replicate (length ws₀) 0 → length ws′ ≡ length ws₀
+pub evaluated-length : {hints hints′ ws ws′ : List ℕ} (ws₀ : List ℕ) → SameLengths hints ws hints′ ws′ → ws ≡ replicate (length ws₀) 0 → length ws′ ≡ length ws₀
 evaluated-length {ws = ws} ws₀ e blank = e .ws-long ∙ blank-length ws ws₀ blank
 
 pub members-few : (ws : List ℕ) (r : ℕ) → ((x : ℕ) → r ≡ length (recordsFrom (member ws x) x (64 * length ws))) → r ≤ 64 * length ws

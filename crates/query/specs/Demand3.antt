@@ -1,9 +1,10 @@
 -- Reference 11, demand 3: the cells that two questions write over one sound index, and the exchange of a part in brackets.
 use Prim.Native.Nat.{ℕ, _*_, _/_, _≤_}
 use mathlib.Core.Path.{_≡_}
-use mathlib.Core.List.{List, [], _++_}
-use lib.ListN.{length, take, drop}
+use mathlib.Core.List.{List, []}
+use lib.ListN.{length, take}
 use Rattle.refusal.specs.Refusal.{numberOf}
+use Rattle.list.specs.Front.{inFront}
 use Rattle.list.specs.declared.answer.Tally.{Tally}
 use Rattle.list.specs.declared.answer.Answer.{Answer}
 use Rattle.list.specs.declared.answer.Answer.the-variants.{Listed, Refused}
@@ -72,7 +73,7 @@ writtenBy (Refused x) out = []
 
 -- Reference 7: they stand in front, and what is behind them is as it was
 abbrev pub OnlyWritten : Answer → List ℕ → List ℕ → Type 0
-OnlyWritten r out out′ = out′ ≡ writtenBy r out′ ++ drop (length (writtenBy r out′)) out
+OnlyWritten r out out′ = out′ ≡ inFront (writtenBy r out′) out
 
 -- Reference 9.2: a list, or 12
 abbrev pub ListOrRoom : Answer → Type 0
@@ -93,5 +94,6 @@ pub record SameAnswers (rule : Rule) (second out out′ other other′ : List �
 -- Reference 11, demand 3: so it is of any two calls that keep the promise, the first question's and the second's, with as much room
 abbrev pub CallsAgree : Rule → List ℕ → List ℕ → List ℕ → Type 0
 CallsAgree rule index first second =
-    (out out′ other other′ : List ℕ) (r r′ : Answer) → length out / 2 ≡ length other / 2 → Asks rule index first out out′ r → Asks rule index second other other′ r′ →
+    (out out′ other other′ : List ℕ) (r r′ : Answer) → length out / 2 ≡ length other / 2 → Asks rule index first out out′ r →
+    Asks rule index second other other′ r′ →
     SameAnswers rule second out out′ other other′ r r′

@@ -18,8 +18,8 @@ use Rattle.question.specs.Token.{Tok}
 use Rattle.question.specs.Grammar.{Tree, good, fromLeft, question}
 use Rattle.codes.specs.Code.{codesOf, wordCodes}
 use Rattle.slots.specs.Slots.{slotHas, slotSatisfies}
-use Rattle.evaluate.specs.declared.look.Look.{Look}
-use Rattle.evaluate.specs.Senses.{Sensed}
+use Rattle.senses.specs.declared.look.Look.{Look}
+use Rattle.senses.specs.Senses.{Sensed}
 use Rattle.query.specs.declared.drive.At.{At}
 
 -- ---- the question's test, by its codes
@@ -47,11 +47,6 @@ pub record AskedBy (codes index entries : List ℕ) (slots : ℕ) : Type 0 where
   pub few : slots ≤ questionWordsMax
   pub all : slots ≡ wordCodes codes
 
--- the hints are moved, and nothing else is said of them
-pub record SameLengths (hints ws hints′ ws′ : List ℕ) : Type 0 where
-  pub hints-long : length hints′ ≡ length hints
-  pub ws-long : length ws′ ≡ length ws
-
 -- what is kept of the slots before record x: a sense of each, and the first `slots` are those of the question's words
 pub record Slotted (codes index entries senses : List ℕ) (slots x : ℕ) : Type 0 where
   pub long : length senses ≡ questionWordsMax
@@ -73,19 +68,20 @@ pub record Fits (codes index entries : List ℕ) (n : ℕ) (writing : Bool) (out
 
 -- ---- the loop
 
--- what a window is taken by: some words, and where the driver stands
+-- what a window is taken by: as many words as the driver's place says, and where it stands
 pub record WindowAt (ws : List ℕ) (at : At) : Type 0 where
-  pub some : 1 ≤ length ws
-  pub most : length ws ≤ windowMost
+  pub wide : length ws ≡ at .width
+  pub some : 1 ≤ at .width
+  pub most : at .width ≤ windowMost
   pub begun : 1 ≤ at .x
   pub near : at .x ≤ recordMax
   pub few : at .cells < 4294967296
   pub counted : at .records < 4294967296
 
 -- it passes the window's records
-abbrev pub TakesWindow : List ℕ → List ℕ → List ℕ → List ℕ → Bool → At → List ℕ → List ℕ → Done → Type 0
-TakesWindow codes index entries ws writing at out out′ r =
-    OfEach codes index entries (λ p. Stepped p (at .x) (64 * length ws) writing (at .cells) (at .records) out out′ (r .cells) (r .records))
+abbrev pub TakesWindow : List ℕ → List ℕ → List ℕ → Bool → At → List ℕ → List ℕ → Done → Type 0
+TakesWindow codes index entries writing at out out′ r =
+    OfEach codes index entries (λ p. Stepped p (at .x) (64 * at .width) writing (at .cells) (at .records) out out′ (r .cells) (r .records))
 
 -- what a look at record x says
 abbrev pub LooksAt : List ℕ → List ℕ → List ℕ → ℕ → Look → Type 0

@@ -5,10 +5,10 @@ ghost use lib.ListN.{length};
 ghost use Rattle.limits.specs.Limits.{recordMax};
 ghost use Rattle.index.specs.Format.{highest};
 ghost use Rattle.slots.specs.Slots.{slotHas, ReadBy};
-ghost use Rattle.evaluate.specs.Senses.{Sensed};
+ghost use Rattle.senses.specs.Senses.{Sensed};
 ghost use Rattle.window.specs.Tuning.{windowMost};
+ghost use Rattle.evaluate.specs.Evaluated.{SameLengths};
 ghost use Rattle.query.specs.Drive.{
-  SameLengths,
   AskedBy,
   Slotted,
   Roomy,
@@ -21,14 +21,14 @@ ghost use Rattle.query.specs.Drive.{
   Tallies,
 };
 use evaluate::eval::eval_level;
-use evaluate::look::Look;
-use evaluate::look::look_level;
-use evaluate::senses::renew_senses;
 use limits::BRACKETS_MAX;
 use limits::QUESTION_WORDS_MAX;
 use list::answer::Tally;
 use list::hints::HINTS;
 use list::sense::smaller;
+use senses::kept::renew_senses;
+use senses::look::Look;
+use senses::look::look_level;
 use window::fill::clear;
 use window::members::count_members;
 use window::steps::Done;
@@ -39,11 +39,15 @@ use window::tuning::FAR;
 use window::tuning::LEAST;
 use window::tuning::MOST;
 
-// Where the driver stands: the next record, the words of the next window, and the cells and records so far.
+// Where the driver stands.
 pub struct At {
+    // the next record
     pub x: u32,
+    // how many words of 64 bits the next window has
     pub width: usize,
+    // the cells so far: an odd number where a stretch is open
     pub cells: usize,
+    // the records that were passed and satisfy the question
     pub records: usize,
 }
 
@@ -69,7 +73,7 @@ fn take_window(
     requires within { ⌜ WindowAt (now ws) at ⌝ }
     requires room { ⌜ Roomy (now codes) (now index) (now entries) (at .x) writing (at .cells) (now out) ⌝ }
     ensures keeps { λ _. ⌜ SameLengths (now (hints .entry)) (now (ws .entry)) (now (hints .exit)) (now (ws .exit)) ⌝ }
-    ensures steps { λ r. ⌜ TakesWindow (now (codes .entry)) (now (index .entry)) (now (entries .entry)) (now (ws .entry)) writing at (now (out .entry)) (now (out .exit)) r ⌝ }
+    ensures steps { λ r. ⌜ TakesWindow (now (codes .entry)) (now (index .entry)) (now (entries .entry)) writing at (now (out .entry)) (now (out .exit)) r ⌝ }
 {
     let x = at.x;
     clear(ws);

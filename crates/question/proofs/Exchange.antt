@@ -67,7 +67,8 @@ module _ (rule : Rule) (before a behind : List ℕ) (t : Tree) (n : ℕ) (accept
       inside-walk (bares (tokens before)) (bares (tokens a)) (bares (tokens behind)) n parts-walked (as-bare 0 (tokens a) .above (m .above))
       (as-bare 0 (tokens a) .brackets ∙ m .ends) in
       walk-accepted rule a (count (tokens a)) inside-faultless
-      (accepts-walk (tokens a) (count (tokens a)) (bare-walk fresh (tokens a) (operatorNext 0 (count (tokens a))) (w ∙ ap (λ (i : ℕ). reached (operatorNext 0 i)) (as-bare 0 (tokens a) .words))))
+      (accepts-walk (tokens a) (count (tokens a))
+      (bare-walk fresh (tokens a) (operatorNext 0 (count (tokens a))) (w ∙ ap (λ (i : ℕ). reached (operatorNext 0 i)) (as-bare 0 (tokens a) .words))))
 
 -- the brackets of an accepted question match
 pub accepted-matched : (rule : Rule) (a : List ℕ) (t : Tree) (n : ℕ) → parsed rule a ≡ parses t n → Matched a
@@ -113,7 +114,8 @@ module _ (rule : Rule) (respects : Respects rule) (has : List ℕ → ℕ → Bo
   second-accepted : WithinLimits second → (w : Taken (parts before b behind)) → AcceptedBy rule second (w .words)
   second-accepted limits w =
       let walks : walk fresh (bares (tokens second)) ≡ reached (operatorNext 0 (w .words)) = rw (tokens-around before b behind) (w .walks) in
-      walk-accepted rule second (w .words) (second-faultless limits) (accepts-walk (tokens second) (w .words) (bare-walk fresh (tokens second) (operatorNext 0 (w .words)) walks))
+      walk-accepted rule second (w .words) (second-faultless limits)
+      (accepts-walk (tokens second) (w .words) (bare-walk fresh (tokens second) (operatorNext 0 (w .words)) walks))
 
   pub exchange-accepted : WithinLimits (around before b behind) → AcceptedToo rule has (around before b behind) t
   exchange-accepted limits =
@@ -127,8 +129,10 @@ pub exchange : (rule : Rule) → Respects rule → (has : List ℕ → ℕ → B
     (before behind : List ℕ) (t : Tree) (n : ℕ) → parsed rule (around before a behind) ≡ parses t n → Exchanged rule has t (around before b behind)
 exchange rule respects has a b e before behind t n h =
     record {
-      satisfies-same = exchange-satisfies rule respects has before a b behind (e .tree-a) (e .tree-b) (e .words-a) (e .words-b) (e .a-accepted) (e .b-accepted) (e .same) t n h;
-      accepted = exchange-accepted rule respects has before a b behind (e .tree-a) (e .tree-b) (e .words-a) (e .words-b) (e .a-accepted) (e .b-accepted) (e .same) t n h;
+      satisfies-same = exchange-satisfies rule respects has before a b behind (e .tree-a) (e .tree-b) (e .words-a) (e .words-b) (e .a-accepted) (e .b-accepted)
+          (e .same) t n h;
+      accepted = exchange-accepted rule respects has before a b behind (e .tree-a) (e .tree-b) (e .words-a) (e .words-b) (e .a-accepted) (e .b-accepted)
+          (e .same) t n h;
     }
 
 -- the published rule
@@ -136,7 +140,8 @@ pub exchange-from-left : (has : List ℕ → ℕ → Bool) (a b : List ℕ) → 
     (before behind : List ℕ) (t : Tree) (n : ℕ) → parsed fromLeft (around before a behind) ≡ parses t n → Exchanged fromLeft has t (around before b behind)
 exchange-from-left = exchange fromLeft from-left-respects
 
-pub inside-accepted-from-left : (before a behind : List ℕ) (t : Tree) (n : ℕ) → parsed fromLeft (around before a behind) ≡ parses t n → Matched a → AcceptedBy fromLeft a (count (tokens a))
+pub inside-accepted-from-left : (before a behind : List ℕ) (t : Tree) (n : ℕ) → parsed fromLeft (around before a behind) ≡ parses t n → Matched a →
+    AcceptedBy fromLeft a (count (tokens a))
 inside-accepted-from-left = inside-accepted fromLeft
 
 pub accepted-within-from-left : (s : List ℕ) (t : Tree) (n : ℕ) → parsed fromLeft s ≡ parses t n → WithinLimits s

@@ -62,7 +62,8 @@ module _ (s : List ℕ) (i end : ℕ) (is : end ≡ i + run (drop i s)) where
   long-past h k = first-skip (longAt s) i (end + 1) (length s) (omega arith) (omega arith) (λ j l u. short-run h j l (omega arith))
 
   pub long-none : end - i ≤ 32 → end ≡ length s → firstFrom (longAt s) i (length s - i) ≡ Nowhere
-  long-none h k = first-skip (longAt s) i (length s) (length s) (omega arith) (omega arith) (λ j l u. short-run h j l (omega arith)) ∙ first-end (longAt s) (length s) (length s) (omega arith)
+  long-none h k = first-skip (longAt s) i (length s) (length s) (omega arith) (omega arith) (λ j l u. short-run h j l (omega arith))
+      ∙ first-end (longAt s) (length s) (length s) (omega arith)
 
 -- ---- the refusals in their order
 

@@ -36,7 +36,8 @@ pub data Does : Stand → Tok → Pass → Type 0 where
   bracket-many : (n k p : ℕ) → 8 ≤ n → Does (operandNext n k) (openT p) (refused 11)
   none : (at : Stand) (t : Tok) → Does at t (refused 9)
 
-does-word : (n k p : ℕ) (w : List ℕ) (b : Bool) → ltb k 16 ≡ b → Does (operandNext n k) (wordT w p) (choose b (λ _. goes (operatorNext n (k + 1))) (λ _. refused 10))
+does-word : (n k p : ℕ) (w : List ℕ) (b : Bool) → ltb k 16 ≡ b →
+    Does (operandNext n k) (wordT w p) (choose b (λ _. goes (operatorNext n (k + 1))) (λ _. refused 10))
 does-word n k p w true e = takes-word n k p w (ltb-true k 16 e)
 does-word n k p w false e = word-many n k p w (ltb-false k 16 e)
 

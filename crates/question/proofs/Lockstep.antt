@@ -34,7 +34,8 @@ module _ (Base : List Tok → List Tok → Type 0) where
   r-bind S S′ (bad c r) (good e′ r′ j′) h h′ w k = tt
   r-bind S S′ (bad c r) (bad c′ r′) h h′ w k = tt
 
-  r-open : (S : Tree → Tree → Type 0) (a b : Bool) (o o′ : Out Tree) (r r′ : List Tok) → R S o o′ → R S (choose a (λ _. bad 11 r) (λ _. o)) (choose b (λ _. bad 11 r′) (λ _. o′))
+  r-open : (S : Tree → Tree → Type 0) (a b : Bool) (o o′ : Out Tree) (r r′ : List Tok) → R S o o′ →
+      R S (choose a (λ _. bad 11 r) (λ _. o)) (choose b (λ _. bad 11 r′) (λ _. o′))
   r-open S true true o o′ r r′ w = tt
   r-open S true false o o′ r r′ w = tt
   r-open S false true o o′ r r′ w = r-bad S o 11 r′
@@ -49,7 +50,8 @@ record Keeps (rule : Rule) (S : Tree → Tree → Type 0) (L : List Link → Lis
   more-links : (o : Op) (a b : Tree) (ls ms : List Link) → S a b → L ls ms → L (link o a ∷ ls) (link o b ∷ ms)
 
 -- how two readings of a pair of Base go
-record Begins (rule : Rule) (S : Tree → Tree → Type 0) (L : List Link → List Link → Type 0) (Base : List Tok → List Tok → Type 0) (r r′ : List Tok) : Type 0 where
+record Begins (rule : Rule) (S : Tree → Tree → Type 0) (L : List Link → List Link → Type 0) (Base : List Tok → List Tok → Type 0)
+    (r r′ : List Tok) : Type 0 where
   operands : (f g d D k K : ℕ) → R Base S (operand rule (suc f) d k r) (operand rule (suc g) D K r′)
   levels : (f g d D k K : ℕ) → R Base L (links rule (suc f) d k r) (links rule (suc g) D K r′)
   closing : (e e′ : Tree) (j j′ : ℕ) → R Base S (closed e r j) (closed e′ r′ j′)
@@ -75,10 +77,13 @@ module _ (rule : Rule) (S : Tree → Tree → Type 0) (L : List Link → List Li
   behind : {C : Type 0} (T : C → C → Type 0) (put : Tree → List Link → C) (f g d D : ℕ) (o o′ : Out Tree) →
       ((a b : Tree) (ls ms : List Link) → S a b → L ls ms → T (put a ls) (put b ms)) → R Base S o o′ →
       ((j j′ : ℕ) (r r′ : List Tok) → Rests Base r r′ → R Base L (links rule f d j r) (links rule g D j′ r′)) →
-      R Base T (bind o (λ e r j. bind (links rule f d j r) (λ ls z i. good (put e ls) z i))) (bind o′ (λ e r j. bind (links rule g D j r) (λ ls z i. good (put e ls) z i)))
+      R Base T (bind o (λ e r j. bind (links rule f d j r) (λ ls z i. good (put e ls) z i)))
+      (bind o′ (λ e r j. bind (links rule g D j r) (λ ls z i. good (put e ls) z i)))
   behind T put f g d D o o′ kept w h =
-      r-bind Base S T o o′ (λ e r j. bind (links rule f d j r) (λ ls z i. good (put e ls) z i)) (λ e r j. bind (links rule g D j r) (λ ls z i. good (put e ls) z i)) w
-      (λ e r j e′ r′ j′ p t. r-bind Base L T (links rule f d j r) (links rule g D j′ r′) (λ ls z i. good (put e ls) z i) (λ ls z i. good (put e′ ls) z i) (h j j′ r r′ t)
+      r-bind Base S T o o′ (λ e r j. bind (links rule f d j r) (λ ls z i. good (put e ls) z i))
+      (λ e r j. bind (links rule g D j r) (λ ls z i. good (put e ls) z i)) w
+      (λ e r j e′ r′ j′ p t. r-bind Base L T (links rule f d j r) (links rule g D j′ r′) (λ ls z i. good (put e ls) z i) (λ ls z i. good (put e′ ls) z i)
+      (h j j′ r r′ t)
       (λ ls z i ls′ z′ i′ q v. (kept e e′ ls ls′ p q, v)))
 
   mutual
@@ -88,13 +93,15 @@ module _ (rule : Rule) (S : Tree → Tree → Type 0) (L : List Link → List Li
     in-step zero g d D k K r r′ h = tt
     in-step (suc f) zero d D k K r r′ h = r-bad Base S (question rule (suc f) d k r) 0 r′
     in-step (suc f) (suc g) d D k K r r′ h =
-        behind S rule f g d D (operand rule f d k r) (operand rule g D K r′) (keeps .levels) (o-step f g d D k K r r′ h) (λ j j′ z z′ t. l-step f g d D j j′ z z′ t)
+        behind S rule f g d D (operand rule f d k r) (operand rule g D K r′) (keeps .levels) (o-step f g d D k K r r′ h)
+        (λ j j′ z z′ t. l-step f g d D j j′ z z′ t)
 
     o-step : (f g d D k K : ℕ) (r r′ : List Tok) → Rests Base r r′ → R Base S (operand rule f d k r) (operand rule g D K r′)
     o-step zero g d D k K r r′ h = tt
     o-step (suc f) zero d D k K r r′ h = r-bad Base S (operand rule (suc f) d k r) 0 r′
     o-step (suc f) (suc g) d D k K r r′ (ends h) = begins r r′ h .operands f g d D k K
-    o-step (suc f) (suc g) d D k K (_ ∷ r) (_ ∷ r′) (both (wordT w p) h) = r-word (ltb k 16) (ltb K 16) w r r′ (wordT w p ∷ r) (wordT w p ∷ r′) (k + 1) (K + 1) h
+    o-step (suc f) (suc g) d D k K (_ ∷ r) (_ ∷ r′) (both (wordT w p) h) = r-word (ltb k 16) (ltb K 16) w r r′ (wordT w p ∷ r) (wordT w p ∷ r′) (k + 1)
+        (K + 1) h
     o-step (suc f) (suc g) d D k K (_ ∷ r) (_ ∷ r′) (both (opT o p) h) = tt
     o-step (suc f) (suc g) d D k K (_ ∷ r) (_ ∷ r′) (both (openT p) h) =
         r-open Base S (eqb d 0) (eqb D 0) (bind (question rule f (d - 1) k r) closed) (bind (question rule g (D - 1) K r′) closed) (openT p ∷ r) (openT p ∷ r′)
@@ -108,7 +115,8 @@ module _ (rule : Rule) (S : Tree → Tree → Type 0) (L : List Link → List Li
     l-step (suc f) (suc g) d D k K r r′ (ends h) = begins r r′ h .levels f g d D k K
     l-step (suc f) (suc g) d D k K (_ ∷ r) (_ ∷ r′) (both (wordT w p) h) = (keeps .no-links, both (wordT w p) h)
     l-step (suc f) (suc g) d D k K (_ ∷ r) (_ ∷ r′) (both (opT o p) h) =
-        behind L (λ e ls. link o e ∷ ls) f g d D (operand rule f d k r) (operand rule g D K r′) (keeps .more-links o) (o-step f g d D k K r r′ h) (λ j j′ z z′ t. l-step f g d D j j′ z z′ t)
+        behind L (λ e ls. link o e ∷ ls) f g d D (operand rule f d k r) (operand rule g D K r′) (keeps .more-links o) (o-step f g d D k K r r′ h)
+        (λ j j′ z z′ t. l-step f g d D j j′ z z′ t)
     l-step (suc f) (suc g) d D k K (_ ∷ r) (_ ∷ r′) (both (openT p) h) = (keeps .no-links, both (openT p) h)
     l-step (suc f) (suc g) d D k K (_ ∷ r) (_ ∷ r′) (both (closeT p) h) = (keeps .no-links, both (closeT p) h)
     l-step (suc f) (suc g) d D k K (_ ∷ r) (_ ∷ r′) (both (otherT p) h) = (keeps .no-links, both (otherT p) h)
@@ -176,7 +184,8 @@ module _ (rule : Rule) (respects : Respects rule) (has : List ℕ → ℕ → Bo
 
   -- the part itself, which by itself reads to a, and the other to b
   module _ (a b : Tree) (ab : Same has a b) (F F′ j₀ j₀′ : ℕ) (ha : question rule F 8 0 q ≡ good a [] j₀) (hb : question rule F′ 8 0 q′ ≡ good b [] j₀′) where
-    at-part : (o o′ : Out Tree) → R (Bracket rule post) (λ a b. a ≡ b) (good a [] j₀) o → R (Bracket rule post) (λ a b. a ≡ b) (good b [] j₀′) o′ → R Parts (Same has) (bind o closed) (bind o′ closed)
+    at-part : (o o′ : Out Tree) → R (Bracket rule post) (λ a b. a ≡ b) (good a [] j₀) o → R (Bracket rule post) (λ a b. a ≡ b) (good b [] j₀′) o′ →
+        R Parts (Same has) (bind o closed) (bind o′ closed)
     at-part (good e r j) (good e′ r′ j′) w w′ =
         rw (← bracket-left rule post r (w .1), ← bracket-left rule post r′ (w′ .1), ← w .0, ← w′ .0) (same-part a b ab, all-same post)
     at-part (good e r j) (bad c r′) w w′ = r-bad Parts (Same has) (closed e r j) c r′
@@ -188,7 +197,8 @@ module _ (rule : Rule) (respects : Respects rule) (has : List ℕ → ℕ → Bo
     part-begins r r′ over = record { operands = λ f g d D k K. tt; levels = λ f g d D k K. (none, ends over); closing = λ e e′ j j′. tt }
     part-begins r r′ exchanged = record {
       operands = λ f g d D k K.
-          r-open Parts (Same has) (eqb d 0) (eqb D 0) (bind (question rule f (d - 1) k (q ++ closeT 0 ∷ post)) closed) (bind (question rule g (D - 1) K (q′ ++ closeT 0 ∷ post)) closed)
+          r-open Parts (Same has) (eqb d 0) (eqb D 0) (bind (question rule f (d - 1) k (q ++ closeT 0 ∷ post)) closed)
+          (bind (question rule g (D - 1) K (q′ ++ closeT 0 ∷ post)) closed)
           (openT 0 ∷ (q ++ closeT 0 ∷ post)) (openT 0 ∷ (q′ ++ closeT 0 ∷ post))
           (at-part (question rule f (d - 1) k (q ++ closeT 0 ∷ post)) (question rule g (D - 1) K (q′ ++ closeT 0 ∷ post))
           (in-brackets rule post F f 8 (d - 1) 0 k q a j₀ ha) (in-brackets rule post F′ g 8 (D - 1) 0 K q′ b j₀′ hb));
@@ -196,7 +206,8 @@ module _ (rule : Rule) (respects : Respects rule) (has : List ℕ → ℕ → Bo
       closing = λ e e′ j j′. tt;
     }
 
-    pub step-means : (f g i i′ : ℕ) (pre : List Tok) (t t′ : Tree) (r : List Tok) → question rule f 8 0 (pre ++ openT 0 ∷ (q ++ closeT 0 ∷ post)) ≡ good t [] i →
+    pub step-means : (f g i i′ : ℕ) (pre : List Tok) (t t′ : Tree) (r : List Tok) →
+        question rule f 8 0 (pre ++ openT 0 ∷ (q ++ closeT 0 ∷ post)) ≡ good t [] i →
         question rule g 8 0 (pre ++ openT 0 ∷ (q′ ++ closeT 0 ∷ post)) ≡ good t′ r i′ → Same has t t′
     step-means f g i i′ pre t t′ r h h′ =
         rw (h, h′) at (in-step rule (Same has) (SameLinks has) means-keeps Parts part-begins f g 8 8 0 0 _ _ (front Parts pre _ _ exchanged)) .0

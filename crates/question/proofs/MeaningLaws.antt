@@ -50,8 +50,10 @@ satisfies-by has x said from (part t) h = satisfies-by has x said from t h
 pub satisfies-words : (has had : List ℕ → ℕ → Bool) (x y : ℕ) (t : Tree) →
     ((i : ℕ) → i < length (treeWords t) → has (getD (treeWords t) i []) x ≡ had (getD (treeWords t) i []) y) → satisfies has t x ≡ satisfies had t y
 satisfies-words has had x y t h =
-    sym (satisfies-by has x (λ i. has (getD (treeWords t) i []) x) 0 t (λ i lt. let z : 0 + i ≡ i = omega arith in ap (λ (n : ℕ). has (getD (treeWords t) n []) x) z))
-    ∙ satisfies-by had y (λ i. has (getD (treeWords t) i []) x) 0 t (λ i lt. let z : 0 + i ≡ i = omega arith in ap (λ (n : ℕ). has (getD (treeWords t) n []) x) z ∙ h i lt)
+    sym (satisfies-by has x (λ i. has (getD (treeWords t) i []) x) 0 t
+    (λ i lt. let z : 0 + i ≡ i = omega arith in ap (λ (n : ℕ). has (getD (treeWords t) n []) x) z))
+    ∙ satisfies-by had y (λ i. has (getD (treeWords t) i []) x) 0 t
+    (λ i lt. let z : 0 + i ≡ i = omega arith in ap (λ (n : ℕ). has (getD (treeWords t) n []) x) z ∙ h i lt)
 
 -- ---- the steps
 

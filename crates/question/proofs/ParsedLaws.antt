@@ -135,7 +135,8 @@ module _ (rule : Rule) (s : List ℕ) (x : Refusal) where
   asked-stops : 9 ≤ numberOf x → parsed rule s ≡ refuses x → StopsAt (By x) s (valueOf x)
   asked-stops l h = stops-step (parsed rule s) h l (call rule s)
 
-stops-asked : (rule : Rule) (s : List ℕ) (c : ℕ) (r : List Tok) → Faultless s → walkAll fresh (tokens s) ≡ stopped c r → parsed rule s ≡ refuses (refusalOf c (tokenPlace (length s) r))
+stops-asked : (rule : Rule) (s : List ℕ) (c : ℕ) (r : List Tok) → Faultless s → walkAll fresh (tokens s) ≡ stopped c r →
+    parsed rule s ≡ refuses (refusalOf c (tokenPlace (length s) r))
 stops-asked rule s c r f h = faultless-asked rule s f ∙ ap (outcome (length s)) (whole-stops rule s c r .1 h)
 
 -- refused so exactly where the walk stops so
@@ -144,7 +145,8 @@ exactly-asked : (rule : Rule) (s : List ℕ) (x : Refusal) (Stop : List Tok → 
 exactly-asked rule s x Stop l is exact = (
   λ h. let w = asked-stops rule s x l h in record { faultless = w .faultless; left = w .left; stop = exact (w .left) .0 (w .stop); place = w .place },
   λ w.
-      stops-asked rule s (numberOf x) (w .left) (w .faultless) (exact (w .left) .1 (w .stop)) ∙ ap (λ (i : ℕ). refuses (refusalOf (numberOf x) i)) (sym (w .place))
+      stops-asked rule s (numberOf x) (w .left) (w .faultless) (exact (w .left) .1 (w .stop))
+      ∙ ap (λ (i : ℕ). refuses (refusalOf (numberOf x) i)) (sym (w .place))
       ∙ ap refuses is,
 )
 
@@ -180,8 +182,10 @@ unfolding parsed
 answer-any-rule rule rule′ s = go (ltb 256 (length s)) (first (foreignAt s) (length s)) (first (longAt s) (length s))
   where
     go : (b : Bool) (f g : Found) →
-        answer (choose b (λ _. refuses (QuestionLength (length s))) (λ _. unless f QuestionByte (λ _. unless g QuestionWord (λ _. outcome (length s) (whole rule s))))) ≡
-        answer (choose b (λ _. refuses (QuestionLength (length s))) (λ _. unless f QuestionByte (λ _. unless g QuestionWord (λ _. outcome (length s) (whole rule′ s)))))
+        answer (choose b (λ _. refuses (QuestionLength (length s)))
+        (λ _. unless f QuestionByte (λ _. unless g QuestionWord (λ _. outcome (length s) (whole rule s))))) ≡
+        answer (choose b (λ _. refuses (QuestionLength (length s)))
+        (λ _. unless f QuestionByte (λ _. unless g QuestionWord (λ _. outcome (length s) (whole rule′ s)))))
     go true f g = refl
     go false (At i) g = refl
     go false Nowhere (At i) = refl

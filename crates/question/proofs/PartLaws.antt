@@ -77,7 +77,8 @@ record Again (at mid : Stand) (t : Tok) (r : List Tok) (m j : ℕ) : Type 0 wher
   brackets : openAfter m′ r ≡ openAfter m (t ∷ r)
   words : j′ + count r ≡ j + count (t ∷ r)
 
-again : (at mid : Stand) (t : Tok) (r : List Tok) (m j : ℕ) → Does at t (goes mid) → NeverBelow m (t ∷ r) → deepest m (t ∷ r) ≤ 8 → j + count (t ∷ r) ≤ 16 → Again at mid t r m j
+again : (at mid : Stand) (t : Tok) (r : List Tok) (m j : ℕ) → Does at t (goes mid) → NeverBelow m (t ∷ r) → deepest m (t ∷ r) ≤ 8 → j + count (t ∷ r) ≤ 16 →
+    Again at mid t r m j
 unfolding tokenWords openAfter deepest
 again at mid t r m j (takes-word n k p w h) a d l =
     let more : j < 16 = omega arith in
@@ -94,7 +95,8 @@ pub walk-again : (at : Stand) (ts : List Tok) (to : Stand) (m j : ℕ) → walk 
     walk (like at m j) ts ≡ reached (like to (openAfter m ts) (j + count ts))
 unfolding walk tokenWords openAfter
 walk-again at [] to m j h a d l =
-    subst (λ (x : Stand). reached (like at m j) ≡ reached (like x m (j + 0))) (walk-none at to h) (let e : j ≡ j + 0 = omega arith in ap (λ (i : ℕ). reached (like at m i)) e)
+    subst (λ (x : Stand). reached (like at m j) ≡ reached (like x m (j + 0))) (walk-none at to h)
+    (let e : j ≡ j + 0 = omega arith in ap (λ (i : ℕ). reached (like at m i)) e)
 walk-again at (t ∷ r) to m j h a d l =
     let x = through at t r to h in
     let y = again at (x .mid) t r m j (does-as (x .passes)) a d l in
@@ -153,7 +155,8 @@ module _ (P A Q : List Tok) where
       let z = walk-apart (y .mid) A (closeT 0 ∷ Q) (operatorNext 0 N) (y .onward) in
       let w = through (z .mid) (closeT 0) Q (operatorNext 0 N) (z .rest) in
       let c = closed-by (z .mid) (w .mid) 0 (does-as (w .passes)) in
-      let inner : walk (operandNext (o .n + 1) (o .k)) A ≡ reached (operatorNext (c .n) (c .k)) = ap (λ (a : Stand). walk a A) (sym (o .leads)) ∙ z .front ∙ ap reached (c .from) in
+      let inner : walk (operandNext (o .n + 1) (o .k)) A ≡ reached (operatorNext (c .n) (c .k)) =
+      ap (λ (a : Stand). walk a A) (sym (o .leads)) ∙ z .front ∙ ap reached (c .from) in
       let kept = walk-kept (operandNext (o .n + 1) (o .k)) A (operatorNext (c .n) (c .k)) inner in
       let more = below-more 0 (o .n + 1) A above in
       let zero-more : 0 + (o .n + 1) ≡ o .n + 1 = omega arith in
@@ -174,7 +177,8 @@ module _ (P A Q : List Tok) where
   walk-around N a =
       let back : a .n + 1 - 1 ≡ a .n = omega arith in
       let over : pass (operandNext (a .n) (a .k)) (openT 0) ≡ goes (operandNext (a .n + 1) (a .k)) = rw (lt-ltb (a .n) 8 (a .room)) in
-      let out : pass (operatorNext (a .n + 1) (a .k + count A)) (closeT 0) ≡ goes (operatorNext (a .n) (a .k + count A)) = rw (ne-eqb (a .n + 1) 0 (λ (e : a .n + 1 ≡ 0). omega arith), back) in
+      let out : pass (operatorNext (a .n + 1) (a .k + count A)) (closeT 0) ≡ goes (operatorNext (a .n) (a .k + count A)) =
+      rw (ne-eqb (a .n + 1) 0 (λ (e : a .n + 1 ≡ 0). omega arith), back) in
       walk-append fresh (operandNext (a .n) (a .k)) P (openT 0 ∷ (A ++ closeT 0 ∷ Q)) (a .front)
       ∙ walk-pass (operandNext (a .n) (a .k)) (operandNext (a .n + 1) (a .k)) (openT 0) (A ++ closeT 0 ∷ Q) over
       ∙ walk-append (operandNext (a .n + 1) (a .k)) (operatorNext (a .n + 1) (a .k + count A)) A (closeT 0 ∷ Q) (a .inner)
@@ -182,7 +186,8 @@ module _ (P A Q : List Tok) where
       ∙ a .rest
 
   -- the part by itself
-  pub inside-walk : (N : ℕ) → walk fresh (bracketed P A Q) ≡ reached (operatorNext 0 N) → NeverBelow 0 A → openAfter 0 A ≡ 0 → walk fresh A ≡ reached (operatorNext 0 (count A))
+  pub inside-walk : (N : ℕ) → walk fresh (bracketed P A Q) ≡ reached (operatorNext 0 N) → NeverBelow 0 A → openAfter 0 A ≡ 0 →
+      walk fresh A ≡ reached (operatorNext 0 (count A))
   inside-walk N h above ends =
       let a = around-walk N h above ends in
       let first = walk-kept fresh P (operandNext (a .n) (a .k)) (a .front) in
@@ -194,7 +199,8 @@ module _ (P A Q : List Tok) where
       ∙ ap₂ (λ (b i : ℕ). reached (operatorNext b i)) ends (let e : 0 + count A ≡ count A = omega arith in e)
 
 -- another part B in its place
-pub exchange-walk : (P A B Q : List Tok) (NA NB : ℕ) → walk fresh (bracketed P A Q) ≡ reached (operatorNext 0 NA) → NeverBelow 0 A → openAfter 0 A ≡ 0 → walk fresh B ≡ reached (operatorNext 0 NB) →
+pub exchange-walk : (P A B Q : List Tok) (NA NB : ℕ) → walk fresh (bracketed P A Q) ≡ reached (operatorNext 0 NA) → NeverBelow 0 A → openAfter 0 A ≡ 0 →
+    walk fresh B ≡ reached (operatorNext 0 NB) →
     deepest 0 (bracketed P B Q) ≤ 8 → count (bracketed P B Q) ≤ 16 → Taken (bracketed P B Q)
 unfolding deepest tokenWords
 exchange-walk P A B Q NA NB h above ends alone d l =
@@ -205,7 +211,8 @@ exchange-walk P A B Q NA NB h above ends alone d l =
     let rest = walk-kept (operatorNext (a .n) (a .k + count A)) Q (operatorNext 0 NA) (a .rest) in
     let zero-more : 0 + (a .n + 1) ≡ a .n + 1 = omega arith in
     let more = rw zero-more at (below-more 0 (a .n + 1) B (inner .above)) in
-    let deep : deepest (a .n) (openT 0 ∷ (B ++ closeT 0 ∷ Q)) ≤ 8 = rw (first .brackets) at (le-through (deepest-append 0 P (openT 0 ∷ (B ++ closeT 0 ∷ Q)) .1) d) in
+    let deep : deepest (a .n) (openT 0 ∷ (B ++ closeT 0 ∷ Q)) ≤ 8 =
+    rw (first .brackets) at (le-through (deepest-append 0 P (openT 0 ∷ (B ++ closeT 0 ∷ Q)) .1) d) in
     let words : a .k + count B + count Q ≤ 16 = omega (arith, first .words, count-append P (openT 0 ∷ (B ++ closeT 0 ∷ Q)), count-append B (closeT 0 ∷ Q)) in
     let level : openAfter (a .n + 1) B ≡ a .n + 1 = omega (arith, more .1, inner .brackets) in
     record {
@@ -216,10 +223,12 @@ exchange-walk P A B Q NA NB h above ends alone d l =
         room = a .room;
         front = a .front;
         inner =
-            walk-again fresh B (operatorNext 0 NB) (a .n + 1) (a .k) alone (more .0) (le-through (deepest-append (a .n + 1) B (closeT 0 ∷ Q) .0) deep) (omega arith)
+            walk-again fresh B (operatorNext 0 NB) (a .n + 1) (a .k) alone (more .0) (le-through (deepest-append (a .n + 1) B (closeT 0 ∷ Q) .0) deep)
+            (omega arith)
             ∙ ap (λ (i : ℕ). reached (operatorNext i (a .k + count B))) level;
         rest =
-            walk-again (operatorNext (a .n) (a .k + count A)) Q (operatorNext 0 NA) (a .n) (a .k + count B) (a .rest) (rest .above) (rest .deep (omega arith)) words
+            walk-again (operatorNext (a .n) (a .k + count A)) Q (operatorNext 0 NA) (a .n) (a .k + count B) (a .rest) (rest .above)
+            (rest .deep (omega arith)) words
             ∙ ap (λ (i : ℕ). reached (operatorNext i (a .k + count B + count Q))) (rest .brackets);
       });
     }

@@ -74,7 +74,8 @@ bind-map s o g (Bad refusal) i = bind-bad s o (λ a z i. good (g a) z i) refusal
 
 -- ---- tokens that cannot be taken
 
-none-operand : (rule : Rule) (f d k : ℕ) (s : List ℕ) (t : Token) → OneOf (0 ∷ 2 ∷ 4 ∷ 5 ∷ []) (tagOf the-type t) → operand rule (suc f) d k (headed s t) ≡ bad 9 (headed s t)
+none-operand : (rule : Rule) (f d k : ℕ) (s : List ℕ) (t : Token) → OneOf (0 ∷ 2 ∷ 4 ∷ 5 ∷ []) (tagOf the-type t) →
+    operand rule (suc f) d k (headed s t) ≡ bad 9 (headed s t)
 unfolding operand
 none-operand rule f d k s (End p) h = refl
 none-operand rule f d k s (Word p q) h = absurd (miss (0 ∷ 2 ∷ 4 ∷ 5 ∷ []) 1 tt h)
@@ -83,7 +84,8 @@ none-operand rule f d k s (Open p) h = absurd (miss (0 ∷ 2 ∷ 4 ∷ 5 ∷ [])
 none-operand rule f d k s (Close p) h = refl
 none-operand rule f d k s (Other p) h = refl
 
-none-links : (rule : Rule) (f d k : ℕ) (s : List ℕ) (t : Token) → OneOf (0 ∷ 1 ∷ 3 ∷ 4 ∷ 5 ∷ []) (tagOf the-type t) → links rule (suc f) d k (headed s t) ≡ good [] (headed s t) k
+none-links : (rule : Rule) (f d k : ℕ) (s : List ℕ) (t : Token) → OneOf (0 ∷ 1 ∷ 3 ∷ 4 ∷ 5 ∷ []) (tagOf the-type t) →
+    links rule (suc f) d k (headed s t) ≡ good [] (headed s t) k
 unfolding links
 none-links rule f d k s (End p) h = refl
 none-links rule f d k s (Word p q) h = refl
@@ -225,7 +227,8 @@ module _ {s : List ℕ} {d k at : ℕ} {t : Token} (nt : NextToken s at t) where
   -- an operator: p is what the operand's reader answered behind it
   module _ {o : op.Op} {place end : ℕ} (is : t ≡ Op o place end) {p : Read} (hp : ReadsOperand s d k end p) where
     link-read : (r : Read) →
-        ((rule : Rule) (g : ℕ) → 2 * (length s - at) ≤ g → ReadAs s r (bind (operand rule g d k (tokensAt s end)) (λ x z j. bind (links rule g d j z) (λ ls y i. good (link o x ∷ ls) y i)))) →
+        ((rule : Rule) (g : ℕ) → 2 * (length s - at) ≤ g →
+        ReadAs s r (bind (operand rule g d k (tokensAt s end)) (λ x z j. bind (links rule g d j z) (λ ls y i. good (link o x ∷ ls) y i)))) →
         (rule : Rule) (f : ℕ) → 2 * (length s - at) < f → ReadAs s r (links rule f d k (tokensAt s at))
     unfolding links
     link-read r y rule f lt =
@@ -253,7 +256,8 @@ module _ {s : List ℕ} {d k at : ℕ} {t : Token} (nt : NextToken s at t) where
 
 module _ {s : List ℕ} {d k at : ℕ} {p : Read} (hp : ReadsOperand s d k at p) where
   level-read : (r : Read) →
-      ((rule : Rule) (g : ℕ) → 2 * (length s - at) + 1 ≤ g → ReadAs s r (bind (operand rule g d k (tokensAt s at)) (λ x z j. bind (links rule g d j z) (λ ls y i. good (rule x ls) y i)))) →
+      ((rule : Rule) (g : ℕ) → 2 * (length s - at) + 1 ≤ g →
+      ReadAs s r (bind (operand rule g d k (tokensAt s at)) (λ x z j. bind (links rule g d j z) (λ ls y i. good (rule x ls) y i)))) →
       (rule : Rule) (f : ℕ) → 2 * (length s - at) + 1 < f → ReadAs s r (question rule f d k (tokensAt s at))
   unfolding question
   level-read r y rule f lt = above (λ f. ReadAs s r (question rule f d k (tokensAt s at))) f (2 * (length s - at) + 1) lt (λ g le. y rule g le)

@@ -58,7 +58,8 @@ unfolding spaces
 after-spaces [] h = let f : ⊥ = omega arith in absurd f
 after-spaces (b ∷ bs) h = go (eqb b 32) refl (after-spaces bs) h
   where
-    go : (t : Bool) → eqb b 32 ≡ t → (spaces bs < length bs → eqb (getD bs (spaces bs) 0) 32 ≡ false) → spaces (b ∷ bs) < length (b ∷ bs) → eqb (getD (b ∷ bs) (spaces (b ∷ bs)) 0) 32 ≡ false
+    go : (t : Bool) → eqb b 32 ≡ t → (spaces bs < length bs → eqb (getD bs (spaces bs) 0) 32 ≡ false) → spaces (b ∷ bs) < length (b ∷ bs) →
+        eqb (getD (b ∷ bs) (spaces (b ∷ bs)) 0) 32 ≡ false
     go true e i h =
         let z : spaces (b ∷ bs) ≡ suc (spaces bs) = rw e in
         rw z (i (omega arith))

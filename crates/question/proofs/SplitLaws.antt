@@ -111,7 +111,8 @@ bareOut (bad c r) = bad c (bares r)
 
 -- ---- reading does not look at places
 
-b-bind : {A B : Type 0} (o : Out A) (h h′ : A → List Tok → ℕ → Out B) → ((e : A) (r : List Tok) (k : ℕ) → h′ e (bares r) k ≡ bareOut (h e r k)) → bind (bareOut o) h′ ≡ bareOut (bind o h)
+b-bind : {A B : Type 0} (o : Out A) (h h′ : A → List Tok → ℕ → Out B) → ((e : A) (r : List Tok) (k : ℕ) → h′ e (bares r) k ≡ bareOut (h e r k)) →
+    bind (bareOut o) h′ ≡ bareOut (bind o h)
 b-bind (good e r k) h h′ q = q e r k
 b-bind (bad c r) h h′ q = refl
 
@@ -139,17 +140,20 @@ module _ (rule : Rule) where
     bare-question zero d k ts = refl
     bare-question (suc f) d k ts =
         ap (λ (o : Out Tree). bind o (λ e r j. bind (links rule f d j r) (λ ls z i. good (rule e ls) z i))) (bare-operand f d k ts)
-        ∙ b-bind (operand rule f d k ts) (λ e r j. bind (links rule f d j r) (λ ls z i. good (rule e ls) z i)) (λ e r j. bind (links rule f d j r) (λ ls z i. good (rule e ls) z i))
+        ∙ b-bind (operand rule f d k ts) (λ e r j. bind (links rule f d j r) (λ ls z i. good (rule e ls) z i))
+        (λ e r j. bind (links rule f d j r) (λ ls z i. good (rule e ls) z i))
         (λ e r j. ap (λ (o : Out (List Link)). bind o (λ ls z i. good (rule e ls) z i)) (bare-links f d j r) ∙ b-put (links rule f d j r) (rule e))
 
     bare-operand : (f d k : ℕ) (ts : List Tok) → operand rule f d k (bares ts) ≡ bareOut (operand rule f d k ts)
     bare-operand zero d k ts = refl
     bare-operand (suc f) d k [] = refl
     bare-operand (suc f) d k (wordT w p ∷ r) =
-        b-choose (ltb k 16) (λ _. good (word w) r (k + 1)) (λ _. bad 10 (wordT w p ∷ r)) (λ _. good (word w) (bares r) (k + 1)) (λ _. bad 10 (wordT w 0 ∷ bares r)) refl refl
+        b-choose (ltb k 16) (λ _. good (word w) r (k + 1)) (λ _. bad 10 (wordT w p ∷ r)) (λ _. good (word w) (bares r) (k + 1))
+        (λ _. bad 10 (wordT w 0 ∷ bares r)) refl refl
     bare-operand (suc f) d k (opT o p ∷ r) = refl
     bare-operand (suc f) d k (openT p ∷ r) =
-        b-choose (eqb d 0) (λ _. bad 11 (openT p ∷ r)) (λ _. bind (question rule f (d - 1) k r) closed) (λ _. bad 11 (openT 0 ∷ bares r)) (λ _. bind (question rule f (d - 1) k (bares r)) closed)
+        b-choose (eqb d 0) (λ _. bad 11 (openT p ∷ r)) (λ _. bind (question rule f (d - 1) k r) closed) (λ _. bad 11 (openT 0 ∷ bares r))
+        (λ _. bind (question rule f (d - 1) k (bares r)) closed)
         refl (ap (λ (o : Out Tree). bind o closed) (bare-question f (d - 1) k r) ∙ b-bind (question rule f (d - 1) k r) closed closed b-closed)
     bare-operand (suc f) d k (closeT p ∷ r) = refl
     bare-operand (suc f) d k (otherT p ∷ r) = refl
@@ -160,8 +164,10 @@ module _ (rule : Rule) where
     bare-links (suc f) d k (wordT w p ∷ r) = refl
     bare-links (suc f) d k (opT o p ∷ r) =
         ap (λ (q : Out Tree). bind q (λ e s j. bind (links rule f d j s) (λ ls z i. good (link o e ∷ ls) z i))) (bare-operand f d k r)
-        ∙ b-bind (operand rule f d k r) (λ e s j. bind (links rule f d j s) (λ ls z i. good (link o e ∷ ls) z i)) (λ e s j. bind (links rule f d j s) (λ ls z i. good (link o e ∷ ls) z i))
-        (λ e s j. ap (λ (q : Out (List Link)). bind q (λ ls z i. good (link o e ∷ ls) z i)) (bare-links f d j s) ∙ b-put (links rule f d j s) (λ ls. link o e ∷ ls))
+        ∙ b-bind (operand rule f d k r) (λ e s j. bind (links rule f d j s) (λ ls z i. good (link o e ∷ ls) z i))
+        (λ e s j. bind (links rule f d j s) (λ ls z i. good (link o e ∷ ls) z i))
+        (λ e s j. ap (λ (q : Out (List Link)). bind q (λ ls z i. good (link o e ∷ ls) z i)) (bare-links f d j s)
+        ∙ b-put (links rule f d j s) (λ ls. link o e ∷ ls))
     bare-links (suc f) d k (openT p ∷ r) = refl
     bare-links (suc f) d k (closeT p ∷ r) = refl
     bare-links (suc f) d k (otherT p ∷ r) = refl
@@ -181,13 +187,15 @@ bare-flush p q (c ∷ cs) a b e = rw (bare-run (operatorOf (c ∷ cs)) (c ∷ cs
 bare-mark : (n m b : ℕ) (u v : List Tok) → bares u ≡ bares v → bares (mark n b u) ≡ bares (mark m b v)
 bare-mark n m b u v e = go (eqb b 32) (eqb b 40) (eqb b 41)
   where
-    go : (x y z : Bool) → bares (choose x (λ _. u) (λ _. choose y (λ _. openT n ∷ u) (λ _. choose z (λ _. closeT n ∷ u) (λ _. otherT n ∷ u)))) ≡ bares (choose x (λ _. v) (λ _. choose y (λ _. openT m ∷ v) (λ _. choose z (λ _. closeT m ∷ v) (λ _. otherT m ∷ v))))
+    go : (x y z : Bool) → bares (choose x (λ _. u) (λ _. choose y (λ _. openT n ∷ u) (λ _. choose z (λ _. closeT n ∷ u) (λ _. otherT n ∷ u))))
+        ≡ bares (choose x (λ _. v) (λ _. choose y (λ _. openT m ∷ v) (λ _. choose z (λ _. closeT m ∷ v) (λ _. otherT m ∷ v))))
     go true y z = e
     go false true z = ap (λ (r : List Tok). openT 0 ∷ r) e
     go false false true = ap (λ (r : List Tok). closeT 0 ∷ r) e
     go false false false = ap (λ (r : List Tok). otherT 0 ∷ r) e
 
-bare-choose : (t : Bool) (a b a′ b′ : Unit {0} → List Tok) → bares (a tt) ≡ bares (a′ tt) → bares (b tt) ≡ bares (b′ tt) → bares (choose t a b) ≡ bares (choose t a′ b′)
+bare-choose : (t : Bool) (a b a′ b′ : Unit {0} → List Tok) → bares (a tt) ≡ bares (a′ tt) → bares (b tt) ≡ bares (b′ tt) →
+    bares (choose t a b) ≡ bares (choose t a′ b′)
 bare-choose true a b a′ b′ p q = p
 bare-choose false a b a′ b′ p q = q
 
@@ -210,13 +218,15 @@ module _ (c : ℕ) (tk : Tok) (hc : isWordByte c ≡ false) (hm : (n : ℕ) (ts 
   mark-app : (n b : ℕ) (u v w : List Tok) → bares u ≡ bares v ++ w → bares (mark n b u) ≡ bares (mark n b v) ++ w
   mark-app n b u v w e = go (eqb b 32) (eqb b 40) (eqb b 41)
     where
-      go : (x y z : Bool) → bares (choose x (λ _. u) (λ _. choose y (λ _. openT n ∷ u) (λ _. choose z (λ _. closeT n ∷ u) (λ _. otherT n ∷ u)))) ≡ bares (choose x (λ _. v) (λ _. choose y (λ _. openT n ∷ v) (λ _. choose z (λ _. closeT n ∷ v) (λ _. otherT n ∷ v)))) ++ w
+      go : (x y z : Bool) → bares (choose x (λ _. u) (λ _. choose y (λ _. openT n ∷ u) (λ _. choose z (λ _. closeT n ∷ u) (λ _. otherT n ∷ u))))
+          ≡ bares (choose x (λ _. v) (λ _. choose y (λ _. openT n ∷ v) (λ _. choose z (λ _. closeT n ∷ v) (λ _. otherT n ∷ v)))) ++ w
       go true y z = e
       go false true z = ap (λ (r : List Tok). openT 0 ∷ r) e
       go false false true = ap (λ (r : List Tok). closeT 0 ∷ r) e
       go false false false = ap (λ (r : List Tok). otherT 0 ∷ r) e
 
-  choose-app : (t : Bool) (a b a′ b′ : Unit {0} → List Tok) (w : List Tok) → bares (a tt) ≡ bares (a′ tt) ++ w → bares (b tt) ≡ bares (b′ tt) ++ w → bares (choose t a b) ≡ bares (choose t a′ b′) ++ w
+  choose-app : (t : Bool) (a b a′ b′ : Unit {0} → List Tok) (w : List Tok) → bares (a tt) ≡ bares (a′ tt) ++ w → bares (b tt) ≡ bares (b′ tt) ++ w →
+      bares (choose t a b) ≡ bares (choose t a′ b′) ++ w
   choose-app true a b a′ b′ w p q = p
   choose-app false a b a′ b′ w p q = q
 
@@ -230,7 +240,8 @@ module _ (c : ℕ) (tk : Tok) (hc : isWordByte c ≡ false) (hm : (n : ℕ) (ts 
   unfolding gather
   split-go n st acc [] t = at-byte n st acc t
   split-go n st acc (b ∷ bs) t =
-      choose-app (isWordByte b) (λ _. gather (n + 1) st (acc ++ (b ∷ [])) (bs ++ c ∷ t)) (λ _. flush st acc (mark n b (gather (n + 1) (n + 1) [] (bs ++ c ∷ t))))
+      choose-app (isWordByte b) (λ _. gather (n + 1) st (acc ++ (b ∷ [])) (bs ++ c ∷ t))
+      (λ _. flush st acc (mark n b (gather (n + 1) (n + 1) [] (bs ++ c ∷ t))))
       (λ _. gather (n + 1) st (acc ++ (b ∷ [])) bs) (λ _. flush st acc (mark n b (gather (n + 1) (n + 1) [] bs))) (tk ∷ bares (tokens t))
       (split-go (n + 1) st (acc ++ (b ∷ [])) bs t)
       (flush-app st acc (mark n b (gather (n + 1) (n + 1) [] (bs ++ c ∷ t))) (mark n b (gather (n + 1) (n + 1) [] bs)) (tk ∷ bares (tokens t))

@@ -47,30 +47,38 @@ tokens-skip s at = skip-spaces at (drop at s) ∙ rw (drop-drop (spaces (drop at
 -- ---- a run is one token
 
 stop : (n start a k : ℕ) (az l : List ℕ) → k ≡ 0 →
-    runTok (operatorOf (a ∷ az)) (a ∷ az) start ∷ gather n n [] l ≡ runTok (operatorOf ((a ∷ az) ++ take k l)) ((a ∷ az) ++ take k l) start ∷ gather (n + k) (n + k) [] (drop k l)
+    runTok (operatorOf (a ∷ az)) (a ∷ az) start ∷ gather n n [] l
+    ≡ runTok (operatorOf ((a ∷ az) ++ take k l)) ((a ∷ az) ++ take k l) start ∷ gather (n + k) (n + k) [] (drop k l)
 stop n start a k az l e = rw (e, append-nil az, add-zero)
 
-run-breaks : (n start a b : ℕ) (az bs : List ℕ) → isWordByte b ≡ false → gather n start (a ∷ az) (b ∷ bs) ≡ runTok (operatorOf (a ∷ az)) (a ∷ az) start ∷ gather n n [] (b ∷ bs)
+run-breaks : (n start a b : ℕ) (az bs : List ℕ) → isWordByte b ≡ false →
+    gather n start (a ∷ az) (b ∷ bs) ≡ runTok (operatorOf (a ∷ az)) (a ∷ az) start ∷ gather n n [] (b ∷ bs)
 unfolding gather
 run-breaks n start a b az bs e = rw e
 
 -- the rest of a run that has begun
 whole-run : (n start a : ℕ) (az l : List ℕ) →
-    gather n start (a ∷ az) l ≡ runTok (operatorOf ((a ∷ az) ++ take (run l) l)) ((a ∷ az) ++ take (run l) l) start ∷ gather (n + run l) (n + run l) [] (drop (run l) l)
+    gather n start (a ∷ az) l ≡ runTok (operatorOf ((a ∷ az) ++ take (run l) l)) ((a ∷ az) ++ take (run l) l) start ∷ gather (n + run l) (n + run l) []
+    (drop (run l) l)
 unfolding gather run
 whole-run n start a az [] = rw (append-nil az)
 whole-run n start a az (b ∷ bs) = go (isWordByte b) refl (whole-run (n + 1) start a (az ++ (b ∷ [])) bs)
   where
     go : (t : Bool) → isWordByte b ≡ t
-        → gather (n + 1) start (a ∷ (az ++ (b ∷ []))) bs ≡ runTok (operatorOf ((a ∷ (az ++ (b ∷ []))) ++ take (run bs) bs)) ((a ∷ (az ++ (b ∷ []))) ++ take (run bs) bs) start ∷ gather (n + 1 + run bs) (n + 1 + run bs) [] (drop (run bs) bs)
-        → gather n start (a ∷ az) (b ∷ bs) ≡ runTok (operatorOf ((a ∷ az) ++ take (run (b ∷ bs)) (b ∷ bs))) ((a ∷ az) ++ take (run (b ∷ bs)) (b ∷ bs)) start ∷ gather (n + run (b ∷ bs)) (n + run (b ∷ bs)) [] (drop (run (b ∷ bs)) (b ∷ bs))
+        → gather (n + 1) start (a ∷ (az ++ (b ∷ []))) bs
+        ≡ runTok (operatorOf ((a ∷ (az ++ (b ∷ []))) ++ take (run bs) bs)) ((a ∷ (az ++ (b ∷ []))) ++ take (run bs) bs) start ∷ gather (n + 1 + run bs)
+        (n + 1 + run bs) [] (drop (run bs) bs)
+        → gather n start (a ∷ az) (b ∷ bs)
+        ≡ runTok (operatorOf ((a ∷ az) ++ take (run (b ∷ bs)) (b ∷ bs))) ((a ∷ az) ++ take (run (b ∷ bs)) (b ∷ bs)) start ∷ gather (n + run (b ∷ bs))
+        (n + run (b ∷ bs)) [] (drop (run (b ∷ bs)) (b ∷ bs))
     go true e i =
         let s : n + 1 + run bs ≡ n + suc (run bs) = omega arith in
         rw e (i ∙ rw (append-assoc az (b ∷ []) (take (run bs) bs), s))
     go false e i = run-breaks n start a b az bs e ∙ stop n start a (run (b ∷ bs)) az (b ∷ bs) (rw e)
 
 from-run : (n b : ℕ) (bs : List ℕ) → isWordByte b ≡ true →
-    gather n n [] (b ∷ bs) ≡ runTok (operatorOf (take (run (b ∷ bs)) (b ∷ bs))) (take (run (b ∷ bs)) (b ∷ bs)) n ∷ gather (n + run (b ∷ bs)) (n + run (b ∷ bs)) [] (drop (run (b ∷ bs)) (b ∷ bs))
+    gather n n [] (b ∷ bs) ≡ runTok (operatorOf (take (run (b ∷ bs)) (b ∷ bs))) (take (run (b ∷ bs)) (b ∷ bs)) n ∷ gather (n + run (b ∷ bs))
+    (n + run (b ∷ bs)) [] (drop (run (b ∷ bs)) (b ∷ bs))
 unfolding gather run
 from-run n b bs e =
     let s : n + 1 + run bs ≡ n + suc (run bs) = omega arith in
@@ -82,7 +90,8 @@ unfolding tokensAt
 tokens-run s p q h e is =
     let m : q - p ≡ run (drop p s) = omega arith in
     rw (m, is)
-    (subst (λ (l : List ℕ). gather p p [] l ≡ runTok (operatorOf (take (run l) l)) (take (run l) l) p ∷ gather (p + run l) (p + run l) [] (drop (run l) l)) (sym (drop-next s p h)) (from-run p (getD s p 0) (drop (p + 1) s) e)
+    (subst (λ (l : List ℕ). gather p p [] l ≡ runTok (operatorOf (take (run l) l)) (take (run l) l) p ∷ gather (p + run l) (p + run l) [] (drop (run l) l))
+    (sym (drop-next s p h)) (from-run p (getD s p 0) (drop (p + 1) s) e)
     ∙ rw (drop-drop (run (drop p s)) p s))
 
 -- ---- a byte that is no word byte, and the end

@@ -22,7 +22,8 @@ one-more false x y n h k = k
 mark-length : (n b : ℕ) (ts : List Tok) → length (mark n b ts) ≤ suc (length ts)
 mark-length n b ts = go (eqb b 32) (eqb b 40) (eqb b 41)
   where
-    go : (x y z : Bool) → length (choose x (λ _. ts) (λ _. choose y (λ _. openT n ∷ ts) (λ _. choose z (λ _. closeT n ∷ ts) (λ _. otherT n ∷ ts)))) ≤ suc (length ts)
+    go : (x y z : Bool) → length (choose x (λ _. ts) (λ _. choose y (λ _. openT n ∷ ts) (λ _. choose z (λ _. closeT n ∷ ts) (λ _. otherT n ∷ ts))))
+        ≤ suc (length ts)
     go true y z = omega arith
     go false true z = omega arith
     go false false true = omega arith
@@ -45,9 +46,15 @@ gather-length : (n start : ℕ) (acc l : List ℕ) → length (gather n start ac
 unfolding gather
 gather-length n start acc [] = omega (arith, flush-length start acc [])
 gather-length n start acc (b ∷ bs) =
-    one-more (isWordByte b) (gather (n + 1) start (acc ++ (b ∷ [])) bs) (flush start acc (mark n b (gather (n + 1) (n + 1) [] bs))) (begun acc + suc (length bs))
+    one-more (isWordByte b) (gather (n + 1) start (acc ++ (b ∷ [])) bs) (flush start acc (mark n b (gather (n + 1) (n + 1) [] bs)))
+    (begun acc + suc (length bs))
     (omega (arith, gather-length (n + 1) start (acc ++ (b ∷ [])) bs, begun-append acc b))
-    (omega (arith, gather-length (n + 1) (n + 1) [] bs, flush-length start acc (mark n b (gather (n + 1) (n + 1) [] bs)), mark-length n b (gather (n + 1) (n + 1) [] bs)))
+    (omega (
+      arith,
+      gather-length (n + 1) (n + 1) [] bs,
+      flush-length start acc (mark n b (gather (n + 1) (n + 1) [] bs)),
+      mark-length n b (gather (n + 1) (n + 1) [] bs),
+    ))
 
 tokens-length : (s : List ℕ) → length (tokens s) ≤ length s
 unfolding tokens tokensAt
@@ -73,7 +80,8 @@ abbrev Any : List Tok → Type 0
 Any r = Unit {0}
 
 -- what is read behind a reading
-steps-behind : {A : Type 0} (L : List Tok → Type 0) (n j : ℕ) (at : Stand) (ts r : List Tok) (o : Out A) → walkAll at ts ≡ walkAll (operatorNext n j) r → length r ≤ length ts →
+steps-behind : {A : Type 0} (L : List Tok → Type 0) (n j : ℕ) (at : Stand) (ts r : List Tok) (o : Out A) → walkAll at ts ≡ walkAll (operatorNext n j) r →
+    length r ≤ length ts →
     Steps L n (operatorNext n j) r o → Steps L n at ts o
 steps-behind L n j at ts r (good b z i) e m v = (e ∙ v .0, omega (arith, v .1), v .2)
 steps-behind L n j at ts r (bad c z) e m v = e ∙ v
@@ -83,7 +91,8 @@ steps-bind : {A B : Type 0} (M L : List Tok → Type 0) (n : ℕ) (at : Stand) (
 steps-bind M L n at ts (good a r j) next w f = steps-behind L n j at ts r (next a r j) (w .0) (w .1) (f a r j (w .1))
 steps-bind M L n at ts (bad c r) next w f = w
 
-steps-put : {A B : Type 0} (L : List Tok → Type 0) (n : ℕ) (at : Stand) (ts : List Tok) (o : Out A) (g : A → B) → Steps L n at ts o → Steps L n at ts (bind o (λ a z i. good (g a) z i))
+steps-put : {A B : Type 0} (L : List Tok → Type 0) (n : ℕ) (at : Stand) (ts : List Tok) (o : Out A) (g : A → B) → Steps L n at ts o →
+    Steps L n at ts (bind o (λ a z i. good (g a) z i))
 steps-put L n at ts (good a r j) g w = w
 steps-put L n at ts (bad c r) g w = w
 
@@ -121,7 +130,8 @@ steps-closed n k p ts e (openT q ∷ z) j w h = walk-open n k p ts h ∙ w .0
 steps-closed n k p ts e (closeT q ∷ z) j w h = (walk-open n k p ts h ∙ w .0 ∙ walk-close n j q z, omega (arith, w .1), tt)
 steps-closed n k p ts e (otherT q ∷ z) j w h = walk-open n k p ts h ∙ w .0
 
-steps-part : (n k p : ℕ) (ts : List Tok) (o : Out Tree) → Steps NoOperator (n + 1) (operandNext (n + 1) k) ts o → n < 8 → Steps Any n (operandNext n k) (openT p ∷ ts) (bind o closed)
+steps-part : (n k p : ℕ) (ts : List Tok) (o : Out Tree) → Steps NoOperator (n + 1) (operandNext (n + 1) k) ts o → n < 8 →
+    Steps Any n (operandNext n k) (openT p ∷ ts) (bind o closed)
 steps-part n k p ts (good e r j) w h = steps-closed n k p ts e r j w h
 steps-part n k p ts (bad c r) w h = walk-open n k p ts h ∙ w
 
@@ -133,7 +143,8 @@ steps-open n d k p r o false e s h = h (below (eqb-false d 0 e))
     below : (d ≡ 0 → ⊥) → n < 8
     below z = omega arith
 
-steps-link : {A : Type 0} (n k p : ℕ) (l : Op) (r : List Tok) (o : Out A) → Steps NoOperator n (operandNext n k) r o → Steps NoOperator n (operatorNext n k) (opT l p ∷ r) o
+steps-link : {A : Type 0} (n k p : ℕ) (l : Op) (r : List Tok) (o : Out A) → Steps NoOperator n (operandNext n k) r o →
+    Steps NoOperator n (operatorNext n k) (opT l p ∷ r) o
 unfolding walkAll walk
 steps-link n k p l r (good a z i) w = (w .0, omega (arith, w .1), w .2)
 steps-link n k p l r (bad c z) w = w
@@ -147,10 +158,12 @@ steps-end n k ts h = (refl, omega arith, h)
 mutual
   unfolding question operand links walkAll walk
 
-  question-steps : (rule : Rule) (f d n k : ℕ) (ts : List Tok) → n + d ≡ 8 → 2 * length ts + 1 < f → Steps NoOperator n (operandNext n k) ts (question rule f d k ts)
+  question-steps : (rule : Rule) (f d n k : ℕ) (ts : List Tok) → n + d ≡ 8 → 2 * length ts + 1 < f →
+      Steps NoOperator n (operandNext n k) ts (question rule f d k ts)
   question-steps rule zero d n k ts s h = absurd (omega arith)
   question-steps rule (suc f) d n k ts s h =
-      steps-bind Any NoOperator n (operandNext n k) ts (operand rule f d k ts) (λ e r j. bind (links rule f d j r) (λ ls z i. good (rule e ls) z i)) (operand-steps rule f d n k ts s (omega arith))
+      steps-bind Any NoOperator n (operandNext n k) ts (operand rule f d k ts) (λ e r j. bind (links rule f d j r) (λ ls z i. good (rule e ls) z i))
+      (operand-steps rule f d n k ts s (omega arith))
       (λ e r j m. steps-put NoOperator n (operatorNext n j) r (links rule f d j r) (rule e) (links-steps rule f d n j r s (omega arith)))
 
   operand-steps : (rule : Rule) (f d n k : ℕ) (ts : List Tok) → n + d ≡ 8 → 2 * length ts < f → Steps Any n (operandNext n k) ts (operand rule f d k ts)
@@ -170,7 +183,8 @@ mutual
   links-steps rule (suc f) d n k (wordT w p ∷ r) s h = steps-end n k (wordT w p ∷ r) tt
   links-steps rule (suc f) d n k (opT o p ∷ r) s h =
       steps-link n k p o r (bind (operand rule f d k r) (λ e z j. bind (links rule f d j z) (λ ls y i. good (link o e ∷ ls) y i)))
-      (steps-bind Any NoOperator n (operandNext n k) r (operand rule f d k r) (λ e z j. bind (links rule f d j z) (λ ls y i. good (link o e ∷ ls) y i)) (operand-steps rule f d n k r s (omega arith))
+      (steps-bind Any NoOperator n (operandNext n k) r (operand rule f d k r) (λ e z j. bind (links rule f d j z) (λ ls y i. good (link o e ∷ ls) y i))
+      (operand-steps rule f d n k r s (omega arith))
       (λ e z j m. steps-put NoOperator n (operatorNext n j) z (links rule f d j z) (λ ls. link o e ∷ ls) (links-steps rule f d n j z s (omega arith))))
   links-steps rule (suc f) d n k (openT p ∷ r) s h = steps-end n k (openT p ∷ r) tt
   links-steps rule (suc f) d n k (closeT p ∷ r) s h = steps-end n k (closeT p ∷ r) tt

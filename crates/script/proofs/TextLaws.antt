@@ -18,7 +18,8 @@ text-plain x (y ∷ []) w = refl
 text-plain x (y ∷ z ∷ r) (inl h) = absurd (omega (arith, h))
 text-plain x (y ∷ z ∷ r) (inr e) = rw e
 
-pub text-one : (s : List ℕ) (i : ℕ) → i < length s → (length s - i ≤ 2) ⊎ (eqb (getD s i 0) 92 ≡ false) → textOf (drop i s) ≡ plain (getD s i 0) ∷ textOf (drop (i + 1) s)
+pub text-one : (s : List ℕ) (i : ℕ) → i < length s → (length s - i ≤ 2) ⊎ (eqb (getD s i 0) 92 ≡ false) →
+    textOf (drop i s) ≡ plain (getD s i 0) ∷ textOf (drop (i + 1) s)
 text-one s i h (inl w) = ap textOf (drop-next s i h) ∙ text-plain (getD s i 0) (drop (i + 1) s) (inl (omega (arith, length-drop (i + 1) s)))
 text-one s i h (inr e) = ap textOf (drop-next s i h) ∙ text-plain (getD s i 0) (drop (i + 1) s) (inr e)
 

@@ -26,7 +26,7 @@ use Rattle.question.specs.Next.{headed, TokenWithin, NextToken, endOf}
 use Rattle.question.specs.Limits.{tokenWords}
 use Rattle.codes.specs.Code.{wordCode, codesOf, tokenCode}
 use Rattle.slots.specs.Slots.{slotHas}
-use Rattle.slots.specs.Compile.{StandsFor, Compiles}
+use Rattle.slots.specs.Compile.{StandsFor, WritesCodes, FillsSlots}
 
 -- ---- an entry number for a word
 
@@ -80,7 +80,8 @@ module _ {s : List ℕ} {at : ℕ} where
 
 -- ---- codes and slots, one after the other
 
-write-next : (codes left more all : List ℕ) (n v : ℕ) → n < length codes → left ≡ v ∷ more → take n codes ++ left ≡ all → take (n + 1) (set codes n v) ++ more ≡ all
+write-next : (codes left more all : List ℕ) (n v : ℕ) → n < length codes → left ≡ v ∷ more → take n codes ++ left ≡ all →
+    take (n + 1) (set codes n v) ++ more ≡ all
 write-next codes left more all n v h e w =
     rw (add-one n, take-suc-set codes n v h) (append-assoc (take n codes) (v ∷ []) more ∙ ap (λ (r : List ℕ). take n codes ++ r) (sym e) ∙ w)
 
@@ -97,7 +98,8 @@ drop-head (v ∷ l) (suc k) w r e =
 abbrev Filled : List ℕ → List (List ℕ) → List ℕ → ℕ → Type 0
 Filled index words entries k = (j : ℕ) → j < k → StandsFor index (getD words j []) (getD entries j 0)
 
-filled-next : (index : List ℕ) (words : List (List ℕ)) (entries : List ℕ) (k e : ℕ) → k < length entries → Filled index words entries k → StandsFor index (getD words k []) e →
+filled-next : (index : List ℕ) (words : List (List ℕ)) (entries : List ℕ) (k e : ℕ) → k < length entries → Filled index words entries k →
+    StandsFor index (getD words k []) e →
     Filled index words (set entries k e) (k + 1)
 filled-next index words entries k e h f new j l = go (ℕ-discrete j k)
   where
@@ -140,7 +142,8 @@ module _ {index s codes₀ entries₀ codes entries : List ℕ} {count slots at 
     code-written : take (count + 1) (set codes count v) ++ codesOf (tokensAt s n) ≡ codesOf (tokens s)
     code-written = write-next codes (codesOf (tokensAt s at)) (codesOf (tokensAt s n)) (codesOf (tokens s)) count v (omega arith) (next .codes) (c .coded)
 
-    pub compile-other : tokenWords (tokensAt s at) ≡ tokenWords (tokensAt s n) → Compiling index s codes₀ entries₀ (set codes count v) entries (count + 1) slots n
+    pub compile-other : tokenWords (tokensAt s at) ≡ tokenWords (tokensAt s n) →
+        Compiling index s codes₀ entries₀ (set codes count v) entries (count + 1) slots n
     compile-other e = record {
       near = omega arith;
       inside = next .inside;
@@ -171,13 +174,19 @@ module _ {index s codes₀ entries₀ codes entries : List ℕ} {count slots at 
   pub slot-left : {w : List ℕ} {more : List (List ℕ)} → tokenWords (tokensAt s at) ≡ w ∷ more → slots < length (tokenWords (tokens s))
   slot-left {w} {more} is = drop-head (tokenWords (tokens s)) slots w more (c .left ∙ is) .0
 
-  pub compile-end : length s ≤ length codes₀ → tokensAt s at ≡ [] → Compiles index s codes₀ codes entries₀ entries (record { codes = count; slots = slots })
-  unfolding codesOf tokenWords slotHas
-  compile-end room e = record {
-    codes-long = c .codes-long;
-    within = omega arith;
-    coded = sym (append-nil (take count codes)) ∙ ap (λ (r : List ℕ). take count codes ++ r) (sym (ap codesOf e)) ∙ c .coded;
-    entries-long = c .entries-long;
-    count = omega (arith, length-drop slots (tokenWords (tokens s)), ap length (c .left ∙ ap tokenWords e));
-    have = λ k h x. c .filled k h x;
-  }
+  module _ (e : tokensAt s at ≡ []) where
+    pub codes-written : length s ≤ length codes₀ → WritesCodes s codes₀ codes count
+    unfolding codesOf
+    codes-written room = record {
+      long = c .codes-long;
+      within = omega arith;
+      coded = sym (append-nil (take count codes)) ∙ ap (λ (r : List ℕ). take count codes ++ r) (sym (ap codesOf e)) ∙ c .coded;
+    }
+
+    pub slots-filled : FillsSlots index s entries₀ entries slots
+    unfolding tokenWords slotHas
+    slots-filled = record {
+      long = c .entries-long;
+      count = omega (arith, length-drop slots (tokenWords (tokens s)), ap length (c .left ∙ ap tokenWords e));
+      have = λ k h x. c .filled k h x;
+    }

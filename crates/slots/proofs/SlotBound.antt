@@ -36,7 +36,8 @@ module _ (index entries : List ℕ) (s : Sound index) (k : ℕ) where
   unfolding slotHas
   slot-zero =
       by-test (ltb (getD entries k 0) (wordCount index))
-      (λ e. rw e (proper-names-zero (highest index) (listOf index (getD entries k 0)) (list-proper index s (getD entries k 0) (ltb-true (getD entries k 0) (wordCount index) e))))
+      (λ e. rw e (proper-names-zero (highest index) (listOf index (getD entries k 0))
+      (list-proper index s (getD entries k 0) (ltb-true (getD entries k 0) (wordCount index) e))))
       (λ e. rw e)
 
   slot-list : intervals (cellsOf (slotHas index entries k) (highest index)) ≡ slotIntervals index entries k
@@ -45,7 +46,8 @@ module _ (index entries : List ℕ) (s : Sound index) (k : ℕ) where
       by-test (ltb (getD entries k 0) (wordCount index))
       (λ e. rw e (ap intervals
       (cells-same (slotHas index entries k) (names (listOf index (getD entries k 0))) (highest index) (λ x l m. rw e)
-      ∙ sym (proper-cells (highest index) (listOf index (getD entries k 0)) (list-proper index s (getD entries k 0) (ltb-true (getD entries k 0) (wordCount index) e))))))
+      ∙ sym (proper-cells (highest index) (listOf index (getD entries k 0))
+      (list-proper index s (getD entries k 0) (ltb-true (getD entries k 0) (wordCount index) e))))))
       (λ e. rw e (ap intervals (sym (is-cells (slotHas index entries k) (highest index) [] refl (λ x l m. rw e)))))
 
 -- ---- the slots' tests
@@ -65,14 +67,16 @@ unfolding tests
 tests-out v k zero f = tt
 tests-out v k (suc n) f = (f k, tests-out v (k + 1) n f)
 
-pub tests-together : (index entries : List ℕ) → Sound index → (k n : ℕ) → together (tests (slotHas index entries) k n) (highest index) ≡ slotsIntervals index entries k n
+pub tests-together : (index entries : List ℕ) → Sound index → (k n : ℕ) →
+    together (tests (slotHas index entries) k n) (highest index) ≡ slotsIntervals index entries k n
 unfolding tests together slotsIntervals
 tests-together index entries s k zero = refl
 tests-together index entries s k (suc n) = ap₂ (λ (a b : ℕ). a + b) (slot-list index entries s k) (tests-together index entries s (k + 1) n)
 
 -- ---- what fits changes only where a slot does, and nothing fits where no slot has it
 
-pub satisfies-still : (v : ℕ → ℕ → Bool) (t : Tree) (k x : ℕ) → ((j : ℕ) → k ≤ j → j < k + length (treeWords t) → v j x ≡ v j (x + 1)) → slotSatisfies v t k x ≡ slotSatisfies v t k (x + 1)
+pub satisfies-still : (v : ℕ → ℕ → Bool) (t : Tree) (k x : ℕ) → ((j : ℕ) → k ≤ j → j < k + length (treeWords t) → v j x ≡ v j (x + 1)) →
+    slotSatisfies v t k x ≡ slotSatisfies v t k (x + 1)
 unfolding slotSatisfies treeWords
 satisfies-still v (word w) k x f = f k (omega arith) (omega arith)
 satisfies-still v (pair o a b) k x f =

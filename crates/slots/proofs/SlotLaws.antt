@@ -36,7 +36,8 @@ module _ (v : ℕ → ℕ → Bool) (k x : ℕ) where
   slot-part t = refl
 
   -- j is the slot of b's first word
-  pub slot-pair : (o : Op) (a b : Tree) (j : ℕ) → j ≡ k + length (treeWords a) → slotSatisfies v (pair o a b) k x ≡ combine o (slotSatisfies v a k x) (slotSatisfies v b j x)
+  pub slot-pair : (o : Op) (a b : Tree) (j : ℕ) → j ≡ k + length (treeWords a) →
+      slotSatisfies v (pair o a b) k x ≡ combine o (slotSatisfies v a k x) (slotSatisfies v b j x)
   unfolding slotSatisfies
   slot-pair o a b j e = rw e
 
@@ -49,5 +50,6 @@ combine-none Not b e = refl
 pub slots-none : (v : ℕ → ℕ → Bool) (x : ℕ) → ((k : ℕ) → v k x ≡ false) → (t : Tree) (k : ℕ) → slotSatisfies v t k x ≡ false
 unfolding slotSatisfies
 slots-none v x h (word w) k = h k
-slots-none v x h (pair o a b) k = rw (slots-none v x h a k) (combine-none o (slotSatisfies v b (k + length (treeWords a)) x) (slots-none v x h b (k + length (treeWords a))))
+slots-none v x h (pair o a b) k = rw (slots-none v x h a k)
+    (combine-none o (slotSatisfies v b (k + length (treeWords a)) x) (slots-none v x h b (k + length (treeWords a))))
 slots-none v x h (part t) k = slots-none v x h t k

@@ -13,10 +13,9 @@ use Rattle.question.proofs.RuleLaws.{from-left-keeps}
 use Rattle.question.proofs.TreeWords.{accepted-words}
 use Rattle.question.proofs.MeaningLaws.{satisfiesBy, satisfies-by}
 use Rattle.slots.specs.Slots.{slotHas, slotSatisfies}
-use Rattle.slots.specs.declared.compile.Compiled.{Compiled}
-use Rattle.slots.specs.Compile.{Compiles}
+use Rattle.slots.specs.Compile.{FillsSlots}
 
--- what fits by the slots is what fits by the words, where each slot has what is said of its word
+-- what satisfies by the slots is what satisfies by the words, where each slot has what is said of its word
 
 slot-satisfies-by : (v : ℕ → ℕ → Bool) (t : Tree) (k x : ℕ) → slotSatisfies v t k x ≡ satisfiesBy (λ i. v i x) k t
 unfolding slotSatisfies satisfiesBy
@@ -24,7 +23,8 @@ slot-satisfies-by v (word w) k x = refl
 slot-satisfies-by v (pair o a b) k x = ap₂ (combine o) (slot-satisfies-by v a k x) (slot-satisfies-by v b (k + length (treeWords a)) x)
 slot-satisfies-by v (part t) k x = slot-satisfies-by v t k x
 
-pub slot-satisfies : (v : ℕ → ℕ → Bool) (had : List ℕ → ℕ → Bool) (t : Tree) (x : ℕ) → ((i : ℕ) → i < length (treeWords t) → v i x ≡ had (getD (treeWords t) i []) x) →
+pub slot-satisfies : (v : ℕ → ℕ → Bool) (had : List ℕ → ℕ → Bool) (t : Tree) (x : ℕ) →
+    ((i : ℕ) → i < length (treeWords t) → v i x ≡ had (getD (treeWords t) i []) x) →
     slotSatisfies v t 0 x ≡ satisfies had t x
 slot-satisfies v had t x h =
     slot-satisfies-by v t 0 x ∙ satisfies-by had x (λ i. v i x) 0 t (λ i l. let z : 0 + i ≡ i = omega arith in ap (λ (n : ℕ). v n x) z ∙ h i l)
@@ -33,8 +33,9 @@ slot-satisfies v had t x h =
 abbrev pub TreeSlots : List ℕ → List ℕ → Tree → Type 0
 TreeSlots index entries t = (i : ℕ) → i < length (treeWords t) → (x : ℕ) → slotHas index entries i x ≡ has index (getD (treeWords t) i []) x
 
-pub compiled-slots : {index s codes codes′ entries entries′ : List ℕ} {r : Compiled} → Compiles index s codes codes′ entries entries′ r →
-    (t : Tree) (n : ℕ) → parsed fromLeft s ≡ parses t n → (r .slots ≡ length (treeWords t)) × TreeSlots index entries′ t
+pub compiled-slots : {index s entries entries′ : List ℕ} {slots : ℕ} → FillsSlots index s entries entries′ slots → (t : Tree) (n : ℕ) →
+    parsed fromLeft s ≡ parses t n →
+    (slots ≡ length (treeWords t)) × TreeSlots index entries′ t
 compiled-slots {s = s} c t n e =
     let w = accepted-words fromLeft from-left-keeps s t n e .0 in
     (c .count ∙ ap length w, λ i h x. rw w at (c .have i (omega (arith, c .count, ap length w)) x))

@@ -12,7 +12,6 @@ use Rattle.question.specs.Token.{tokens}
 use Rattle.question.specs.Limits.{tokenWords}
 use Rattle.codes.specs.Code.{codesOf}
 use Rattle.slots.specs.Slots.{slotHas}
-use Rattle.slots.specs.declared.compile.Compiled.{Compiled}
 
 -- an entry number stands for a word: it has the word's records, and one that is no entry's has none
 abbrev pub entryHas : List ℕ → ℕ → ℕ → Bool
@@ -21,11 +20,14 @@ entryHas index e x = cond (ltb e (wordCount index)) (names (listOf index e) x) f
 abbrev pub StandsFor : List ℕ → List ℕ → ℕ → Type 0
 StandsFor index word e = (x : ℕ) → entryHas index e x ≡ has index word x
 
--- the first cells are the question's codes, and each slot has what the index has of its word
-pub record Compiles (index question codes codes′ entries entries′ : List ℕ) (r : Compiled) : Type 0 where
-  pub codes-long : length codes′ ≡ length codes
-  pub within : r .codes ≤ length codes
-  pub coded : take (r .codes) codes′ ≡ codesOf (tokens question)
-  pub entries-long : length entries′ ≡ length entries
-  pub count : r .slots ≡ length (tokenWords (tokens question))
-  pub have : (k : ℕ) → k < r .slots → (x : ℕ) → slotHas index entries′ k x ≡ has index (getD (tokenWords (tokens question)) k []) x
+-- the first n cells are the question's codes
+pub record WritesCodes (question codes codes′ : List ℕ) (n : ℕ) : Type 0 where
+  pub long : length codes′ ≡ length codes
+  pub within : n ≤ length codes
+  pub coded : take n codes′ ≡ codesOf (tokens question)
+
+-- each of the first n slots has what the index has of its word
+pub record FillsSlots (index question entries entries′ : List ℕ) (n : ℕ) : Type 0 where
+  pub long : length entries′ ≡ length entries
+  pub count : n ≡ length (tokenWords (tokens question))
+  pub have : (k : ℕ) → k < n → (x : ℕ) → slotHas index entries′ k x ≡ has index (getD (tokenWords (tokens question)) k []) x

@@ -4,7 +4,7 @@ ghost use lib.ListN.{length};
 ghost use Rattle.index.specs.Sound.{Sound};
 ghost use Rattle.question.specs.Token.{tokens};
 ghost use Rattle.question.specs.Limits.{tokenWords};
-ghost use Rattle.slots.specs.Compile.{StandsFor, Compiles};
+ghost use Rattle.slots.specs.Compile.{StandsFor, WritesCodes, FillsSlots};
 use codes::code::WORD_CODE;
 use codes::code::token_code;
 use directory::find::find_word;
@@ -35,7 +35,8 @@ pub fn compile(index: &[u8], question: &[u8], codes: &mut [u8], entries: &mut [u
     requires sound { ⌜ Sound (now index) ⌝ }
     requires room { ⌜ length (now question) ≤ length (now codes) ⌝ }
     requires slots { ⌜ length (tokenWords (tokens (now question))) ≤ length (now entries) ⌝ }
-    ensures { λ r. ⌜ Compiles (now (index .entry)) (now (question .entry)) (now (codes .entry)) (now (codes .exit)) (now (entries .entry)) (now (entries .exit)) r ⌝ }
+    ensures codes { λ r. ⌜ WritesCodes (now (question .entry)) (now (codes .entry)) (now (codes .exit)) (r .codes) ⌝ }
+    ensures slots { λ r. ⌜ FillsSlots (now (index .entry)) (now (question .entry)) (now (entries .entry)) (now (entries .exit)) (r .slots) ⌝ }
 {
     let mut count = 0;
     let mut slots = 0;

@@ -52,7 +52,8 @@ module _ {index entries : List ℕ} {at : ℕ → Place} where
         ∙ ap (keyAt index entries at) (sym z))
         (λ g. List·getD-append (f .keys) (keyAt index entries at size ∷ []) 0 i (omega arith) ∙ f .key i g)
 
-    pub frontier-more : {uppers′ : List ℕ} → Pushed size (keyOf (nextUpper index entries size (at size)) size) uppers uppers′ → Frontier index entries at (size + 1) uppers′
+    pub frontier-more : {uppers′ : List ℕ} → Pushed size (keyOf (nextUpper index entries size (at size)) size) uppers uppers′ →
+        Frontier index entries at (size + 1) uppers′
     unfolding countOf
     frontier-more p = record {
       heap = p .heap;

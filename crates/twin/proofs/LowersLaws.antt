@@ -24,7 +24,8 @@ module _ {index entries : List ℕ} {at : ℕ → Place} where
 
   module _ {lists size : ℕ} {lowers : List ℕ} (w : Lowers index entries at lists size lowers) where
     -- one list more
-    pub lowers-more : {lowers′ : List ℕ} → Pushed size (lackOf (nextLower index entries lists (at lists))) lowers lowers′ → Lowers index entries at (lists + 1) (size + 1) lowers′
+    pub lowers-more : {lowers′ : List ℕ} → Pushed size (lackOf (nextLower index entries lists (at lists))) lowers lowers′ →
+        Lowers index entries at (lists + 1) (size + 1) lowers′
     lowers-more p = record {
       heap = p .heap;
       all = λ i h. leb-cases lists i

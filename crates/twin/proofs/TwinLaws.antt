@@ -107,7 +107,8 @@ module _ {index entries : List ℕ} {writing : Bool} {out₀ out : List ℕ} {pl
 
   -- ---- the largest lower bound
 
-  module _ {size : ℕ} {lowers : List ℕ} (v : Lowers index entries (λ i. getD places i start) (length entries) size lowers) (long : length lowers ≡ 32) (room : size < 32) where
+  module _ {size : ℕ} {lowers : List ℕ} (v : Lowers index entries (λ i. getD places i start) (length entries) size lowers) (long : length lowers ≡ 32)
+      (room : size < 32) where
     pub turn-front : getD lowers 0 0 ≤ recordMax + 1
     turn-front = front-small v (asked .some) (omega arith) (turn-standing .small)
 
@@ -191,7 +192,8 @@ module _ {index entries : List ℕ} {writing : Bool} {out₀ out : List ℕ} {pl
           go (no ne) = let b = turn-below i h in rw (at-others i ne) (omega arith)
 
       -- the least key rises, up to the largest that there can be
-      pub turn-falls : {uppers′ : List ℕ} → Replaced (length entries) (keyOf (nextUpper index entries (whose uppers) (getD places′ (whose uppers) start)) (whose uppers)) uppers uppers′ →
+      pub turn-falls : {uppers′ : List ℕ} →
+          Replaced (length entries) (keyOf (nextUpper index entries (whose uppers) (getD places′ (whose uppers) start)) (whose uppers)) uppers uppers′ →
           268435456 - getD uppers′ 0 0 < 268435456 - getD uppers 0 0
       turn-falls r =
           let l = turn-later in
@@ -215,7 +217,8 @@ module _ {index entries : List ℕ} {writing : Bool} {out₀ out : List ℕ} {pl
           rw (q .0, q .1) (tallied-skip (w .swept) (omega arith) (omega arith) (λ z f k. low g z f (omega arith))))
 
       -- list j is used up: nothing more is in every list
-      pub turn-end : usedUp index (getD entries (whose uppers) 0) (getD places′ (whose uppers) start) ≡ true → Tallied (inAll index entries) writing out₀ out′ t′ (recordMax + 1)
+      pub turn-end : usedUp index (getD entries (whose uppers) 0) (getD places′ (whose uppers) start) ≡ true →
+          Tallied (inAll index entries) writing out₀ out′ t′ (recordMax + 1)
       turn-end e =
           let n = turn-high in
           tallied-skip turn-swept (omega arith) (omega arith)

@@ -79,7 +79,10 @@ module _ {index entries : List ℕ} (asked : SoundRequest index entries) {writin
       let r = all-read-start asked in
       let fr = keys-front few k (asked .some) (omega arith) in
       let m = front-lower r fr in
-      let n = front-next r fr {next = record { lower = lowerNext index entries (replicate 16 start) j; upper = upperNext index entries (replicate 16 start) j }} refl refl in
+      let n = front-next r fr {next = record {
+        lower = lowerNext index entries (replicate 16 start) j;
+        upper = upperNext index entries (replicate 16 start) j;
+      }} refl refl in
       let o = next-ordered r n in
       record {
         below = tallied-skip (tallied-start e f) (omega arith) (omega arith)
@@ -117,12 +120,14 @@ module _ {index entries : List ℕ} (asked : SoundRequest index entries) {writin
       module _ {out′ : List ℕ} {t′ : Tally} {active′ : Interval} {places′ : List Place} (u : active′ .upper ≡ max (active .upper) (next .upper))
           (r : AllRead index entries places′ (active′ .upper + 2)) where
         -- it is put, and begins anew
-        active-anew : isApart active next ≡ true → Put writing out out′ t active t′ → active′ .lower ≡ next .lower → Active index entries writing out₀ out′ places′ t′ active′
+        active-anew : isApart active next ≡ true → Put writing out out′ t active t′ → active′ .lower ≡ next .lower →
+            Active index entries writing out₀ out′ places′ t′ active′
         active-anew e put l =
             let a = ltb-true (active .upper + 1) (next .lower) e in
             let o = next-ordered (s .read) n in
             record {
-              below = tallied-skip (tallied-put (s .below) (apart-whole e) put) (omega arith) (omega arith) (λ z h g. apart-below z (omega arith) (omega arith));
+              below = tallied-skip (tallied-put (s .below) (apart-whole e) put) (omega arith) (omega arith)
+                  (λ z h g. apart-below z (omega arith) (omega arith));
               order = omega arith;
               high = omega arith;
               inside = λ x h g. next-in (s .read) n x (omega arith) (omega arith);
@@ -130,7 +135,8 @@ module _ {index entries : List ℕ} (asked : SoundRequest index entries) {writin
             }
 
         -- the next one joins it
-        active-on : isApart active next ≡ false → t′ ≡ t → out′ ≡ out → active′ .lower ≡ active .lower → Active index entries writing out₀ out′ places′ t′ active′
+        active-on : isApart active next ≡ false → t′ ≡ t → out′ ≡ out → active′ .lower ≡ active .lower →
+            Active index entries writing out₀ out′ places′ t′ active′
         active-on e et eo l =
             let a = ltb-false (active .upper + 1) (next .lower) e in
             let o = next-ordered (s .read) n in
@@ -144,7 +150,8 @@ module _ {index entries : List ℕ} (asked : SoundRequest index entries) {writin
               read = r;
             }
 
-      active-step : {out′ : List ℕ} {t′ : Tally} {active′ : Interval} → PutWhere (isApart active next) writing out out′ t active t′ → Joined active next active′ →
+      active-step : {out′ : List ℕ} {t′ : Tally} {active′ : Interval} → PutWhere (isApart active next) writing out out′ t active t′ →
+          Joined active next active′ →
           Active index entries writing out₀ out′ (placesOn index entries places j) t′ active′
       active-step {active′ = active′} put joined =
           let upper = joined .upper-on in
@@ -174,7 +181,8 @@ module _ {index entries : List ℕ} (asked : SoundRequest index entries) {writin
 
 -- ---- the scan line: the heap, the places and the active interval together
 
-pub record Line (index entries : List ℕ) (writing : Bool) (out₀ out keys : List ℕ) (size : ℕ) (places : List Place) (t : Tally) (active : Interval) : Type 0 where
+pub record Line (index entries : List ℕ) (writing : Bool) (out₀ out keys : List ℕ) (size : ℕ) (places : List Place) (t : Tally)
+    (active : Interval) : Type 0 where
   pub long : length keys ≡ 16
   pub small : size ≤ 16
   pub queue : Keys (length entries) size keys (dueAt index entries places)
@@ -192,7 +200,8 @@ module _ {index entries : List ℕ} (asked : SoundRequest index entries) {writin
     state = rw e (active-start asked l k a b c d);
   }
 
-  module _ {out keys : List ℕ} {size : ℕ} {places : List Place} {t : Tally} {active : Interval} (s : Line index entries writing out₀ out keys size places t active) where
+  module _ {out keys : List ℕ} {size : ℕ} {places : List Place} {t : Tally} {active : Interval}
+      (s : Line index entries writing out₀ out keys size places t active) where
     module _ (some : 0 < size) where
       front : Front (length entries) (getD keys 0 0) (dueAt index entries places)
       front = keys-front (asked .few) (s .queue) some (let l = s .long in let m = s .small in omega arith)

@@ -24,7 +24,8 @@ any-in index [] j x h e = absurd (omega arith)
 any-in index (i ∷ es) zero x h e = rw e
 any-in index (i ∷ es) (suc j) x h e = rw (any-in index es j x (omega arith) e) (or-true (names (listOf index i) x))
 
-pub any-out : (index entries : List ℕ) (x : ℕ) → ((j : ℕ) → j < length entries → names (listOf index (getD entries j 0)) x ≡ false) → inAny index entries x ≡ false
+pub any-out : (index entries : List ℕ) (x : ℕ) → ((j : ℕ) → j < length entries → names (listOf index (getD entries j 0)) x ≡ false) →
+    inAny index entries x ≡ false
 unfolding listsOf inSome
 any-out index [] x f = refl
 any-out index (i ∷ es) x f = rw (f 0 (omega arith)) (any-out index es x (λ j h. f (suc j) (omega arith)))

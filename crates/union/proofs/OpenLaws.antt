@@ -26,7 +26,8 @@ pub record Stretch (p : ℕ → Bool) (writing : Bool) (out₀ out : List ℕ) (
 
 module _ {p : ℕ → Bool} {writing : Bool} {out₀ out : List ℕ} {t : Tally} {s count lower : ℕ} (g : Stretch p writing out₀ out t s count lower) where
   -- a lower bound comes at v
-  pub stretch-begun : {v lower′ : ℕ} → s ≤ v → v ≤ recordMax + 1 → (count ≡ 0 → (z : ℕ) → s ≤ z → z < v → p z ≡ false) → (0 < count → (z : ℕ) → s ≤ z → z < v → p z ≡ true) →
+  pub stretch-begun : {v lower′ : ℕ} → s ≤ v → v ≤ recordMax + 1 → (count ≡ 0 → (z : ℕ) → s ≤ z → z < v → p z ≡ false) →
+      (0 < count → (z : ℕ) → s ≤ z → z < v → p z ≡ true) →
       lower′ ≡ lowerFrom count lower v → Stretch p writing out₀ out t v (count + 1) lower′
   stretch-begun {v} {lower′} h m shut wide e = go (ℕ-discrete count 0)
     where

@@ -62,7 +62,8 @@ module _ {index entries : List ℕ} (asked : SoundRequest index entries) {writin
     };
   }
 
-  module _ {out keys : List ℕ} {size : ℕ} {places : List Place} {t : Tally} {count lower : ℕ} (g : Scan index entries writing out₀ out keys size places t count lower) where
+  module _ {out keys : List ℕ} {size : ℕ} {places : List Place} {t : Tally} {count lower : ℕ}
+      (g : Scan index entries writing out₀ out keys size places t count lower) where
     module _ (some : 0 < size) where
       front : Front (length entries) (getD keys 0 0) (dueScan index entries places (g .ins))
       front = keys-front (asked .few) (g .queue) some (let l = g .long in let m = g .small in omega arith)
@@ -123,7 +124,8 @@ module _ {index entries : List ℕ} (asked : SoundRequest index entries) {writin
             (omega arith, λ c. stretch-fits (g .stretch) (getD keys 0 0 / 32) upper-some (h .0) (h .1) in-line (h .2) (stop c) r)
 
         same-due : (i : ℕ) → (i ≡ getD keys 0 0 % 16 → ⊥) →
-            dueScan index entries places (g .ins) i ≡ dueScan index entries (placesOn index entries places (getD keys 0 0 % 16)) (turnedTo false (getD keys 0 0 % 16) (g .ins)) i
+            dueScan index entries places (g .ins) i
+            ≡ dueScan index entries (placesOn index entries places (getD keys 0 0 % 16)) (turnedTo false (getD keys 0 0 % 16) (g .ins)) i
         same-due i ne = rw (ne-eqb i (getD keys 0 0 % 16) ne, places-other index entries places (getD keys 0 0 % 16) i ne)
 
         pub upper-step : {out′ keys′ : List ℕ} {size′ : ℕ} {places′ : List Place} {t′ : Tally}

@@ -20,7 +20,8 @@ differs false b = b
 
 -- an operation on words that goes digit by digit, as op does on the digits 0 and 1
 module _ (op : ℕ → ℕ → ℕ) (f : Bool → Bool → Bool)
-    (neither : set? (op 0 0) ≡ f false false) (second : set? (op 0 1) ≡ f false true) (first : set? (op 1 0) ≡ f true false) (both : set? (op 1 1) ≡ f true true) where
+    (neither : set? (op 0 0) ≡ f false false) (second : set? (op 0 1) ≡ f false true) (first : set? (op 1 0) ≡ f true false)
+    (both : set? (op 1 1) ≡ f true true) where
   digit-by : (x y : ℕ) → x < 2 → y < 2 → set? (op x y) ≡ f (set? x) (set? y)
   digit-by zero zero h g = neither
   digit-by zero (suc zero) h g = second

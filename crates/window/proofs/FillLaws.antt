@@ -114,7 +114,8 @@ fill-first ws a k l ea =
     (λ i h. on-from (a % 64) i h ∙ on-first a k i ea h ∙ sym (rw (lt-ltb (64 * k + i) (64 * k + 64) (omega arith)) (and-true (leb a (64 * k + i)))))
 
 -- one between
-pub fill-between : {ws₀ ws : List ℕ} {a : ℕ} (k : ℕ) → k < length ws₀ → a ≤ 64 * k → Filled ws₀ a (64 * k) ws → Filled ws₀ a (64 * k + 64) (set ws k (2 ^ 64 - 1))
+pub fill-between : {ws₀ ws : List ℕ} {a : ℕ} (k : ℕ) → k < length ws₀ → a ≤ 64 * k → Filled ws₀ a (64 * k) ws →
+    Filled ws₀ a (64 * k + 64) (set ws k (2 ^ 64 - 1))
 fill-between {ws₀} {ws} {a} k l o f =
     filled-more (2 ^ 64 - 1) f l o (omega arith) (omega arith) (omega arith)
     (λ i h. on-ones 64 i h ∙ sym (rw (within-in a (64 * k + 64) (64 * k + i) (omega arith) (omega arith)) (or-true (bitAt ws₀ (64 * k + i)))))
@@ -128,7 +129,8 @@ fill-last {ws₀} {ws} {a} b k l o eb f =
     let old : bitAt ws (64 * k + i) ≡ bitAt ws₀ (64 * k + i) =
     f .bits (64 * k + i) (omega arith) ∙ rw (within-past a (64 * k) (64 * k + i) (omega arith)) (or-false (bitAt ws₀ (64 * k + i))) in
     or-word ws k (lastMask b) i h
-    ∙ ap₂ _||_ old (on-upto (b % 64) i (omega arith) ∙ on-last b k i eb h ∙ ap (λ (t : Bool). t && ltb (64 * k + i) (b + 1)) (sym (le-leb a (64 * k + i) (omega arith)))))
+    ∙ ap₂ _||_ old (on-upto (b % 64) i (omega arith) ∙ on-last b k i eb h
+    ∙ ap (λ (t : Bool). t && ltb (64 * k + i) (b + 1)) (sym (le-leb a (64 * k + i) (omega arith)))))
 
 -- two ranges that meet
 meet : (a e e′ n : ℕ) → a ≤ e → e ≤ e′ → within a e n || within e e′ n ≡ within a e′ n

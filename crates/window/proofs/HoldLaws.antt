@@ -1,11 +1,12 @@
 -- What windows hold: as a test of their own, combined, blank.
-use mathlib.Core.Path.{_≡_, refl, ap, ap₂, _∙_}
-use Prim.Native.Nat.{ℕ, zero, suc, _+_, _-_, _*_, _/_, _%_, _<_}
+use mathlib.Core.Path.{_≡_, ap, ap₂, _∙_}
+use Prim.Native.Nat.{ℕ, _+_, _-_, _*_, _/_, _%_, _<_}
 use native.Mathlib.Omega.{arith}
 use mathlib.Core.List.{List}
 use mathlib.Core.Bool.{Bool, false}
-use lib.ListN.{length, getD, replicate}
+use lib.ListN.{length, replicate}
 use lib.Pow.{pow-pos}
+use Rattle.laws.proofs.Lists.{zeros-at}
 use Rattle.window.specs.Bit.{on}
 use Rattle.window.specs.Window.{bitAt, member, Holds, Combined}
 use Rattle.window.proofs.BitLaws.{on-high}
@@ -32,11 +33,6 @@ holds-combined f p q x xs ys zs e u h g = record {
 
 pub zero-off : (i : ℕ) → on 0 i ≡ false
 zero-off i = on-high 0 i (pow-pos i)
-
-pub zeros-at : (k i : ℕ) → getD {A = ℕ} (replicate k 0) i 0 ≡ 0
-zeros-at zero i = refl
-zeros-at (suc k) zero = refl
-zeros-at (suc k) (suc i) = zeros-at k i
 
 pub bits-zeros : (k n : ℕ) → bitAt (replicate k 0) n ≡ false
 unfolding bitAt

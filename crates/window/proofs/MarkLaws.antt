@@ -52,7 +52,8 @@ cleared-odd : (n : ℕ) → n % 2 ≡ 1 → cleared n ≡ n / 2 * 2
 cleared-odd n e =
     let f : (n - 1) / 2 ≡ n / 2 = omega arith in
     let g : (n - 1) % 2 ≡ 0 = omega arith in
-    and-step n (n - 1) ∙ ap₂ (λ (x y : ℕ). bitAnd (n / 2) x * 2 + min (n % 2) y) f g ∙ ap₂ (λ (x y : ℕ). x * 2 + y) (and-self (n / 2)) (min-zero (n % 2)) ∙ add-zero (n / 2 * 2)
+    and-step n (n - 1) ∙ ap₂ (λ (x y : ℕ). bitAnd (n / 2) x * 2 + min (n % 2) y) f g ∙ ap₂ (λ (x y : ℕ). x * 2 + y) (and-self (n / 2)) (min-zero (n % 2))
+    ∙ add-zero (n / 2 * 2)
 
 cleared-even : (n : ℕ) → n % 2 ≡ 0 → cleared n ≡ cleared (n / 2) * 2
 cleared-even n e =
@@ -74,8 +75,10 @@ step-turn : (d at n t : ℕ) → 0 < n → n % 2 ≡ t →
 unfolding trailingZeros
 step-turn d at n zero h e ih =
     let a : at + 1 + trailingZeros d (n / 2) ≡ at + suc (trailingZeros d (n / 2)) = omega arith in
-    rw (cleared-even n e, places-double d at (cleared (n / 2)), e) (places-clear d at n e ∙ ih (omega arith) ∙ ap (λ (x : ℕ). x ∷ places d (at + 1) (cleared (n / 2))) a)
-step-turn d at n (suc zero) h e ih = rw (cleared-odd n e, places-double d at (n / 2), e) (places-set d at n e ∙ ap (λ (x : ℕ). x ∷ places d (at + 1) (n / 2)) (sym (add-zero at)))
+    rw (cleared-even n e, places-double d at (cleared (n / 2)), e)
+    (places-clear d at n e ∙ ih (omega arith) ∙ ap (λ (x : ℕ). x ∷ places d (at + 1) (cleared (n / 2))) a)
+step-turn d at n (suc zero) h e ih = rw (cleared-odd n e, places-double d at (n / 2), e)
+    (places-set d at n e ∙ ap (λ (x : ℕ). x ∷ places d (at + 1) (n / 2)) (sym (add-zero at)))
 step-turn d at n (suc (suc t)) h e ih = absurd (omega arith)
 
 places-step : (d at n : ℕ) → 0 < n → n < 2 ^ d → places d at n ≡ (at + trailingZeros d n) ∷ places d at (cleared n)
@@ -91,7 +94,8 @@ count-turn d at n (suc (suc t)) e ih = absurd (omega arith)
 pub places-count : (d at n : ℕ) → n < 2 ^ d → length (places d at n) ≡ ones n
 unfolding places ones onesIn
 places-count zero at n h = let e : n ≡ 0 = omega arith in rw e
-places-count (suc d) at n h = count-turn d at n (n % 2) refl (places-count d (at + 1) (n / 2) (let q = rw (pow-suc 2 d) at h in omega arith)) ∙ sym (ones-step n)
+places-count (suc d) at n h = count-turn d at n (n % 2) refl (places-count d (at + 1) (n / 2) (let q = rw (pow-suc 2 d) at h in omega arith))
+    ∙ sym (ones-step n)
 
 -- ---- a turn of the loop that walks them
 
@@ -102,7 +106,8 @@ pub marks-none : marks 0 ≡ []
 marks-none = marks-places 0 ∙ places-none 64 0
 
 pub marks-next : (x : ℕ) → 0 < x → x < 2 ^ 64 → marks x ≡ trailingZeros 64 x ∷ marks (cleared x)
-marks-next x h g = rw (marks-places x, marks-places (cleared x)) (places-step 64 0 x h g ∙ ap (λ (t : ℕ). t ∷ places 64 0 (cleared x)) (zero-add (trailingZeros 64 x)))
+marks-next x h g = rw (marks-places x, marks-places (cleared x))
+    (places-step 64 0 x h g ∙ ap (λ (t : ℕ). t ∷ places 64 0 (cleared x)) (zero-add (trailingZeros 64 x)))
 
 pub marks-count : (x : ℕ) → x < 2 ^ 64 → length (marks x) ≡ ones x
 marks-count x h = ap length (marks-places x) ∙ places-count 64 0 x h

@@ -45,7 +45,8 @@ pub members-none : (ws : List ℕ) (x i : ℕ) → length ws ≤ i → membersLe
 unfolding recordsFrom
 members-none ws x i h = let e : length ws - i ≡ 0 = omega arith in rw e
 
-pub members-turn : (ws : List ℕ) (x i : ℕ) → i < length ws → getD ws i 0 < 2 ^ 64 → length (membersLeft ws x i) ≡ ones (getD ws i 0) + length (membersLeft ws x (i + 1))
+pub members-turn : (ws : List ℕ) (x i : ℕ) → i < length ws → getD ws i 0 < 2 ^ 64 →
+    length (membersLeft ws x i) ≡ ones (getD ws i 0) + length (membersLeft ws x (i + 1))
 members-turn ws x i h f =
     let e : 64 * (length ws - i) ≡ 64 + 64 * (length ws - (i + 1)) = omega arith in
     let z : x + 64 * i + 64 ≡ x + 64 * (i + 1) = omega arith in

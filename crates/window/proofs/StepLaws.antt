@@ -75,7 +75,8 @@ module _ {p : ℕ → Bool} {n : ℕ} {writing : Bool} {out₀ out : List ℕ} {
   more-length vs = omega (arith, length-append (s .done) vs, s .count)
 
   -- they have room where the whole list has
-  more-room : (vs rest : List ℕ) → stretches p (odd k) x (n + 1 - x) ≡ vs ++ rest → writing ≡ true → length (cellsOf p n) ≤ length out₀ → k + length vs ≤ length out
+  more-room : (vs rest : List ℕ) → stretches p (odd k) x (n + 1 - x) ≡ vs ++ rest → writing ≡ true → length (cellsOf p n) ≤ length out₀ →
+      k + length vs ≤ length out
   more-room vs rest e w h =
       let o : out ≡ sets out₀ 0 (s .done) = s .written ∙ ap (λ (t : Bool). cond t (sets out₀ 0 (s .done)) out₀) w in
       omega (
@@ -115,18 +116,21 @@ module _ {p : ℕ → Bool} {n : ℕ} {writing : Bool} {out₀ out : List ℕ} {
         let f : n + 1 - (x + m) ≡ n + 1 - x - m = omega arith in
         rw (e, f) (part-turn p x m (n + 1 - x) k (omega arith)))
         (λ h. let l : n + 1 - x + (m - (n + 1 - x)) ≡ m = omega arith in
-        let o : odd (k + length vs) ≡ false = flips-parity p (odd k) x m k refl ∙ before-last p (odd k) x m (x + m - 1) (omega arith) some ∙ ends (x + m - 1) (omega arith) in
+        let o : odd (k + length vs) ≡ false =
+        flips-parity p (odd k) x m k refl ∙ before-last p (odd k) x m (x + m - 1) (omega arith) some ∙ ends (x + m - 1) (omega arith) in
         sym (stretches-past p (odd k) x (n + 1 - x) (m - (n + 1 - x)) (λ i g. ends (x + (n + 1 - x) + i) (omega arith)))
         ∙ ap (stretches p (odd k) x) l
         ∙ part-turn p x m m k (omega arith)
         ∙ ap (λ (r : List ℕ). vs ++ r)
-        (stretches-none p (odd (k + length vs)) (x + m) (m - m) o (omega arith) ∙ sym (stretches-none p (odd (k + length vs)) next (n + 1 - next) o (omega arith))))
+        (stretches-none p (odd (k + length vs)) (x + m) (m - m) o (omega arith)
+        ∙ sym (stretches-none p (odd (k + length vs)) next (n + 1 - next) o (omega arith))))
 
     step-members : recs + length (recordsFrom p x m) ≡ length (recordsFrom p 1 (next - 1))
     step-members =
         let a = s .near in
         let e : x + m - x ≡ m = omega arith in
-        let all : length (recordsFrom p 1 (x + m - 1)) ≡ length (recordsFrom p 1 (x - 1)) + length (recordsFrom p x m) = rw e at (members-on p x (x + m) (a .0) (omega arith)) in
+        let all : length (recordsFrom p 1 (x + m - 1)) ≡ length (recordsFrom p 1 (x - 1)) + length (recordsFrom p x m) =
+        rw e at (members-on p x (x + m) (a .0) (omega arith)) in
         leb-cases (x + m) (n + 1)
         (λ h. let f : min (x + m) (n + 1) ≡ x + m = omega arith in rw f (omega (arith, s .members)))
         (λ h. let f : min (x + m) (n + 1) ≡ n + 1 = omega arith in
@@ -135,7 +139,8 @@ module _ {p : ℕ → Bool} {n : ℕ} {writing : Bool} {out₀ out : List ℕ} {
     pub step-room : writing ≡ true → length (cellsOf p n) ≤ length out₀ → k + length (flips p (odd k) x m) ≤ length out
     step-room w h = more-room vs (stretches p (odd (k + length vs)) next (n + 1 - next)) step-left w h
 
-    pub swept-step : {out′ : List ℕ} {k′ recs′ : ℕ} → Stepped p x m writing k recs out out′ k′ recs′ → Swept p n writing out₀ out′ (odd k′) (min (x + m) (n + 1)) k′ recs′
+    pub swept-step : {out′ : List ℕ} {k′ recs′ : ℕ} → Stepped p x m writing k recs out out′ k′ recs′ →
+        Swept p n writing out₀ out′ (odd k′) (min (x + m) (n + 1)) k′ recs′
     swept-step t = rw (t .cells, t .records, t .written) (more-swept vs step-left step-members (let a = s .near in omega arith, omega arith))
 
 -- ---- the end: a stretch that is still open ends with n

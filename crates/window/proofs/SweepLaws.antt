@@ -11,7 +11,8 @@ use Rattle.window.specs.Flips.{odd, flips, windowCells}
 use Rattle.window.proofs.FlipLaws.{stretches-add, flips-constant, flips-parity}
 use Rattle.window.proofs.MemberLaws.{flips-held}
 
-pub part-turn : (p : ℕ → Bool) (x m n k : ℕ) → m ≤ n → stretches p (odd k) x n ≡ flips p (odd k) x m ++ stretches p (odd (k + length (flips p (odd k) x m))) (x + m) (n - m)
+pub part-turn : (p : ℕ → Bool) (x m n k : ℕ) → m ≤ n →
+    stretches p (odd k) x n ≡ flips p (odd k) x m ++ stretches p (odd (k + length (flips p (odd k) x m))) (x + m) (n - m)
 part-turn p x m n k le =
     let e : n ≡ m + (n - m) = omega arith in
     ap (stretches p (odd k) x) e ∙ stretches-add p (odd k) x m (n - m)

@@ -76,7 +76,8 @@ on-flipped p b x w h (suc i) l =
     on-xor w (bitOr (digit b) (w * 2 ^ 1 % 2 ^ 64)) (suc i)
     ∙ ap₂ differs (h (suc i) l)
     (on-or (digit b) (w * 2 ^ 1 % 2 ^ 64) (suc i)
-    ∙ ap₂ _||_ (on-high (digit b) (suc i) (digit-small b i)) (on-low (w * 2 ^ 1) 64 (suc i) l ∙ ap (on (w * 2 ^ 1)) (sym (one-add i)) ∙ on-up w 1 i ∙ h i (omega arith)))
+    ∙ ap₂ _||_ (on-high (digit b) (suc i) (digit-small b i))
+    (on-low (w * 2 ^ 1) 64 (suc i) l ∙ ap (on (w * 2 ^ 1)) (sym (one-add i)) ∙ on-up w 1 i ∙ h i (omega arith)))
 
 -- ---- its marks are the cells
 

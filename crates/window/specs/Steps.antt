@@ -1,5 +1,5 @@
 -- One step over the records from x on, for any test: its cells are counted, or written.
-use Prim.Native.Nat.{ℕ, _+_, _≤_, _<_}
+use Prim.Native.Nat.{ℕ, _+_, _-_, _≤_, _<_}
 use mathlib.Core.Path.{_≡_}
 use mathlib.Core.Bool.{Bool, true, cond}
 use mathlib.Core.List.{List}
@@ -7,6 +7,7 @@ use lib.ListN.{length}
 use lib.Seq.{sets}
 use Rattle.list.specs.Stretches.{recordsFrom}
 use Rattle.window.specs.Flips.{odd, flips}
+use Rattle.window.specs.declared.steps.Done.{Done}
 
 -- where the list is written, the cells vs have room behind the first k
 abbrev pub RoomFor : Bool → List ℕ → ℕ → List ℕ → Type 0
@@ -26,3 +27,7 @@ pub record Stepped (p : ℕ → Bool) (x m : ℕ) (writing : Bool) (k recs : ℕ
   pub cells : k′ ≡ k + length (flips p (odd k) x m)
   pub records : recs′ ≡ recs + length (recordsFrom p x m)
   pub written : out′ ≡ cond writing (sets out k (flips p (odd k) x m)) out
+
+-- a jump from x to below y, for any test that is constant there
+abbrev pub Jumps : Bool → ℕ → ℕ → Bool → ℕ → ℕ → List ℕ → List ℕ → Done → Type 0
+Jumps inside x y writing k recs out out′ r = (p : ℕ → Bool) → Constant p x y inside → Stepped p x (y - x) writing k recs out out′ (r .cells) (r .records)

@@ -1,12 +1,11 @@
 // Two steps over the records from x on: a jump over a stretch that stays as it is, and a window. Each counts the cells and the records that it
 // passes, and writes the cells where the list is written and not only counted.
-ghost use mathlib.Core.Bool.{Bool};
 ghost use mathlib.Core.List.{[], _∷_};
-ghost use Prim.Native.Nat.{ℕ, _+_, _-_, _*_, _^_, _<_, _≤_};
+ghost use Prim.Native.Nat.{_+_, _*_, _^_, _<_, _≤_};
 ghost use lib.ListN.{length};
 ghost use Rattle.list.specs.Stretches.{turned};
 ghost use Rattle.window.specs.Flips.{odd, windowCells};
-ghost use Rattle.window.specs.Steps.{RoomFor, PutCells, Stepped, Constant};
+ghost use Rattle.window.specs.Steps.{RoomFor, PutCells, Jumps};
 use crate::flips::count_flips;
 use crate::flips::write_flips;
 
@@ -78,7 +77,7 @@ pub fn take_jump(
     requires fits { ⌜ k < 4294967296 ⌝ }
     requires counted { ⌜ records < 4294967296 ⌝ }
     requires room { ⌜ RoomFor writing (turned (odd k) inside x []) k (now out) ⌝ }
-    ensures { λ r. ⌜ ((p : ℕ → Bool) → Constant p x y inside → Stepped p x (y - x) writing k records (now (out .entry)) (now (out .exit)) (r .cells) (r .records)) ⌝ }
+    ensures { λ r. ⌜ Jumps inside x y writing k records (now (out .entry)) (now (out .exit)) r ⌝ }
 {
     let cells = put_turn(inside, x, k, writing, out);
     if inside {

@@ -64,7 +64,8 @@ unfolding before
 of-less x y xs ys (inl h) = rw (lt-ltb x y h)
 of-less x y xs ys (inr h) = let e : x ≡ y = h .0 in rw (le-ltb x y (omega arith), eq-eqb x y e) (h .1)
 
-less-trans : (x y z : ℕ) (xs ys zs : List ℕ) → (before xs ys ≡ true → before ys zs ≡ true → before xs zs ≡ true) → Less x xs y ys → Less y ys z zs → Less x xs z zs
+less-trans : (x y z : ℕ) (xs ys zs : List ℕ) → (before xs ys ≡ true → before ys zs ≡ true → before xs zs ≡ true) → Less x xs y ys → Less y ys z zs →
+    Less x xs z zs
 less-trans x y z xs ys zs ih (inl h) (inl k) = inl (omega arith)
 less-trans x y z xs ys zs ih (inl h) (inr k) = let e : y ≡ z = k .0 in inl (omega arith)
 less-trans x y z xs ys zs ih (inr h) (inl k) = let e : x ≡ y = h .0 in inl (omega arith)
@@ -107,7 +108,8 @@ before-total (x ∷ xs) (y ∷ ys) = total-step x y xs ys (ltb x y) (eqb x y) re
 pub bytes-start : (s : List ℕ) → allWordBytes s ≡ true && allWordBytes (drop 0 s)
 bytes-start s = refl
 
-pub bytes-at : (s : List ℕ) (all : Bool) (i : ℕ) → i < length s → all && allWordBytes (drop i s) ≡ all && isWordByte (getD s i 0) && allWordBytes (drop (i + 1) s)
+pub bytes-at : (s : List ℕ) (all : Bool) (i : ℕ) → i < length s →
+    all && allWordBytes (drop i s) ≡ all && isWordByte (getD s i 0) && allWordBytes (drop (i + 1) s)
 unfolding allWordBytes
 bytes-at s true i h = rw (drop-next s i h)
 bytes-at s false i h = refl
@@ -175,7 +177,8 @@ operator-some w = go (isAnd w) (isOr w) (isNot w)
 pub order-start : (a b : List ℕ) → orderOf a b ≡ orderOf (drop 0 a) (drop 0 b)
 order-start a b = refl
 
-pub order-equal : (a b : List ℕ) (i : ℕ) → i < length a → i < length b → getD a i 0 ≡ getD b i 0 → orderOf (drop i a) (drop i b) ≡ orderOf (drop (i + 1) a) (drop (i + 1) b)
+pub order-equal : (a b : List ℕ) (i : ℕ) → i < length a → i < length b → getD a i 0 ≡ getD b i 0 →
+    orderOf (drop i a) (drop i b) ≡ orderOf (drop (i + 1) a) (drop (i + 1) b)
 unfolding orderOf same before
 order-equal a b i h k e =
     rw (drop-next a i h, drop-next b i k, eq-eqb (getD a i 0) (getD b i 0) e, le-ltb (getD a i 0) (getD b i 0) (omega arith))

@@ -1,6 +1,6 @@
 //! Calls every exported function of the archive on random and on chosen inputs, and compares with an implementation of its own.
 //!
-//!     outside [--only FAMILY,..] [--seed N] [--cases N] [--scale PERCENT] [--show] [--reference]
+//!     outside [--only FAMILY,..] [--except FAMILY,..] [--seed N] [--cases N] [--scale PERCENT] [--show] [--reference]
 #![allow(unexpected_cfgs)]
 
 mod archive;
@@ -19,6 +19,7 @@ use std::time::Instant;
 
 struct Options {
     only: Vec<String>,
+    except: Vec<String>,
     seed: u64,
     cases: Option<u64>,
     scale: u64,
@@ -27,12 +28,14 @@ struct Options {
 }
 
 fn options() -> Options {
-    let mut o = Options { only: vec![], seed: 1, cases: None, scale: 100, show: false, reference: false };
+    let mut o = Options { only: vec![], except: vec![], seed: 1, cases: None, scale: 100, show: false, reference: false };
     let mut arguments = std::env::args().skip(1);
     while let Some(name) = arguments.next() {
         let mut value = || arguments.next().unwrap_or_else(|| panic!("{name} wants a value"));
+        let names = |list: String| list.split(',').map(str::to_string).collect();
         match name.as_str() {
-            "--only" => o.only = value().split(',').map(str::to_string).collect(),
+            "--only" => o.only = names(value()),
+            "--except" => o.except = names(value()),
             "--seed" => o.seed = value().parse().expect("a number"),
             "--cases" => o.cases = Some(value().parse().expect("a number")),
             "--scale" => o.scale = value().parse().expect("a number"),
@@ -95,7 +98,8 @@ fn main() {
     }
     let mut caller = Caller::new();
     caller.show = options.show;
-    let chosen = |family: &&Family| options.only.is_empty() || options.only.iter().any(|name| name == family.name);
+    let named = |names: &[String], family: &Family| names.iter().any(|name| name == family.name);
+    let chosen = |family: &&Family| (options.only.is_empty() || named(&options.only, family)) && !named(&options.except, family);
     for family in FAMILIES.iter().filter(chosen) {
         failures += usize::from(!run(family, &mut caller, &options));
     }

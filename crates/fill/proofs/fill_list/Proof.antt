@@ -38,7 +38,8 @@ returns c =
     let S = numbersIn (a .singles .now) in
     let L = numbersIn (a .lower .now) in
     let U = numbersIn (a .upper .now) in
-    added-agree (λ x. among S x || names (walked [] L U) x) (names (walked S L U)) (a .base) (a .ws .now) _ (walked-both S L U (kept-apart recordMax S L U (start .pre .0)))
+    added-agree (λ x. among S x || names (walked [] L U) x) (names (walked S L U)) (a .base) (a .ws .now) _
+    (walked-both S L U (kept-apart recordMax S L U (start .pre .0)))
     (added-both (first .fill-singles .ensures) (filled .fill-pairs .ensures))
 
 pub fill-list-spec : {M : Type 1} → statement M

@@ -49,7 +49,8 @@ loop c = c .before .before .before .before .before
 
 ahead : (c : Read) → let u = c .number-at2 .result in (c .before .before .number-at .result ≤ u) × (begun (loop c) .args .base ≤ u)
 ahead c =
-    side-order (pairs-side (begun (loop c) .pre .0)) (loop c .loop .inv) (inside (c .before .before .before) .2) (c .before .before .number-at .ensures) (c .number-at2 .ensures)
+    side-order (pairs-side (begun (loop c) .pre .0)) (loop c .loop .inv) (inside (c .before .before .before) .2) (c .before .before .number-at .ensures)
+    (c .number-at2 .ensures)
 
 -- the window is as long as it was
 same-long : (c : Read) → length (loop c .loop .ws) ≡ length (begun (loop c) .args .ws .now)
@@ -75,7 +76,8 @@ returns-3 c =
 loop-again : tie.Need-loop-again Inv-loop μ-loop
 loop-again c =
     let read = c .before .before .before .before .before .before .before in
-    side-step (pairs-side (begun (loop read) .pre .0)) (loop read .loop .inv) (inside (read .before .before .before) .2) (read .before .before .number-at .ensures)
+    side-step (pairs-side (begun (loop read) .pre .0)) (loop read .loop .inv) (inside (read .before .before .before) .2)
+    (read .before .before .number-at .ensures)
     (read .number-at2 .ensures) (rw (c .before .before .before .before .before .before .above .ensures) at (c .before .before .before .fill-range2 .ensures))
 
 returns-4 : tie.Need-returns-4 Inv-loop μ-loop

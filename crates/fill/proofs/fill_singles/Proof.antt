@@ -31,7 +31,8 @@ stands c = let test = c .before .if1 .taken in omega (arith, numbersIn-length (b
 
 -- and does not lie below base
 ahead : (c : Read) → begun (c .before .before .before) .args .base ≤ c .number-at .result
-ahead c = let l = c .before .before .before in side-order (singles-side (begun l .pre .0)) (l .loop .inv) (stands c) (c .number-at .ensures) (c .number-at .ensures) .1
+ahead c = let l = c .before .before .before in
+    side-order (singles-side (begun l .pre .0)) (l .loop .inv) (stands c) (c .number-at .ensures) (c .number-at .ensures) .1
 
 returns : tie.Need-returns Inv-loop μ-loop
 returns c =
@@ -43,7 +44,8 @@ loop-again : tie.Need-loop-again Inv-loop μ-loop
 loop-again c =
     let read = c .before .before .before .before .before .before in
     let l = read .before .before .before in
-    side-step (singles-side (begun l .pre .0)) (l .loop .inv) (stands read) (read .number-at .ensures) (read .number-at .ensures) (c .before .before .before .set-bit .ensures)
+    side-step (singles-side (begun l .pre .0)) (l .loop .inv) (stands read) (read .number-at .ensures) (read .number-at .ensures)
+    (c .before .before .before .set-bit .ensures)
 
 returns-2 : tie.Need-returns-2 Inv-loop μ-loop
 returns-2 c =

@@ -20,7 +20,8 @@ returns c =
     let asked = sense .before .before .before .before .before .pre in
     let called = sense .sense-of in
     let e = c .smaller .ensures in (
-      rw e (probe-out (asked .0) (asked .1) (sense .before .before .loop .k) (sense .before .loop-test .taken) (not-true (called .result .inside) (c .before .if1 .taken)) (called .ensures)),
+      rw e (probe-out (asked .0) (asked .1) (sense .before .before .loop .k) (sense .before .loop-test .taken)
+          (not-true (called .result .inside) (c .before .if1 .taken)) (called .ensures)),
       omega arith,
     )
 
@@ -29,7 +30,8 @@ loop-again c =
     let sense = c .before .before .before in
     let called = sense .sense-of in
     rw (c .smaller2 .ensures)
-    (looked-next (sense .before .before .loop .inv) (sense .before .loop-test .taken) (not-false (called .result .inside) (c .before .if1 .left)) (called .ensures))
+    (looked-next (sense .before .before .loop .inv) (sense .before .loop-test .taken) (not-false (called .result .inside) (c .before .if1 .left))
+    (called .ensures))
 
 returns-2 : tie.Need-returns-2 Inv-loop μ-loop
 returns-2 c = let r = c .before .loop .inv in (looked-end r (c .loop-test .left) (c .before .before .before .before .pre .0 .high), r .near)

@@ -26,5 +26,6 @@ pub sense-of-spec : {M : Type 1} → statement M
 sense-of-spec =
     tie.close
     (tie.spec
-    (λ c. search needs) returns (λ c. search needs) (λ c. search needs) (λ c. omega (arith, c .shared-slice-known3 .given (c .before .before .before .before .args .k))) sense-in-requires
+    (λ c. search needs) returns (λ c. search needs) (λ c. search needs)
+    (λ c. omega (arith, c .shared-slice-known3 .given (c .before .before .before .before .args .k))) sense-in-requires
     (λ c. search needs))

@@ -56,7 +56,8 @@ first c = found c .before .before
 
 -- where the loop goes on, an interval is left
 left : (c : Turn) →
-    Goes (entrySingles (now (begin (first c) .args .index)) (entry (first c))) (entryLowers (now (begin (first c) .args .index)) (entry (first c))) (c .before .loop .at)
+    Goes (entrySingles (now (begin (first c) .args .index)) (entry (first c))) (entryLowers (now (begin (first c) .args .index)) (entry (first c)))
+    (c .before .loop .at)
 left c =
     let n = c .before .loop .inv .0 in
     let m = c .loop-test .taken in
@@ -73,7 +74,8 @@ put-within-requires c κs =
     let a = begin (first i) .pre .0 in
     let h = first i .shortest .ensures .inside in
     let g = i .before .loop .inv .1 in
-    rw (e .0, e .1, r .singles, r .lower, r .upper) (going-within a h g (left i), (going-ordered a h g (left i), going-fits a h g (left i) (begin (first i) .pre .1)))
+    rw (e .0, e .1, r .singles, r .lower, r .upper)
+    (going-within a h g (left i), (going-ordered a h g (left i), going-fits a h g (left i) (begin (first i) .pre .1)))
 
 next-place-requires : tie.Need-next-place-requires Inv-loop μ-loop
 next-place-requires c κs =

@@ -34,8 +34,10 @@ goes c = goes-start (asked-entry (begin c .pre .0) (c .before .loop .j) (c .loop
 key-of-requires : tie.Need-key-of-requires Inv-loop μ-loop
 key-of-requires c κs =
     let i = c .before .before .before in
-    let few = begin i .pre .0 .few in
-    (rw (c .before .next-interval .ensures .1) (next-bounds (read-at-start (begin i .pre .0) (i .before .loop .j) (i .loop-test .taken)) (goes i) .2), omega arith)
+    let few = begin i .pre .0 .few in (
+      rw (c .before .next-interval .ensures .1) (next-bounds (read-at-start (begin i .pre .0) (i .before .loop .j) (i .loop-test .taken)) (goes i) .2),
+      omega arith,
+    )
 
 loop-again : tie.Need-loop-again Inv-loop μ-loop
 loop-again c =

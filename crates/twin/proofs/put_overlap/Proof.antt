@@ -12,4 +12,5 @@ returns-2 c =
     (λ e. put .put .ensures, λ e. true-false (sym (le-leb _ _ (put .before .before .if1 .left)) ∙ e))
 
 pub put-overlap-spec : {M : Type 1} → statement M
-put-overlap-spec = tie.close (tie.spec (λ c. (λ e. true-false (sym e ∙ lt-leb _ _ (c .if1 .taken)), λ e. (refl, refl))) (λ c κs. c .before .before .before .before .pre (c .before .if1 .left)) (λ c. search needs) returns-2)
+put-overlap-spec = tie.close (tie.spec (λ c. (λ e. true-false (sym e ∙ lt-leb _ _ (c .if1 .taken)), λ e. (refl, refl)))
+    (λ c κs. c .before .before .before .before .pre (c .before .if1 .left)) (λ c. search needs) returns-2)

@@ -139,7 +139,10 @@ loop-less : tie.Need-loop-less Inv-loop μ-loop
 loop-less c =
     let f = c .before .before .before .before .before .before .before .before .before in
     let i = turn (f .before) in
-    let r = rw (c .before .before .before .before .before .before .key-of .ensures, c .before .before .before .before .before .before .before .before .next-interval .ensures .1)
+    let r = rw (
+      c .before .before .before .before .before .before .key-of .ensures,
+      c .before .before .before .before .before .before .before .before .next-interval .ensures .1,
+    )
     at (c .before .before .before .before .before .replace-least .ensures) in
     turn-falls (asked i) (i .loop .inv .0) (f .before .before .before .moved-on .ensures) (goes-on f) r
 
@@ -152,7 +155,8 @@ loop-again c =
     let moved = f .before .before .before .moved-on .ensures in
     let put = f .before .before .before .before .before .before .put-overlap .ensures in
     let next = c .before .before .before .before .before .before .before .before .next-interval .ensures in
-    let r = rw (c .before .before .before .before .before .before .key-of .ensures, next .1) at (c .before .before .before .before .before .replace-least .ensures) in
+    let r = rw (c .before .before .before .before .before .before .key-of .ensures, next .1) at
+    (c .before .before .before .before .before .replace-least .ensures) in
     let p = rw (next .0) at (c .before .push .ensures) in
     (turn-next (asked i) w moved (largest (roomy (f .before))) put (goes-on f) r, turn-lowers (asked i) w moved (goes-on f) (room .0) p, p .room ∙ room .1 .0)
 
@@ -171,5 +175,6 @@ sweep-twin-spec =
     (λ c. search needs)
     (λ c. let b = next-bounds (c .before .before .before .before .before .before .before) in
     omega (arith, c .before .before .before .before .before .before .next-interval .ensures .0))
-    (λ c κs. let room = roomy (c .before .before .before .before .before .before .before .before) .with-room .ensures in (omega (arith, room .1), room .0 .heap))
+    (λ c κs. let room = roomy (c .before .before .before .before .before .before .before .before) .with-room .ensures in
+    (omega (arith, room .1), room .0 .heap))
     (λ c. omega (arith, roomy (c .before .before .before .before .before .before .before .before .before .before) .with-room .ensures .1 .1)) loop-less loop-again)

@@ -22,7 +22,8 @@ returns : tie.Need-returns Inv-loop μ-loop
 returns c =
     let start = c .before .before .before .before .before .before .before .before .before in
     let at = c .before .before .before .before .before .loop in
-    c .order-of-bytes .ensures ∙ sym (at .inv .2 ∙ order-differ (start .args .a .now) (start .args .b .now) (at .i) (omega arith) (omega arith) (c .before .if1 .taken))
+    c .order-of-bytes .ensures ∙ sym (at .inv .2
+    ∙ order-differ (start .args .a .now) (start .args .b .now) (at .i) (omega arith) (omega arith) (c .before .if1 .taken))
 
 loop-again : tie.Need-loop-again Inv-loop μ-loop
 loop-again c =

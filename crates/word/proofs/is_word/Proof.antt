@@ -15,10 +15,13 @@ returns-2 : tie.Need-returns-2
 returns-2 c = sym (word-long (c .before .before .before .args .s .now) (c .if2 .taken))
 
 returns-3 : tie.Need-returns-3
-returns-3 c = sym (word-bytes-fail (c .before .before .before .before .before .args .s .now) (omega arith) (omega arith) (sym (c .before .word-bytes .ensures) ∙ not-true _ (c .if3 .taken)))
+returns-3 c = sym (word-bytes-fail (c .before .before .before .before .before .args .s .now) (omega arith) (omega arith)
+    (sym (c .before .word-bytes .ensures) ∙ not-true _ (c .if3 .taken)))
 
 returns-4 : tie.Need-returns-4
-returns-4 c = ap not (c .is-operator .ensures) ∙ sym (word-else (c .before .before .before .before .before .before .args .s .now) (omega arith) (omega arith) (sym (c .before .before .word-bytes .ensures) ∙ not-false _ (c .before .if3 .left)))
+returns-4 c = ap not (c .is-operator .ensures)
+    ∙ sym (word-else (c .before .before .before .before .before .before .args .s .now) (omega arith) (omega arith)
+    (sym (c .before .before .word-bytes .ensures) ∙ not-false _ (c .before .if3 .left)))
 
 pub is-word-spec : {M : Type 1} → statement M
 is-word-spec = tie.close (tie.spec returns returns-2 (λ c κs. search needs) returns-3 (λ c κs. search needs) returns-4)

@@ -24,7 +24,8 @@ loop-again c =
     let s = c .before .before .before .before .before .args .s .now in
     let at = c .before .before .before .loop in (
       omega arith,
-      at .inv .1 ∙ bytes-at s (at .all) (at .i) (c .before .before .loop-test .taken) ∙ ap (λ (t : Bool). at .all && t && allWordBytes (drop (at .i + 1) s)) (sym (c .word-byte .ensures)),
+      at .inv .1 ∙ bytes-at s (at .all) (at .i) (c .before .before .loop-test .taken)
+          ∙ ap (λ (t : Bool). at .all && t && allWordBytes (drop (at .i + 1) s)) (sym (c .word-byte .ensures)),
     )
 
 returns : tie.Need-returns Inv-loop μ-loop

@@ -1,4 +1,5 @@
--- The invariant: the first bad count is the first from place i on, and what is left of the numbers is what the counts passed did not take. Rests on one count (CountLaws).
+-- The invariant: the first bad count is the first from place i on, and what is left of the numbers is what the counts passed did not take.
+-- Rests on one count (CountLaws).
 use mathlib.Core.Path.{_≡_, _∙_}
 use Prim.Native.Nat.{_≤_, _-_, _+_}
 use native.Mathlib.Omega.{arith}
@@ -24,7 +25,11 @@ abbrev μ-loop : tie.MeasureT-loop
 μ-loop counts total words left₀ i₀ left i = words - i
 
 loop-holds : tie.Need-loop-holds Inv-loop μ-loop
-loop-holds c = (search needs, sum-none (now (c .args .counts)) (c .args .total), first-start (badCount (now (c .args .counts)) (c .args .total)) (c .args .words))
+loop-holds c = (
+  search needs,
+  sum-none (now (c .args .counts)) (c .args .total),
+  first-start (badCount (now (c .args .counts)) (c .args .total)) (c .args .words),
+)
 
 -- ---- the count of the turn
 
@@ -53,7 +58,8 @@ loop-again c =
     let t = c .before .before .before .before in
     let at = t .before .loop in
     let counts = now (begin t .args .counts) in
-    let good = count-good counts (begin t .args .total) (at .i) (at .left) (c .before .before .before .if1 .left) (c .before .if2 .left) (at .inv .1) (c .if3 .left) in
+    let good = count-good counts (begin t .args .total) (at .i) (at .left) (c .before .before .before .if1 .left) (c .before .if2 .left) (at .inv .1)
+    (c .if3 .left) in
     let s = sum-next counts (at .i) in
     (search needs, omega arith, at .inv .2 ∙ first-miss (badCount counts (begin t .args .total)) (at .i) (begin t .args .words) (t .loop-test .taken) good)
 

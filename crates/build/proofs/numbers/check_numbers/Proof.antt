@@ -43,7 +43,8 @@ abbrev turn : tie.After-known-told Inv-loop μ-loop → Turn
 turn c = c .before .before .before .before .before .before
 
 hit : (c : tie.After-known-told Inv-loop μ-loop) →
-    numberFault (begin (turn c) .args .n) (now (begin (turn c) .args .counts)) (now (begin (turn c) .args .numbers)) ≡ At (turn c .before .loop .start + c .before .bad .given .0 .0)
+    numberFault (begin (turn c) .args .n) (now (begin (turn c) .args .counts)) (now (begin (turn c) .args .numbers))
+    ≡ At (turn c .before .loop .start + c .before .bad .given .0 .0)
 hit c =
     let t = turn c in
     let start = begin t in

@@ -57,7 +57,8 @@ count-kept-requires c κs =
 
 -- its cells are no more than its numbers
 most : (c : tie.After-count-kept Inv-loop μ-loop) →
-    c .before .before .before .before .loop .start + (c .count-kept .result .singles + 2 * c .count-kept .result .pairs) ≤ length (numbers (c .before .before .before))
+    c .before .before .before .before .loop .start + (c .count-kept .result .singles + 2 * c .count-kept .result .pairs)
+    ≤ length (numbers (c .before .before .before))
 most c = let n = c .before .before .before in omega (arith, within n, long n, c .count-kept .ensures .most)
 
 loop-again : tie.Need-loop-again Inv-loop μ-loop
@@ -65,7 +66,8 @@ loop-again c =
     let n = c .before .before .before .before in
     let at = n .before .loop in
     let kept = c .before .count-kept .ensures in
-    let next = ap (λ (xss : List (List ℕ)). length (listsBytes recordMax xss)) (lists-next (counts n) (numbers n) (at .i) (at .start) (n .loop-test .taken) refl) in
+    let next = ap (λ (xss : List (List ℕ)). length (listsBytes recordMax xss))
+    (lists-next (counts n) (numbers n) (at .i) (at .start) (n .loop-test .taken) refl) in
     let bytes = lists-bytes-next recordMax (list n) (listsFrom (drop (at .i + 1) (counts n)) (drop (end n) (numbers n))) in (
       search needs,
       omega (arith, sum-next (counts n) (at .i)),

@@ -35,7 +35,8 @@ returns-2 c =
 returns-3 : tie.Need-returns-3 Inv-loop μ-loop
 returns-3 c =
     let e = c .before .before .before .before .before in
-    rw (pass-bad (e .before .before .before .loop .inv) (e .before .word-end .ensures .0) (ended e) (sym (c .before .word-good .ensures) ∙ not-true _ (c .if3 .taken)))
+    rw (pass-bad (e .before .before .before .loop .inv) (e .before .word-end .ensures .0) (ended e)
+    (sym (c .before .word-good .ensures) ∙ not-true _ (c .if3 .taken)))
 
 loop-again : tie.Need-loop-again Inv-loop μ-loop
 loop-again c =

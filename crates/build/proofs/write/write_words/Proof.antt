@@ -8,7 +8,7 @@ use lib.Seq.{length-sets}
 use denote.Ref.{now}
 use borrow.Author.Needs.{needs}
 use Rattle.build.specs.Lent.{wordsFrom, lentWords, listsFrom}
-use Rattle.build.specs.Passes.{allEntered}
+use Rattle.build.specs.Passes.{allEntered, lentEntered}
 use Rattle.build.proofs.ListsLaws.{list-good, list-within}
 use Rattle.build.proofs.EnterLaws.{Entering, enter-start, enter-end, word-ended, enter-within, enter-on, enter-left}
 use Rattle.build.proofs.write.write_words.Statement.{statement}
@@ -18,7 +18,7 @@ abbrev Inv-loop : tie.InvT-loop
 Inv-loop out₀ words counts numbers at₀ start₀ first₀ i₀ out at start first i =
     (length out ≡ length out₀)
     × Entering words counts numbers (length out₀) at start first i
-    × (allEntered out₀ at₀ (lentWords words) (listsFrom counts numbers) ≡ allEntered out at (wordsFrom [] (drop start words)) (listsFrom (drop i counts) (drop first numbers)))
+    × (lentEntered out₀ at₀ words counts numbers ≡ allEntered out at (wordsFrom [] (drop start words)) (listsFrom (drop i counts) (drop first numbers)))
 
 abbrev μ-loop : tie.MeasureT-loop
 μ-loop out₀ words counts numbers at₀ start₀ first₀ i₀ out at start first i = length counts - i

@@ -61,8 +61,13 @@ loop-again c =
     let at = c .before .before .before .loop in
     let start = c .before .before .before .before .before in
     let xs = now (start .args .numbers) in
-    let on = runsFrom-on (getD xs (start .args .i) 0) (at .upper) xs (at .next) (omega arith) (c .if1 .left) in
-    (omega arith, omega (arith, at .inv .1), good-number-small recordMax xs (start .pre .0) (at .next) (omega arith), omega (arith, at .inv .1, at .inv .3), at .inv .4 ∙ on)
+    let on = runsFrom-on (getD xs (start .args .i) 0) (at .upper) xs (at .next) (omega arith) (c .if1 .left) in (
+      omega arith,
+      omega (arith, at .inv .1),
+      good-number-small recordMax xs (start .pre .0) (at .next) (omega arith),
+      omega (arith, at .inv .1, at .inv .3),
+      at .inv .4 ∙ on,
+    )
 
 returns-2 : tie.Need-returns-2 Inv-loop μ-loop
 returns-2 c = let l = c .before in ended l (runsFrom-end (lower l) (l .loop .upper) (xs l) (l .loop .next) (c .loop-test .left))

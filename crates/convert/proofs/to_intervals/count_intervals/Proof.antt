@@ -1,4 +1,5 @@
--- The invariant: the intervals are those begun so far and one for each break to come. Rests on the pass over the numbers (RunLaws), whose cells are the contract's.
+-- The invariant: the intervals are those begun so far and one for each break to come.
+-- Rests on the pass over the numbers (RunLaws), whose cells are the contract's.
 use mathlib.Core.Path.{_≡_, sym, ap, _∙_}
 use Prim.Native.Nat.{ℕ, _≤_, _-_, _+_}
 use native.Mathlib.Omega.{arith}

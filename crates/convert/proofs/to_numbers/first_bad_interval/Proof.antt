@@ -58,8 +58,11 @@ loop-again : tie.Need-loop-again Inv-loop μ-loop
 loop-again c =
     let t = c .before .before .before .before .before in
     let i = t .before .loop .i in
-    let good = good-interval (tested t) (c .before .before .if1 .left) (c .before .if2 .left) (c .if3 .left) in
-    (search needs, sym (least-lower-next (cells t) i), t .before .loop .inv .2 ∙ first-miss (badInterval (cells t)) i ((length (cells t) + 1) / 2) (omega arith) good)
+    let good = good-interval (tested t) (c .before .before .if1 .left) (c .before .if2 .left) (c .if3 .left) in (
+      search needs,
+      sym (least-lower-next (cells t) i),
+      t .before .loop .inv .2 ∙ first-miss (badInterval (cells t)) i ((length (cells t) + 1) / 2) (omega arith) good,
+    )
 
 returns-4 : tie.Need-returns-4 Inv-loop μ-loop
 returns-4 c =

@@ -11,7 +11,7 @@ use Rattle.laws.proofs.Lists.{sets-front}
 use Rattle.limits.specs.Limits.{recordMax}
 use Rattle.list.specs.Interval.{records}
 use Rattle.list.proofs.ProperLaws.{ProperFrom}
-use Rattle.convert.specs.Front.{inFront}
+use Rattle.list.specs.Front.{inFront}
 use Rattle.convert.proofs.IntervalLaws.{Next, good-proper, good-proper-from, proper-next, next-rest}
 use Rattle.convert.proofs.SpanLaws.{countUp, spans, spans-at, spans-end, spans-length, spans-records, sets-range, records-at}
 use Rattle.convert.proofs.to_numbers.write_numbers.Statement.{statement}

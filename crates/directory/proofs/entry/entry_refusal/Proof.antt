@@ -15,7 +15,8 @@ word-count-requires c κs =
 returns : tie.Need-returns
 returns c =
     let a = c .before .before .before .before .before .args in
-    sym (entry-refused (a .index .now) (a .entry) (c .before .refusal .given .0 .0) (sym (c .before .before .before .check-index .ensures) ∙ c .before .refusal .given .1))
+    sym (entry-refused (a .index .now) (a .entry) (c .before .refusal .given .0 .0)
+    (sym (c .before .before .before .check-index .ensures) ∙ c .before .refusal .given .1))
 
 returns-2 : tie.Need-returns-2
 returns-2 c =

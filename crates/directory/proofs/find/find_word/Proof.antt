@@ -18,7 +18,8 @@ returns c =
     let found = c .before .before in
     let start = found .before .before .before in
     let n = c .before .word-count .ensures .0 in
-    sym (place-nowhere (start .args .index .now) (start .pre) (start .args .word .now) (found .find-place .result) (found .find-place .ensures) (λ h q. omega (arith, c .if1 .taken)))
+    sym (place-nowhere (start .args .index .now) (start .pre) (start .args .word .now) (found .find-place .result) (found .find-place .ensures)
+    (λ h q. omega (arith, c .if1 .taken)))
 
 -- the word at its place has been compared
 abbrev placed : tie.After-order-at → tie.After-find-place

@@ -13,13 +13,15 @@ find-word-requires c κs =
 returns : tie.Need-returns
 returns c =
     let a = c .before .before .before .before .before .before .args in
-    sym (lookup-refused (a .index .now) (a .word .now) (c .before .refusal .given .0 .0) (sym (c .before .before .before .check-index .ensures) ∙ c .before .refusal .given .1))
+    sym (lookup-refused (a .index .now) (a .word .now) (c .before .refusal .given .0 .0)
+    (sym (c .before .before .before .check-index .ensures) ∙ c .before .refusal .given .1))
 
 returns-2 : tie.Need-returns-2
 returns-2 c =
     let a = c .before .before .before .before .before .before .before .before .before .args in
     let good = sym (c .before .before .before .before .before .before .check-index .ensures) ∙ c .before .before .before .before .enum-told .given .1 in
-    sym (lookup-found (a .index .now) (a .word .now) (c .before .i .given .0 .0) good (sym (c .before .before .before .find-word .ensures) ∙ c .before .i .given .1))
+    sym (lookup-found (a .index .now) (a .word .now) (c .before .i .given .0 .0) good
+    (sym (c .before .before .before .find-word .ensures) ∙ c .before .i .given .1))
 
 returns-3 : tie.Need-returns-3
 returns-3 c =

@@ -8,7 +8,8 @@ use Rattle.directory.proofs.find.stands_before.Tie as tie
 use borrow.Author.Needs.{needs}
 
 said : (c : tie.After-order-at) →
-    before (wordOf (c .before .before .before .args .index .now) (c .before .before .before .args .i)) (c .before .before .before .args .word .now) ≡ ascends (c .order-at .result)
+    before (wordOf (c .before .before .before .args .index .now) (c .before .before .before .args .i)) (c .before .before .before .args .word .now)
+    ≡ ascends (c .order-at .result)
 said c = let a = c .before .before .before .args in before-ascends (wordOf (a .index .now) (a .i)) (a .word .now) ∙ ap ascends (sym (c .order-at .ensures))
 
 pub stands-before-spec : {M : Type 1} → statement M

@@ -13,7 +13,8 @@ returns c =
     let index = a .index .now in
     let r = c .before .before .sound-entry .result in
     let e = c .before .before .sound-entry .ensures .0 in
-    slice-part (sliceOf (a .index)) _ (r .«word_start») (r .«word_length») (wordStart index (a .i)) (wordLength index (a .i)) (omega arith) (e .word-start) (e .word-length)
+    slice-part (sliceOf (a .index)) _ (r .«word_start») (r .«word_length») (wordStart index (a .i)) (wordLength index (a .i)) (omega arith) (e .word-start)
+    (e .word-length)
 
 pub word-of-spec : {M : Type 1} → statement M
 word-of-spec =

@@ -13,12 +13,14 @@ probe-sound-requires c κs =
 returns : tie.Need-returns
 returns c =
     let a = c .before .before .before .before .before .args in
-    sym (probe-refused (a .index .now) (a .entry) (a .a) (a .b) (c .before .refusal .given .0 .0) (sym (c .before .before .before .entry-refusal .ensures) ∙ c .before .refusal .given .1))
+    sym (probe-refused (a .index .now) (a .entry) (a .a) (a .b) (c .before .refusal .given .0 .0)
+    (sym (c .before .before .before .entry-refusal .ensures) ∙ c .before .refusal .given .1))
 
 returns-2 : tie.Need-returns-2
 returns-2 c =
     let a = c .before .before .before .before .before .args in
-    c .probe-sound .ensures ∙ sym (probe-answered (a .index .now) (a .entry) (a .a) (a .b) (sym (c .before .before .before .entry-refusal .ensures) ∙ c .before .enum-told .given .1))
+    c .probe-sound .ensures ∙ sym (probe-answered (a .index .now) (a .entry) (a .a) (a .b)
+    (sym (c .before .before .before .entry-refusal .ensures) ∙ c .before .enum-told .given .1))
 
 pub probe-entry-spec : {M : Type 1} → statement M
 probe-entry-spec =

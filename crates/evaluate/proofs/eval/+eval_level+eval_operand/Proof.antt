@@ -11,8 +11,8 @@ use borrow.Author.Needs.{needs}
 use Rattle.window.specs.Tuning.{windowMost}
 use Rattle.window.specs.Window.{Holds}
 use Rattle.slots.specs.Slots.{slotHas, slotSatisfies}
-use Rattle.codes.proofs.ReadsLaws.{Level, level-start, level-step, level-end, operand-none, operand-word, operand-many, operand-deep, operand-part, operand-unclosed}
-use Rattle.evaluate.proofs.EvalLaws.{Here, code-here, operator-here, front-blank, front-back, evaluated-none, holds-word, holds-part, holds-pair}
+use Rattle.codes.proofs.ReadsLaws.{Here, code-here, operator-here, Level, level-start, level-step, level-end, operand-none, operand-word, operand-many, operand-deep, operand-part, operand-unclosed}
+use Rattle.evaluate.proofs.EvalLaws.{front-blank, front-back, evaluated-none, holds-word, holds-part, holds-pair}
 use Rattle.codes.specs.Code.{wordCode, openCode, closeCode, opCode, opOf}
 use Rattle.codes.proofs.CodeLaws.{operator-none}
 use borrow.Fn.Kinds.{In}
@@ -50,14 +50,24 @@ eval-operand-below t = and 5 eval-operand-kinds.ps (falls 5 eval-operand-kinds.p
 
 -- what the calls of each promise
 abbrev level-claims : ℕ → eval-level-lts.Claims
-level-claims t = (eval-operand-below t, eval-operand.Post, code-at.Asked, code-at.Learnt, is-operator.Asked, is-operator.Learnt, combine-into.Asked, combine-into.Learnt)
+level-claims t = (
+  eval-operand-below t,
+  eval-operand.Post,
+  code-at.Asked,
+  code-at.Learnt,
+  is-operator.Asked,
+  is-operator.Learnt,
+  combine-into.Asked,
+  combine-into.Learnt,
+)
 
 abbrev operand-claims : ℕ → eval-operand-lts.Claims
 operand-claims t = (code-at.Asked, code-at.Learnt, fill-slot.Asked, fill-slot.Learnt, eval-level-below t, eval-level.Post)
 
 abbrev eval-level-Inv-loop : eval-level-lts.InvT-loop
 eval-level-Inv-loop codes i k d index entries base hints₀ ws₀ at₀ slot₀ n hints ws at slot =
-    (i ≤ at) × (at ≤ length codes) × (length hints ≡ 32) × (length ws ≡ length ws₀) × Level codes d k i at slot (λ t. Holds (slotSatisfies (slotHas index entries) t k) base ws)
+    (i ≤ at) × (at ≤ length codes) × (length hints ≡ 32) × (length ws ≡ length ws₀)
+    × Level codes d k i at slot (λ t. Holds (slotSatisfies (slotHas index entries) t k) base ws)
 
 abbrev eval-level-μ-loop : eval-level-lts.MeasureT-loop
 eval-level-μ-loop codes i k d index entries base hints₀ ws₀ at₀ slot₀ n hints ws at slot = length codes - at
@@ -77,13 +87,14 @@ module _ (t : ℕ) where
 
   -- what is lent stays as long as it was
   lengths : (c : Loop) → (length (c .loop .hints) ≡ length (begun c .args .hints .now)) × (length (c .loop .ws) ≡ length (begun c .args .ws .now))
-  lengths c = (c .loop .inv .2 ∙ sym (begun c .pre .1 .lent .hints-long), c .loop .inv .3 ∙ first c .eval-operand .ensures .ws-long)
+  lengths c = (c .loop .inv .2 ∙ sym (begun c .pre .1 .lent .hints-long), c .loop .inv .3 ∙ first c .eval-operand .ensures .0 .ws-long)
 
   -- where the loop goes on an operator stands
   abbrev GoesOn : Type 0
   GoesOn = eval-level-lts.Else1 (level-claims t) (eval-level-at t) eval-level.Post eval-level-Inv-loop eval-level-μ-loop
 
-  operator : (c : GoesOn) → let l = c .before .before .before in Here (begun l .args .codes .now) (l .loop .at) (opCode (opOf (c .before .before .code-at .result)))
+  operator : (c : GoesOn) → let l = c .before .before .before in
+      Here (begun l .args .codes .now) (l .loop .at) (opCode (opOf (c .before .before .code-at .result)))
   operator c =
       let l = c .before .before .before in
       operator-here (begun l .args .codes .now) (l .loop .at) (c .before .before .code-at .ensures)
@@ -103,19 +114,19 @@ module _ (t : ℕ) where
   size c = length (first c .eval-operand .last .1 .1 .1 .1 .1 .1 .1 .1 .0)
 
   size-most : (c : Loop) → size c ≤ windowMost
-  size-most c = omega (arith, first c .eval-operand .ensures .ws-long, begun c .pre .1 .size)
+  size-most c = omega (arith, first c .eval-operand .ensures .0 .ws-long, begun c .pre .1 .size)
 
   right-long : (c : RightRead) → length (right c) ≡ size (loop c) - 0
-  right-long c = c .eval-operand2 .ensures .ws-long ∙ length-take-le (size (loop c) - 0) (replicate windowMost 0) (omega (arith, size-most (loop c)))
+  right-long c = c .eval-operand2 .ensures .0 .ws-long ∙ length-take-le (size (loop c) - 0) (replicate windowMost 0) (omega (arith, size-most (loop c)))
 
   level-loop-holds : eval-level-lts.Need-loop-holds (level-claims t) (eval-level-at t) eval-level.Post eval-level-Inv-loop eval-level-μ-loop
   level-loop-holds c =
       let start = c .before .before .before .before .before .before .before .before .before .before .before .before in
       let a = start .args in
       let r = c .before .before .before .before .eval-operand in
-      let e = r .ensures in
+      let e = r .ensures .1 in
       let started = level-start (a .codes .now) (a .d) (a .k) (a .i) (r .result .code) (r .result .slot) _ (e .reads) in
-      (e .ahead, e .inside, e .hints-long ∙ start .pre .1 .lent .hints-long, refl, started)
+      (e .ahead, e .inside, r .ensures .0 .hints-long ∙ start .pre .1 .lent .hints-long, refl, started)
 
   level-returns : eval-level-lts.Need-returns (level-claims t) (eval-level-at t) eval-level.Post eval-level-Inv-loop eval-level-μ-loop
   level-returns c =
@@ -123,16 +134,17 @@ module _ (t : ℕ) where
       let a = begun here .args in
       let l = here .loop in
       let code = c .before .before .code-at in
-      record {
-        ahead = l .inv .0;
-        inside = l .inv .1;
-        hints-long = lengths here .0;
-        ws-long = lengths here .1;
-        reads = level-end (a .codes .now) (a .d) (a .k) (a .i) (l .at) (l .slot) _ (l .inv .4)
-            (λ o h. operator-none (code .result) (sym (c .before .is-operator .ensures) ∙ not-true (c .before .is-operator .result) (c .if1 .taken)) o (code .ensures ∙ h));
-      }
+      let none = operator-none (code .result) (sym (c .before .is-operator .ensures) ∙ not-true (c .before .is-operator .result) (c .if1 .taken)) in (
+        record { hints-long = lengths here .0; ws-long = lengths here .1 },
+        record {
+          ahead = l .inv .0;
+          inside = l .inv .1;
+          reads = level-end (a .codes .now) (a .d) (a .k) (a .i) (l .at) (l .slot) _ (l .inv .4) (λ o h. none o (code .ensures ∙ h));
+        },
+      )
 
-  level-operand-requires-2 : eval-level-lts.Need-eval-operand-requires-2 (level-claims t) (eval-level-at t) eval-level.Post eval-level-Inv-loop eval-level-μ-loop
+  level-operand-requires-2 : eval-level-lts.Need-eval-operand-requires-2 (level-claims t)
+      (eval-level-at t) eval-level.Post eval-level-Inv-loop eval-level-μ-loop
   level-operand-requires-2 c κs =
       let looped = c .before .before .before .before .before in
       let start = begun looped in
@@ -149,16 +161,18 @@ module _ (t : ℕ) where
         },
       )
 
-  level-part-combine-into-end : eval-level-lts.Need-part-combine-into-end (level-claims t) (eval-level-at t) eval-level.Post eval-level-Inv-loop eval-level-μ-loop
+  level-part-combine-into-end : eval-level-lts.Need-part-combine-into-end (level-claims t)
+      (eval-level-at t) eval-level.Post eval-level-Inv-loop eval-level-μ-loop
   level-part-combine-into-end c =
       let read = c .before .before .before .before .before in
       let n = size (loop read) in
       let most = size-most (loop read) in
       let whole : length (right read ++ drop (n - 0) (replicate windowMost 0)) ≡ windowMost =
-      same-len-mid 0 (n - 0) (replicate windowMost 0) (right read) (read .eval-operand2 .ensures .ws-long) in
+      same-len-mid 0 (n - 0) (replicate windowMost 0) (right read) (read .eval-operand2 .ensures .0 .ws-long) in
       omega arith
 
-  level-combine-into-requires : eval-level-lts.Need-combine-into-requires (level-claims t) (eval-level-at t) eval-level.Post eval-level-Inv-loop eval-level-μ-loop
+  level-combine-into-requires : eval-level-lts.Need-combine-into-requires (level-claims t)
+      (eval-level-at t) eval-level.Post eval-level-Inv-loop eval-level-μ-loop
   level-combine-into-requires c κs =
       let read = c .before .before .before .before .before .before in
       let long = right-long read in
@@ -172,13 +186,13 @@ module _ (t : ℕ) where
       let l = loop read .loop in
       let o = opOf (read .before .before .before .before .before .code-at .result) in
       let r = read .eval-operand2 in
-      let f = r .ensures in
+      let f = r .ensures .1 in
       let long = right-long read in
       let both = rw (front-back (size (loop read) - 0) (right read) _ long) at (c .before .before .combine-into .ensures) in
       let w = l .inv .3 in (
         omega (arith, f .ahead, l .inv .0),
         f .inside,
-        f .hints-long ∙ l .inv .2,
+        r .ensures .0 .hints-long ∙ l .inv .2,
         both .long ∙ w,
         level-step (a .codes .now) (a .d) (a .k) (a .i) (l .at) (l .slot) (r .result .code) (r .result .slot) _ _ _ o
             (operator (read .before .before .before) .0) (l .inv .4) (f .reads)
@@ -215,7 +229,8 @@ module _ (t : ℕ) where
   abbrev opened : AtClose → AtOpen
   opened c = c .before .before .before .before .before .before .before .before .before .before
 
-  close-here : (c : AtClose) → Here (open-start (opened c) .args .codes .now) (c .before .before .before .before .before .before .eval-level .result .code) closeCode
+  close-here : (c : AtClose) → Here (open-start (opened c) .args .codes .now)
+      (c .before .before .before .before .before .before .eval-level .result .code) closeCode
   close-here c =
       code-here (open-start (opened c) .args .codes .now) (c .before .before .before .before .before .before .eval-level .result .code)
       (c .before .code-at2 .ensures) (c .if5 .left) (omega arith)
@@ -230,15 +245,15 @@ module _ (t : ℕ) where
   operand-returns c =
       let at = c .before .before .before .before .before .before .before .before in
       let a = word-start at .args in
-      let f = c .before .before .before .before .fill-slot .ensures in
-      record {
-        ahead = omega arith;
-        inside = omega (arith, word-here at .1);
-        hints-long = f .0;
-        ws-long = f .1 .long;
-        reads = λ n. operand-word (a .codes .now) n (a .d) (a .k) (a .i) (word-here at .0) _
-            (λ u. holds-word (slotHas (a .index .now) (a .entries .now)) (a .k) u (word-start at .pre .1 .blank) (f .1));
-      }
+      let f = c .before .before .before .before .fill-slot .ensures in (
+        record { hints-long = f .0; ws-long = f .1 .long },
+        record {
+          ahead = omega arith;
+          inside = omega (arith, word-here at .1);
+          reads = λ n. operand-word (a .codes .now) n (a .d) (a .k) (a .i) (word-here at .0) _
+              (λ u. holds-word (slotHas (a .index .now) (a .entries .now)) (a .k) u (word-start at .pre .1 .blank) (f .1));
+        },
+      )
 
   operand-returns-2 : eval-operand-lts.Need-returns-2 (operand-claims t) (eval-operand-at t) eval-operand.Post
   operand-returns-2 c =
@@ -260,7 +275,8 @@ module _ (t : ℕ) where
   operand-returns-4 c =
       let start = open-start (c .before) in
       let a = start .args in
-      evaluated-none (start .pre .1 .inside) (λ n. operand-deep (a .codes .now) n (a .d) (a .k) (a .i) (open-here (c .before) .0) (a .i) (a .k) _ (c .if4 .taken))
+      evaluated-none (start .pre .1 .inside)
+      (λ n. operand-deep (a .codes .now) n (a .d) (a .k) (a .i) (open-here (c .before) .0) (a .i) (a .k) _ (c .if4 .taken))
 
   operand-eval-level-requires : eval-operand-lts.Need-eval-level-requires (operand-claims t) (eval-operand-at t) eval-operand.Post
   operand-eval-level-requires c κs =
@@ -275,29 +291,31 @@ module _ (t : ℕ) where
       let at = c .before .before .before .before .before .before .before .before .before .before in
       let a = open-start at .args in
       let r = c .before .before .before .before .before .before .eval-level in
-      let e = r .ensures in
-      record {
-        ahead = omega arith;
-        inside = open-start at .pre .1 .inside;
-        hints-long = e .hints-long;
-        ws-long = e .ws-long;
-        reads = λ n. operand-unclosed (a .codes .now) n (a .d) (a .k) (a .i) (open-here at .0) (r .result .code) (r .result .slot) _ (e .reads) (a .i) (a .k) _
-            (λ h. c .if5 .taken (c .before .code-at2 .ensures ∙ h));
-      }
+      let e = r .ensures .1 in (
+        r .ensures .0,
+        record {
+          ahead = omega arith;
+          inside = open-start at .pre .1 .inside;
+          reads = λ n. operand-unclosed (a .codes .now) n (a .d) (a .k) (a .i) (open-here at .0) (r .result .code) (r .result .slot) _ (e .reads) (a .i)
+              (a .k) _
+              (λ h. c .if5 .taken (c .before .code-at2 .ensures ∙ h));
+        },
+      )
 
   operand-returns-6 : eval-operand-lts.Need-returns-6 (operand-claims t) (eval-operand-at t) eval-operand.Post
   operand-returns-6 c =
       let a = open-start (opened c) .args in
       let r = c .before .before .before .before .before .before .eval-level in
-      let e = r .ensures in
-      record {
-        ahead = omega (arith, e .ahead);
-        inside = omega (arith, close-here c .1);
-        hints-long = e .hints-long;
-        ws-long = e .ws-long;
-        reads = λ n. operand-part (a .codes .now) n (a .d) (a .k) (a .i) (open-here (opened c) .0) (r .result .code) (r .result .slot) _ (e .reads) _ (close-here c .0)
-            (λ u h. holds-part (slotHas (a .index .now) (a .entries .now)) (a .k) u h);
-      }
+      let e = r .ensures .1 in (
+        r .ensures .0,
+        record {
+          ahead = omega (arith, e .ahead);
+          inside = omega (arith, close-here c .1);
+          reads = λ n. operand-part (a .codes .now) n (a .d) (a .k) (a .i) (open-here (opened c) .0) (r .result .code) (r .result .slot) _ (e .reads) _
+              (close-here c .0)
+              (λ u h. holds-part (slotHas (a .index .now) (a .entries .now)) (a .k) u h);
+        },
+      )
 
 pub +eval-level+eval-operand-spec : {M : Type 1} → statement M
 +eval-level+eval-operand-spec =
@@ -311,7 +329,7 @@ pub +eval-level+eval-operand-spec : {M : Type 1} → statement M
     (λ c. omega (arith, size-most t (c .before .before .before .before))) (level-operand-requires-2 t) (λ c. omega arith)
     (λ c. omega arith) (level-part-combine-into-end t) (level-combine-into-requires t)
     (λ c. let read = c .before .before .before .before .before .before .before .before .before in
-    let e = read .eval-operand2 .ensures in omega (arith, operator t (read .before .before .before) .1, e .ahead, e .inside))
+    let e = read .eval-operand2 .ensures .1 in omega (arith, operator t (read .before .before .before) .1, e .ahead, e .inside))
     (level-loop-again t))
     λ t. eval-operand-lts.spec
     (operand-claims t) (eval-operand-at t) eval-operand.Post
@@ -323,8 +341,8 @@ pub +eval-level+eval-operand-spec : {M : Type 1} → statement M
     (operand-returns t) (operand-returns-2 t) (operand-returns-3 t) (operand-returns-4 t)
     (λ c. let b = open-start t (c .before) .good in omega (arith, open-here t (c .before) .1)) (λ c. search needs)
     (operand-eval-level-requires t) (λ c κs. search needs)
-    (λ c. c .before .before .before .before .before .before .eval-level .ensures .hints-long)
-    (λ c. c .before .before .before .before .before .before .eval-level .ensures .ws-long) (operand-returns-5 t)
+    (λ c. c .before .before .before .before .before .before .eval-level .ensures .0 .hints-long)
+    (λ c. c .before .before .before .before .before .before .eval-level .ensures .0 .ws-long) (operand-returns-5 t)
     (λ c. let b = open-start t (opened t c) .good in omega (arith, close-here t c .1))
-    (λ c. c .before .before .before .before .before .before .eval-level .ensures .hints-long)
-    (λ c. c .before .before .before .before .before .before .eval-level .ensures .ws-long) (operand-returns-6 t)
+    (λ c. c .before .before .before .before .before .before .eval-level .ensures .0 .hints-long)
+    (λ c. c .before .before .before .before .before .before .eval-level .ensures .0 .ws-long) (operand-returns-6 t)

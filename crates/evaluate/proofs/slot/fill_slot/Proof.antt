@@ -32,8 +32,11 @@ returns c =
     let filled = c .before .before .before .before .before .before in
     let found = regions filled in
     let a = begin (found .before .before) .args in
-    let has = slot-lists (a .index .now) (a .entries .now) (a .k) (omega (arith, found .before .if1 .taken, found .before .before .word-count .ensures .0)) in
-    (same-length c, added-agree _ (slotHas (a .index .now) (a .entries .now) (a .k)) _ _ _ (λ x. sym (has x)) (rw (regions-list (found .regions-of .ensures)) at (filled .fill-list .ensures)))
+    let has = slot-lists (a .index .now) (a .entries .now) (a .k) (omega (arith, found .before .if1 .taken, found .before .before .word-count .ensures .0)) in (
+      same-length c,
+      added-agree _ (slotHas (a .index .now) (a .entries .now) (a .k)) _ _ _ (λ x. sym (has x))
+          (rw (regions-list (found .regions-of .ensures)) at (filled .fill-list .ensures)),
+    )
 
 returns-2 : tie.Need-returns-2
 returns-2 c =

@@ -27,7 +27,8 @@ list-good-requires c κs =
     let start = c .before .before .before .before .before in
     let at = c .before .before .before .loop in
     let index = now (start .args .index) in
-    let room = list-room index (start .args .trailer) (at .k) (c .read-entry .result) (start .pre .0) (c .read-entry .ensures) (start .pre .1 (at .k) (omega arith)) in
+    let room = list-room index (start .args .trailer) (at .k) (c .read-entry .result) (start .pre .0) (c .read-entry .ensures)
+    (start .pre .1 (at .k) (omega arith)) in
     search needs
 
 returns : tie.Need-returns Inv-loop μ-loop

@@ -24,10 +24,13 @@ returns-4 : tie.Need-returns-4
 returns-4 c =
     let index = now (c .before .before .before .before .before .before .before .before .args .index) in
     let e : c .entry-place .result + 20 ≡ directoryStart index + entrySize (edition index) * wordCount index + 20 = omega arith in
-    ap (λ n. eqb n (length index)) e ∙ sym (ap not (trailer-else index (omega arith) (omega arith) (omega arith)) ∙ Bool·not-not (eqb (directoryStart index + entrySize (edition index) * wordCount index + 20) (length index)))
+    ap (λ n. eqb n (length index)) e
+    ∙ sym (ap not (trailer-else index (omega arith) (omega arith) (omega arith))
+    ∙ Bool·not-not (eqb (directoryStart index + entrySize (edition index) * wordCount index + 20) (length index)))
 
 pub trailer-good-spec : {M : Type 1} → statement M
 trailer-good-spec =
     tie.close
     (tie.spec
-    (λ c. sym (ap not (trailer-highest (now (c .before .before .before .args .index)) (omega arith)))) returns-2 returns-3 (λ c κs. search needs) (λ c. search needs) returns-4)
+    (λ c. sym (ap not (trailer-highest (now (c .before .before .before .args .index)) (omega arith)))) returns-2 returns-3 (λ c κs. search needs)
+    (λ c. search needs) returns-4)

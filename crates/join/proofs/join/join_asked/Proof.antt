@@ -45,7 +45,8 @@ join-asked-spec =
     tie.close
     (tie.spec
     (λ c κs. search needs)
-    (λ c κs. let start = c .before .before .before .before .before .before in (start .pre, λ w. omega (arith, whole start, fits (c .before)))) (λ c. search needs)
+    (λ c κs. let start = c .before .before .before .before .before .before in (start .pre, λ w. omega (arith, whole start, fits (c .before))))
+    (λ c. search needs)
     (λ c. let sweep = c .before .before in listed (fits (sweep .before .before)) (sweep .sweep .ensures))
     (λ c κs. (c .before .before .before .before .before .before .pre, λ w. true-false (sym w))) (λ c. search needs)
     (λ c. counted-refused (c .before .before .before .before .sweep2 .ensures) (c .if2 .taken)) sweep-requires-3 (λ c. search needs) returns-3)

@@ -37,5 +37,6 @@ sweep-spec =
     tie.close
     (tie.spec
     (λ c. search needs) sweep-scan-requires (λ c. search needs) sweep-active-requires (λ c. search needs)
-    sweep-twin-requires (λ c. search needs) sweep-probing-requires (λ c. search needs) (λ c. rw (c .before .before .before .before .enum-told .given .1) (c .before .before .sweep-scan .ensures)) (λ c. search needs)
+    sweep-twin-requires (λ c. search needs) sweep-probing-requires (λ c. search needs)
+    (λ c. rw (c .before .before .before .before .enum-told .given .1) (c .before .before .sweep-scan .ensures)) (λ c. search needs)
     returns-2 (λ c. search needs) returns-3 (λ c. search needs) returns-4)

@@ -20,13 +20,15 @@ returns-3 : tie.Need-returns-3
 returns-3 c =
     let past = c .before .before .before .before in
     let args = past .before .before .before .before .args in
-    sym (entries-bad (now (args .index)) (now (args .entries)) _ (past .before .if1 .left) (past .if2 .left) (sym (c .before .before .before .first-bad-number .ensures) ∙ c .before .i .given .1))
+    sym (entries-bad (now (args .index)) (now (args .entries)) _ (past .before .if1 .left) (past .if2 .left)
+    (sym (c .before .before .before .first-bad-number .ensures) ∙ c .before .i .given .1))
 
 returns-4 : tie.Need-returns-4
 returns-4 c =
     let past = c .before .before .before in
     let args = past .before .before .before .before .args in
-    sym (entries-good (now (args .index)) (now (args .entries)) (past .before .if1 .left) (past .if2 .left) (sym (c .before .before .first-bad-number .ensures) ∙ c .enum-told .given .1))
+    sym (entries-good (now (args .index)) (now (args .entries)) (past .before .if1 .left) (past .if2 .left)
+    (sym (c .before .before .first-bad-number .ensures) ∙ c .enum-told .given .1))
 
 pub check-entries-spec : {M : Type 1} → statement M
 check-entries-spec =

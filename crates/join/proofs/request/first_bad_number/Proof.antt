@@ -48,11 +48,13 @@ returns-2 : tie.Need-returns-2 Inv-loop μ-loop
 returns-2 c =
     let at = c .before in
     let args = at .before .before .before .before .args in
-    sym (at .loop .inv .1 ∙ first-end (badEntryNumber (now (args .index)) (now (args .entries))) (at .loop .i) (length (now (args .entries))) (c .loop-test .left))
+    sym (at .loop .inv .1 ∙ first-end (badEntryNumber (now (args .index)) (now (args .entries))) (at .loop .i) (length (now (args .entries)))
+    (c .loop-test .left))
 
 pub first-bad-number-spec : {M : Type 1} → statement M
 first-bad-number-spec =
     tie.close
     (tie.spec
-    Inv-loop μ-loop (λ c κs. search needs) loop-holds (λ c. search needs) (λ c. search needs) (λ c. omega (arith, c .shared-slice-known3 .given (c .before .before .loop .i))) returns
+    Inv-loop μ-loop (λ c κs. search needs) loop-holds (λ c. search needs) (λ c. search needs)
+    (λ c. omega (arith, c .shared-slice-known3 .given (c .before .before .loop .i))) returns
     (λ c. search needs) (λ c. search needs) loop-again returns-2)

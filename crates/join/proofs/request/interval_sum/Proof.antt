@@ -46,5 +46,7 @@ pub interval-sum-spec : {M : Type 1} → statement M
 interval-sum-spec =
     tie.close
     (tie.spec
-    Inv-loop μ-loop (λ c. (omega arith, omega arith, omega arith)) (λ c. search needs) (λ c. omega arith) (λ c. omega (arith, c .shared-slice-known3 .given (c .before .before .loop .j)))
-    interval-count-requires (λ c. omega (arith, c .before .before .before .before .before .before .pre .few)) (λ c. omega arith) (λ c. omega arith) loop-again returns)
+    Inv-loop μ-loop (λ c. (omega arith, omega arith, omega arith)) (λ c. search needs) (λ c. omega arith)
+    (λ c. omega (arith, c .shared-slice-known3 .given (c .before .before .loop .j)))
+    interval-count-requires (λ c. omega (arith, c .before .before .before .before .before .before .pre .few)) (λ c. omega arith)
+    (λ c. omega arith) loop-again returns)

@@ -32,7 +32,8 @@ returns c =
     let list = c .before .before .before .before .before .before .before .before .before .before .before .before .before .before .write-list in
     let bytes = c .before .before .before .before .before .before .before .before .before .before .write-bytes in
     let long = kept-length cells in
-    let size : c .before .list-size .result ≡ length (keptBytes cells) = omega (arith, kept .ensures .singles, kept .ensures .pairs, c .before .list-size .ensures) in
+    let size : c .before .list-size .result ≡ length (keptBytes cells) =
+    omega (arith, kept .ensures .singles, kept .ensures .pairs, c .before .list-size .ensures) in
     let with-list = putMid (at .list) (length out - at .list) out (list .last .0) in
     let e = tail-sets (at .list) out (keptBytes cells) (omega (arith, room .list, room .bytes, room .entry)) (list .ensures) in
     let same = tail-length (at .list) out (list .last .0) (keptBytes cells) e in

@@ -43,7 +43,8 @@ rest c = intervalsOf (drop (c .next-run .result .next) (now (c .before .before .
 abbrev room : tie.After-next-run Inv-loop μ-loop → ℕ
 room c = length (now (c .before .before .before .before .before .before .before .args .out))
 
-here : (c : tie.After-next-run Inv-loop μ-loop) → PlacedFor (c .before .before .loop .at) (c .next-run .result .lower ∷ c .next-run .result .upper ∷ rest c) (room c)
+here : (c : tie.After-next-run Inv-loop μ-loop) →
+    PlacedFor (c .before .before .loop .at) (c .next-run .result .lower ∷ c .next-run .result .upper ∷ rest c) (room c)
 here c = rw (c .next-run .ensures .cells) at (c .before .before .loop .inv .2)
 
 put-interval-requires : tie.Need-put-interval-requires Inv-loop μ-loop

@@ -1,4 +1,5 @@
--- The invariant: the runs are those begun and one for each break to come, the pairs those that went on and those that will. Rests on one number (RunLaws, WriteLaws).
+-- The invariant: the runs are those begun and one for each break to come, the pairs those that went on and those that will.
+-- Rests on one number (RunLaws, WriteLaws).
 use mathlib.Core.Path.{_≡_, sym, _∙_}
 use Prim.Native.Nat.{_≤_, _<_, _-_, _+_}
 use native.Mathlib.Omega.{arith}
@@ -12,7 +13,7 @@ use Rattle.list.proofs.StretchLaws.{cells-proper-from}
 use Rattle.convert.specs.Convert.{intervalsOf}
 use Rattle.convert.proofs.NumberLaws.{good-number-small}
 use Rattle.convert.proofs.RunLaws.{runs, breaks, runs-none, runs-cells, runs-count, breaks-at, breaks-end}
-use Rattle.layout.specs.Layout.{lowersIn}
+use Rattle.layout.specs.Layout.{cellLowers}
 use Rattle.layout.proofs.KeptBytesLaws.{cells-count}
 use Rattle.layout.proofs.WriteLaws.{pairsFrom, pairs-at, pairs-end, runs-pairs, none-kept}
 use Rattle.layout.proofs.size.count_kept.Statement.{statement}
@@ -26,7 +27,7 @@ Inv-loop numbers upper₀ begins₀ n₀ pairs₀ i₀ upper begins n pairs i =
     × (n + pairs ≤ i)
     × (pairs + begins ≤ n)
     × (intervals (runs numbers) ≡ n + breaks upper (drop i numbers))
-    × (length (lowersIn (runs numbers)) ≡ pairs + pairsFrom begins upper (drop i numbers))
+    × (length (cellLowers (runs numbers)) ≡ pairs + pairsFrom begins upper (drop i numbers))
 
 abbrev μ-loop : tie.MeasureT-loop
 μ-loop numbers upper₀ begins₀ n₀ pairs₀ i₀ upper begins n pairs i = length numbers - i
@@ -42,8 +43,15 @@ loop-holds : tie.Need-loop-holds Inv-loop μ-loop
 loop-holds c =
     let start = c .before .before .before in
     let xs = now (start .args .numbers) in
-    let some : 0 < length xs = omega arith in
-    (omega arith, good-number-small recordMax xs (start .pre) 0 some, omega arith, omega arith, omega arith, runs-count xs some, omega (arith, runs-pairs xs some))
+    let some : 0 < length xs = omega arith in (
+      omega arith,
+      good-number-small recordMax xs (start .pre) 0 some,
+      omega arith,
+      omega arith,
+      omega arith,
+      runs-count xs some,
+      omega (arith, runs-pairs xs some),
+    )
 
 loop-again : tie.Need-loop-again Inv-loop μ-loop
 loop-again c =

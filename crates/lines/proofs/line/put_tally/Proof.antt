@@ -11,7 +11,8 @@ use Rattle.lines.proofs.line.put_tally.Statement.{statement}
 use Rattle.lines.proofs.line.put_tally.Tie as tie
 
 room : (s : tie.Start) → let a = s .args in let t = a .tally in
-    a .at + length (field (t .intervals)) + length (field (t .records)) + length (intervalsText (take (2 * t .intervals) (a .cells .now))) ≤ length (a .out .now)
+    a .at + length (field (t .intervals)) + length (field (t .records)) + length (intervalsText (take (2 * t .intervals) (a .cells .now)))
+    ≤ length (a .out .now)
 room s = omega (arith, simp length-append at (s .pre .1))
 
 -- once the intervals are told

@@ -30,8 +30,11 @@ loop-again c =
     let p = c .before .before .put-interval .ensures in
     let turn = c .before .before .before .before .before .before .before in
     let cells = turn .before .before .before .args .cells .now in
-    let i = turn .loop .i in
-    (omega arith, puts-length p ∙ turn .loop .inv .1, put-next (intervalsText (drop (i + 2) cells)) (turn .loop .inv .2) (intervals-next cells i (omega arith)) p)
+    let i = turn .loop .i in (
+      omega arith,
+      puts-length p ∙ turn .loop .inv .1,
+      put-next (intervalsText (drop (i + 2) cells)) (turn .loop .inv .2) (intervals-next cells i (omega arith)) p,
+    )
 
 returns : tie.Need-returns Inv-loop μ-loop
 returns c =
@@ -42,6 +45,7 @@ pub put-intervals-spec : {M : Type 1} → statement M
 put-intervals-spec =
     tie.close
     (tie.spec
-    Inv-loop μ-loop (λ c. (omega arith, refl, record { end = refl; bytes = refl })) (λ c. search needs) (λ c. search needs) (λ c. search needs) (λ c. search needs)
+    Inv-loop μ-loop (λ c. (omega arith, refl, record { end = refl; bytes = refl })) (λ c. search needs) (λ c. search needs) (λ c. search needs)
+    (λ c. search needs)
     (λ c. search needs) (λ c. search needs) put-interval-requires (λ c. search needs) (λ c. search needs) loop-again (λ c. c .before .loop .inv .1)
     returns)

@@ -60,13 +60,15 @@ returns : tie.Need-returns Inv-loop μ-loop
 returns c =
     let r = c .before in
     let l = r .before .before .before .before .loop in
-    sym (l .inv .5 ∙ kept-pair-short (begin r .args .n) (S r) (L r) (U r) (l .least) (l .p .0) (l .q .0) (long r) (l .inv .3) (here r) (omega (arith, r .before .number-at .ensures, r .number-at2 .ensures, c .if2 .taken)))
+    sym (l .inv .5 ∙ kept-pair-short (begin r .args .n) (S r) (L r) (U r) (l .least) (l .p .0) (l .q .0) (long r) (l .inv .3) (here r)
+    (omega (arith, r .before .number-at .ensures, r .number-at2 .ensures, c .if2 .taken)))
 
 returns-2 : tie.Need-returns-2 Inv-loop μ-loop
 returns-2 c =
     let r = c .before .before in
     let l = r .before .before .before .before .loop in
-    sym (l .inv .5 ∙ kept-pair-over (begin r .args .n) (S r) (L r) (U r) (l .least) (l .p .0) (l .q .0) (long r) (l .inv .3) (here r) (omega (arith, r .number-at2 .ensures, c .if3 .taken)))
+    sym (l .inv .5 ∙ kept-pair-over (begin r .args .n) (S r) (L r) (U r) (l .least) (l .p .0) (l .q .0) (long r) (l .inv .3) (here r)
+    (omega (arith, r .number-at2 .ensures, c .if3 .taken)))
 
 returns-3 : tie.Need-returns-3 Inv-loop μ-loop
 returns-3 c =
@@ -75,7 +77,8 @@ returns-3 c =
     sym
     (l .inv .5
     ∙ turn-near (begin r .args .n) (S r) (L r) (U r) (begin r .pre .1) (long r) (l .least) (l .p .0) (l .q .0) (l .inv .3)
-    _ _ _ (here r) (r .before .number-at .ensures) (r .number-at2 .ensures) (c .before .before .before .before .if2 .left) (c .before .before .before .if3 .left) (c .before .before .pass-singles .ensures) (c .if4 .taken))
+    _ _ _ (here r) (r .before .number-at .ensures) (r .number-at2 .ensures) (c .before .before .before .before .if2 .left)
+    (c .before .before .before .if3 .left) (c .before .before .pass-singles .ensures) (c .if4 .taken))
 
 loop-again : tie.Need-loop-again Inv-loop μ-loop
 loop-again c =
@@ -84,7 +87,8 @@ loop-again c =
     let l = r .before .before .before .before .loop in
     let t =
     turn-on (begin r .args .n) (S r) (L r) (U r) (begin r .pre .1) (long r) (l .least) (l .p .0) (l .q .0) (l .inv .3)
-    _ _ _ (here r) (r .before .number-at .ensures) (r .number-at2 .ensures) (p .before .before .if2 .left) (p .before .if3 .left) (p .pass-singles .ensures) (c .before .before .if4 .left) in
+    _ _ _ (here r) (r .before .number-at .ensures) (r .number-at2 .ensures) (p .before .before .if2 .left) (p .before .if3 .left) (p .pass-singles .ensures)
+    (c .before .before .if4 .left) in
     let test = r .before .before .if1 .taken in
     (l .inv .0, l .inv .1, l .inv .2, t .0, omega arith, l .inv .5 ∙ t .1)
 

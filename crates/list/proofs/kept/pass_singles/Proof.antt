@@ -55,7 +55,8 @@ loop-again c =
     let r = c .before .before .before in
     let l = turn r .loop in
     let e = r .number-at .ensures in
-    let on = passed-on (bound r) (l .least) (S (turn r)) (l .p .0) (here r) (omega (arith, c .before .before .if2 .left)) (omega (arith, c .before .if3 .left)) in
+    let on = passed-on (bound r) (l .least) (S (turn r)) (l .p .0) (here r) (omega (arith, c .before .before .if2 .left))
+    (omega (arith, c .before .if3 .left)) in
     (refl, l .inv .1 ∙ on ∙ ap (λ (v : ℕ). passed (bound r) (v + 2) (l .p .0 + 1) (drop (l .p .0 + 1) (S (turn r)))) (sym e))
 
 returns-3 : tie.Need-returns-3 Inv-loop μ-loop

@@ -9,4 +9,6 @@ pub put-interval-spec : {M : Type 1} → statement M
 put-interval-spec =
     tie.close
     (tie.spec
-    (λ c. omega (arith, c .before .pre (c .if1 .taken))) (λ c. omega (arith, c .before .pre (c .if1 .taken))) (λ c. omega (arith, c .before .pre (c .if1 .taken))) (λ c. omega (arith, c .before .pre (c .if1 .taken))) (λ c. simp length-set (omega (arith, c .before .pre (c .if1 .taken)))) (λ c. search needs) (λ c. rw (c .if1 .taken)) (λ c. search needs))
+    (λ c. omega (arith, c .before .pre (c .if1 .taken))) (λ c. omega (arith, c .before .pre (c .if1 .taken)))
+    (λ c. omega (arith, c .before .pre (c .if1 .taken))) (λ c. omega (arith, c .before .pre (c .if1 .taken)))
+    (λ c. simp length-set (omega (arith, c .before .pre (c .if1 .taken)))) (λ c. search needs) (λ c. rw (c .if1 .taken)) (λ c. search needs))

@@ -22,7 +22,8 @@ loop-again c =
     let at = c .before .before .before in
     let l = at .loop in
     let start = at .before .before in
-    let g = region-over (now (start .args .region)) (start .args .x) (l .lo + (l .hi - l .lo) / 2) _ (start .pre .0) (omega arith) (c .before .number-at .ensures) (c .if1 .taken) in
+    let g = region-over (now (start .args .region)) (start .args .x) (l .lo + (l .hi - l .lo) / 2) _ (start .pre .0) (omega arith)
+    (c .before .number-at .ensures) (c .if1 .taken) in
     (omega arith, omega arith, omega arith)
 
 loop-again-2 : tie.Need-loop-again-2 Inv-loop μ-loop
@@ -30,7 +31,8 @@ loop-again-2 c =
     let at = c .before .before .before in
     let l = at .loop in
     let start = at .before .before in
-    let g = region-under (now (start .args .region)) (start .args .x) (l .lo + (l .hi - l .lo) / 2) _ (start .pre .0) (omega arith) (c .before .number-at .ensures) (c .if1 .left) in
+    let g = region-under (now (start .args .region)) (start .args .x) (l .lo + (l .hi - l .lo) / 2) _ (start .pre .0) (omega arith)
+    (c .before .number-at .ensures) (c .if1 .left) in
     (omega arith, g, omega arith)
 
 pub halve-spec : {M : Type 1} → statement M

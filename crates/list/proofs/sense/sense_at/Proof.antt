@@ -39,7 +39,8 @@ pair-place s = ap (λ (w : Place). w .q .0) (s .pre .1 .0)
 returns : tie.Need-returns
 returns c =
     let s = c .before .before .before .before .before .before .before in
-    let f = number-found (S s) (countBelow (s .args .x) (S s)) (s .args .x) _ (c .before .number-or-end .ensures ∙ ap (λ (i : ℕ). numberOrEnd (S s) i) (single-place s)) (c .if1 .taken) (s .pre .1 .1) in
+    let f = number-found (S s) (countBelow (s .args .x) (S s)) (s .args .x) _
+    (c .before .number-or-end .ensures ∙ ap (λ (i : ℕ). numberOrEnd (S s) i) (single-place s)) (c .if1 .taken) (s .pre .1 .1) in
     sense-single (S s) (L s) (U s) recordMax (s .args .x) (facts s) (omega arith) (f .0) (f .1)
 
 abbrev begin : tie.Then2 → tie.Start
@@ -47,10 +48,12 @@ begin c = c .before .before .before .before .before .before .before .before .bef
 
 -- the pair that is next has begun
 begun : (c : tie.Then2) →
-    (countBelow (begin c .args .x) (U (begin c)) < length (L (begin c))) × (getD (L (begin c)) (countBelow (begin c .args .x) (U (begin c))) 0 ≤ begin c .args .x)
+    (countBelow (begin c .args .x) (U (begin c)) < length (L (begin c)))
+    × (getD (L (begin c)) (countBelow (begin c .args .x) (U (begin c))) 0 ≤ begin c .args .x)
 begun c =
     let s = begin c in
-    number-found (L s) (countBelow (s .args .x) (U s)) (s .args .x) _ (c .before .number-or-end2 .ensures ∙ ap (λ (i : ℕ). numberOrEnd (L s) i) (pair-place s)) (c .if2 .taken) (s .pre .1 .1)
+    number-found (L s) (countBelow (s .args .x) (U s)) (s .args .x) _ (c .before .number-or-end2 .ensures ∙ ap (λ (i : ℕ). numberOrEnd (L s) i) (pair-place s))
+    (c .if2 .taken) (s .pre .1 .1)
 
 number-at-requires : tie.Need-number-at-requires
 number-at-requires c κs =

@@ -10,5 +10,7 @@ lower-key-spec =
     tie.close
     (tie.spec
     (λ c κs. search needs)
-    (λ c. let asked = c .before .before .before .pre in omega (arith, bounds-high (asked .0) (asked .1 .0), c .before .next-interval .ensures .0)) (λ c. search needs)
-    (λ c. let asked = c .before .before .before .pre in omega (arith, bounds-high (asked .0) (asked .1 .0), c .before .next-interval .ensures .0)) (λ c. search needs))
+    (λ c. let asked = c .before .before .before .pre in omega (arith, bounds-high (asked .0) (asked .1 .0), c .before .next-interval .ensures .0))
+    (λ c. search needs)
+    (λ c. let asked = c .before .before .before .pre in omega (arith, bounds-high (asked .0) (asked .1 .0), c .before .next-interval .ensures .0))
+    (λ c. search needs))

@@ -12,7 +12,8 @@ high : (c : tie.After-next-interval) → c .next-interval .result .upper ≤ rec
 high c = let asked = c .before .before .before .pre in omega (arith, bounds-high (asked .0) (asked .1 .0), c .next-interval .ensures .1)
 
 returns : tie.Need-returns
-returns c = let upper = c .before .before .before .before .before .next-interval .ensures .1 in refilled-by (omega arith) (c .before .before .replace-least .ensures)
+returns c = let upper = c .before .before .before .before .before .next-interval .ensures .1 in
+    refilled-by (omega arith) (c .before .before .replace-least .ensures)
 
 pub to-upper-spec : {M : Type 1} → statement M
 to-upper-spec =

@@ -30,7 +30,9 @@ returns c =
     let a = start .args in
     let is = start .pre .1 in
     listing-answers fromLeft (a .index .now) (a .question .now) (a .out .now) _ _ (is .tree) (is .words) (is .is)
-    (c .before .before .put-answer .ensures (is .tree) (compiled-prepared (c .before .before .before .before .before .before .before .before .before .compile .ensures) (start .pre .0) (is .tree) (is .words) (is .is)))
+    (c .before .before .put-answer .ensures (is .tree)
+    (compiled-prepared (c .before .before .before .before .before .before .before .before .before .compile .ensures) (start .pre .0) (is .tree) (is .words)
+    (is .is)))
 
 pub answer-accepted-spec : {M : Type 1} → statement M
 answer-accepted-spec =

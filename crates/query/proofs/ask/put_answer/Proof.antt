@@ -28,8 +28,13 @@ sweep-question-requires c κs =
     let even = satisfying-even (a .index .now) (is .tree) in
     let sum = c .before .before .slots-sum .ensures in
     let enough = c .before .if1 .taken in
-    let bound = is .prepared .bound in
-    (asked here .pre .0, (limit here, record { tree = is .tree; reads = is .prepared .reads; room = λ w. omega (arith, prepared-length (is .prepared) (limit here)) }))
+    let bound = is .prepared .bound in (
+      asked here .pre .0,
+      (
+        limit here,
+        record { tree = is .tree; reads = is .prepared .reads; room = λ w. omega (arith, prepared-length (is .prepared) (limit here)) },
+      ),
+    )
 
 returns : tie.Need-returns
 returns c t prepared =
@@ -53,13 +58,19 @@ sweep-question-requires-3 c κs =
     let here = c .before .before .before .before .before .before .before .before in
     let is = asked here .pre .1 in
     let counted = prepared-swept (is .prepared) (limit here) (c .before .before .before .before .sweep-question2 .ensures (is .tree) (is .prepared .reads)) in
-    let fits = counted-room counted (satisfying-even (asked here .args .index .now) (is .tree)) (c .before .if2 .left) in
-    (asked here .pre .0, (limit here, record { tree = is .tree; reads = is .prepared .reads; room = λ w. omega (arith, prepared-length (is .prepared) (limit here), fits) }))
+    let fits = counted-room counted (satisfying-even (asked here .args .index .now) (is .tree)) (c .before .if2 .left) in (
+      asked here .pre .0,
+      (
+        limit here,
+        record { tree = is .tree; reads = is .prepared .reads; room = λ w. omega (arith, prepared-length (is .prepared) (limit here), fits) },
+      ),
+    )
 
 returns-3 : tie.Need-returns-3
 returns-3 c t prepared =
     let here = c .before .before .before .before .before .before .before .before .before .before .before in
-    counted-listed (prepared-swept prepared (limit here) (c .before .before .before .before .before .before .before .sweep-question2 .ensures t (prepared .reads)))
+    counted-listed (prepared-swept prepared (limit here)
+    (c .before .before .before .before .before .before .before .sweep-question2 .ensures t (prepared .reads)))
     (c .before .before .before .before .if2 .left) (prepared-swept prepared (limit here) (c .before .before .sweep-question3 .ensures t (prepared .reads)))
 
 pub put-answer-spec : {M : Type 1} → statement M

@@ -5,7 +5,7 @@ use native.Mathlib.Omega.{arith}
 use borrow.Author.Needs.{needs}
 use Rattle.slots.specs.Slots.{slotHas}
 use Rattle.query.specs.Drive.{testOf, Stands}
-use Rattle.evaluate.proofs.KeptSenses.{sensed-later}
+use Rattle.senses.proofs.KeptSenses.{sensed-later}
 use Rattle.query.proofs.TestLaws.{steady-constant, jump-room, part-width}
 use Rattle.query.proofs.drive.step.Statement.{statement}
 use Rattle.query.proofs.drive.step.Tie as tie
@@ -17,7 +17,8 @@ stood : (c : tie.After-look-at) → Stands (asked c .args .n) (asked c .args .at
 stood c = asked c .pre .1 .1 .1 .0
 
 -- behind a window, where the driver stood before it
-window-stood : (c : tie.After-take-window) → let a = asked (c .before .before .before .before .before .before .before .before .before .before) .args in Stands (a .n) (a .at)
+window-stood : (c : tie.After-take-window) → let a = asked (c .before .before .before .before .before .before .before .before .before .before) .args in
+    Stands (a .n) (a .at)
 window-stood c = stood (c .before .before .before .before .before .before .before .before .before .before)
 
 look-at-requires : tie.Need-look-at-requires
@@ -89,7 +90,7 @@ take-window-requires c κs =
     let width = part-width (a .at .width) (a .ws .now) (omega (arith, asked here .pre .1 .0)) in (
       record { sound = lent .sound; entries-long = lent .entries-long; hints-long = here .look-at .ensures .0 ∙ lent .hints-long },
       (
-        record { some = omega arith; most = omega arith; begun = omega arith; near = omega arith; few = omega arith; counted = omega arith },
+        record { wide = width; some = stands .some; most = stands .most; begun = omega arith; near = omega arith; few = omega arith; counted = omega arith },
         asked here .pre .1 .1 .1 .1,
       ),
     )
@@ -106,7 +107,6 @@ returns-2 c =
     let stands = stood here in
     let look = here .look-at .ensures in
     let next = c .before .smaller2 .ensures in
-    let width = part-width (a .at .width) (a .ws .now) (omega (arith, asked here .pre .1 .0)) in
     let sensed = sensed-later (slotHas (a .index .now) (a .entries .now)) _ (a .at .x) (look .1 .1 .0) (c .before .smaller2 .result) (omega arith) in (
       record { hints-long = same-length-4 c; ws-long = search needs },
       (
@@ -122,7 +122,7 @@ returns-2 c =
                     far = 64 * a .at .width;
                     some = omega arith;
                     to = next;
-                    step = rw width at (c .before .before .before .before .before .before .before .before .take-window .ensures .1 t o);
+                    step = c .before .before .before .before .before .before .before .before .take-window .ensures .1 t o;
                   },
             ),
           ),
@@ -138,7 +138,9 @@ step-spec =
     (λ c κs. search needs) (λ c. let stands = stood (c .before .before .before .before .before) in omega arith)
     take-jump-requires (λ c. search needs) (λ c. search needs) (λ c. search needs) returns (λ c. search needs)
     (λ c. search needs) part-take-window-end take-window-requires
-    (λ c. let stands = window-stood (c .before .before .before .before .before .before) in omega arith) (λ c. let stands = window-stood (c .before .before .before .before .before .before) in omega arith)
-    (λ c. let stands = window-stood (c .before .before .before .before .before .before) in omega arith) (λ c. let stands = window-stood (c .before .before .before .before .before .before) in omega arith)
+    (λ c. let stands = window-stood (c .before .before .before .before .before .before) in omega arith)
+    (λ c. let stands = window-stood (c .before .before .before .before .before .before) in omega arith)
+    (λ c. let stands = window-stood (c .before .before .before .before .before .before) in omega arith)
+    (λ c. let stands = window-stood (c .before .before .before .before .before .before) in omega arith)
     (λ c κs. search needs) (λ c κs. search needs) same-length-4 (λ c. search needs) (λ c. search needs) (λ c. search needs)
     returns-2)

@@ -10,7 +10,7 @@ use Rattle.question.specs.Grammar.{Tree}
 use Rattle.window.specs.Flips.{odd}
 use borrow.Author.Needs.{needs}
 use Rattle.slots.specs.Slots.{slotHas}
-use Rattle.evaluate.specs.Senses.{Sensed}
+use Rattle.senses.specs.Senses.{Sensed}
 use Rattle.window.specs.Tuning.{windowMost}
 use Rattle.query.specs.Drive.{OfEach, testOf, Fits, Stands}
 use Rattle.window.proofs.StepLaws.{step-room, swept-step, close-room, swept-close}
@@ -52,8 +52,15 @@ loop-holds : tie.Need-loop-holds Inv-loop μ-loop
 loop-holds c =
     let start = c .before .before .before .before .before .before .before in
     let a = start .args in
-    let slotted = start .pre .1 .1 .1 .0 in
-    (start .pre .0 .hints-long, start .pre .1 .0, omega arith, omega arith, slotted .long, slotted .sensed, λ t o. swept-start (testOf (a .index .now) (a .entries .now) t) (a .n) (a .writing) (a .out .now))
+    let slotted = start .pre .1 .1 .1 .0 in (
+      start .pre .0 .hints-long,
+      start .pre .1 .0,
+      omega arith,
+      omega arith,
+      slotted .long,
+      slotted .sensed,
+      λ t o. swept-start (testOf (a .index .now) (a .entries .now) t) (a .n) (a .writing) (a .out .now),
+    )
 
 stands : (c : In-loop) → c .loop .at .x ≤ asked c .args .n → Stands (asked c .args .n) (c .loop .at)
 stands c more =

@@ -2,7 +2,7 @@
 use mathlib.Core.Path.{refl}
 use borrow.Author.Needs.{needs}
 use Rattle.slots.specs.Slots.{slotHas}
-use Rattle.evaluate.proofs.KeptSenses.{sensed-none}
+use Rattle.senses.proofs.KeptSenses.{sensed-none}
 use Rattle.query.proofs.drive.sweep_question.Statement.{statement}
 use Rattle.query.proofs.drive.sweep_question.Tie as tie
 

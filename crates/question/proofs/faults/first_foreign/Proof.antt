@@ -23,13 +23,17 @@ returns : tie.Need-returns Inv-loop μ-loop
 returns c =
     let s = c .before .before .before .before .before .before .args .s .now in
     let at = c .before .before .before .before .loop in
-    sym (at .inv .1 ∙ first-hit (foreignAt s) (at .i) (length s) (c .before .before .before .loop-test .taken) (sym (c .before .is-foreign .ensures) ∙ c .if1 .taken))
+    sym (at .inv .1 ∙ first-hit (foreignAt s) (at .i) (length s) (c .before .before .before .loop-test .taken)
+    (sym (c .before .is-foreign .ensures) ∙ c .if1 .taken))
 
 loop-again : tie.Need-loop-again Inv-loop μ-loop
 loop-again c =
     let s = c .before .before .before .before .before .before .args .s .now in
-    let at = c .before .before .before .before .loop in
-    (omega arith, at .inv .1 ∙ first-miss (foreignAt s) (at .i) (length s) (c .before .before .before .loop-test .taken) (sym (c .before .is-foreign .ensures) ∙ c .if1 .left))
+    let at = c .before .before .before .before .loop in (
+      omega arith,
+      at .inv .1 ∙ first-miss (foreignAt s) (at .i) (length s) (c .before .before .before .loop-test .taken)
+          (sym (c .before .is-foreign .ensures) ∙ c .if1 .left),
+    )
 
 returns-2 : tie.Need-returns-2 Inv-loop μ-loop
 returns-2 c =

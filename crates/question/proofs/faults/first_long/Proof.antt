@@ -23,17 +23,22 @@ loop-holds c = (search needs, first-start (longAt (c .before .args .s .now)) (le
 returns : tie.Need-returns Inv-loop μ-loop
 returns c =
     let at = c .before .before .before .loop in
-    sym (at .inv .1 ∙ long-here (c .before .before .before .before .before .args .s .now) (at .i) (c .before .run-end .result) (c .before .run-end .ensures .0) (c .if1 .taken) (c .before .before .loop-test .taken))
+    sym (at .inv .1 ∙ long-here (c .before .before .before .before .before .args .s .now) (at .i) (c .before .run-end .result) (c .before .run-end .ensures .0)
+    (c .if1 .taken) (c .before .before .loop-test .taken))
 
 returns-2 : tie.Need-returns-2 Inv-loop μ-loop
 returns-2 c =
     let at = c .before .before .before .before .loop in
-    sym (at .inv .1 ∙ long-none (c .before .before .before .before .before .before .args .s .now) (at .i) (c .before .before .run-end .result) (c .before .before .run-end .ensures .0) (c .before .if1 .left) (omega arith))
+    sym (at .inv .1 ∙ long-none (c .before .before .before .before .before .before .args .s .now) (at .i) (c .before .before .run-end .result)
+    (c .before .before .run-end .ensures .0) (c .before .if1 .left) (omega arith))
 
 loop-again : tie.Need-loop-again Inv-loop μ-loop
 loop-again c =
-    let at = c .before .before .before .before .loop in
-    (omega arith, at .inv .1 ∙ long-past (c .before .before .before .before .before .before .args .s .now) (at .i) (c .before .before .run-end .result) (c .before .before .run-end .ensures .0) (c .before .if1 .left) (omega arith))
+    let at = c .before .before .before .before .loop in (
+      omega arith,
+      at .inv .1 ∙ long-past (c .before .before .before .before .before .before .args .s .now) (at .i) (c .before .before .run-end .result)
+          (c .before .before .run-end .ensures .0) (c .before .if1 .left) (omega arith),
+    )
 
 returns-3 : tie.Need-returns-3 Inv-loop μ-loop
 returns-3 c =

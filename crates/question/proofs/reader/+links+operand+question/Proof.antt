@@ -74,12 +74,14 @@ links-links-requires t c κs =
 links-returns : (t : ℕ) → links-lts.Need-returns (links-claims t) (links-at t) links.Post
 links-returns t c =
     let linked = c .before .before .before .before in
-    laws.links-on (linked .before .before .before .before .next-token .ensures) (linked .before .before .token .given .1) (linked .operand .ensures) (c .before .before .next .given .1) (c .links .ensures)
+    laws.links-on (linked .before .before .before .before .next-token .ensures) (linked .before .before .token .given .1) (linked .operand .ensures)
+    (c .before .before .next .given .1) (c .links .ensures)
 
 links-returns-2 : (t : ℕ) → links-lts.Need-returns-2 (links-claims t) (links-at t) links.Post
 links-returns-2 t c =
     let linked = c .before .before .before in
-    laws.links-bad (linked .before .before .before .before .next-token .ensures) (linked .before .before .token .given .1) (linked .operand .ensures) (c .before .refusal .given .1)
+    laws.links-bad (linked .before .before .before .before .next-token .ensures) (linked .before .before .token .given .1) (linked .operand .ensures)
+    (c .before .refusal .given .1)
 
 links-returns-3 : (t : ℕ) → links-lts.Need-returns-3 (links-claims t) (links-at t) links.Post
 links-returns-3 t c = laws.links-none (c .before .next-token .ensures) (omega arith) (omega arith) (c .match .keys2)
@@ -116,19 +118,22 @@ operand-returns-3 t c = laws.operand-many (c .before .before .before .before .ne
 operand-returns-4 : (t : ℕ) → operand-lts.Need-returns-4 (operand-claims t) (operand-at t) operand.Post
 operand-returns-4 t c =
     let inner = c .before .before .before .before .before .before .before in
-    laws.operand-part (inner .before .before .before .before .before .next-token .ensures) (inner .before .before .before .token2 .given .1) (inner .before .if2 .left) (inner .question .ensures)
+    laws.operand-part (inner .before .before .before .before .before .next-token .ensures) (inner .before .before .before .token2 .given .1)
+    (inner .before .if2 .left) (inner .question .ensures)
     (c .before .before .before .before .before .next .given .1) (c .before .before .before .next-token2 .ensures) (c .before .close .given .1)
 
 operand-returns-5 : (t : ℕ) → operand-lts.Need-returns-5 (operand-claims t) (operand-at t) operand.Post
 operand-returns-5 t c =
     let inner = c .before .before .before .before .before .before in
-    laws.operand-unclosed (inner .before .before .before .before .before .next-token .ensures) (inner .before .before .before .token2 .given .1) (inner .before .if2 .left) (inner .question .ensures)
+    laws.operand-unclosed (inner .before .before .before .before .before .next-token .ensures) (inner .before .before .before .token2 .given .1)
+    (inner .before .if2 .left) (inner .question .ensures)
     (c .before .before .before .before .next .given .1) (c .before .before .next-token2 .ensures) (c .before .match3 .keys2) (c .token-start .ensures)
 
 operand-returns-6 : (t : ℕ) → operand-lts.Need-returns-6 (operand-claims t) (operand-at t) operand.Post
 operand-returns-6 t c =
     let inner = c .before .before .before in
-    laws.operand-bad (inner .before .before .before .before .before .next-token .ensures) (inner .before .before .before .token2 .given .1) (inner .before .if2 .left) (inner .question .ensures) (c .before .refusal .given .1)
+    laws.operand-bad (inner .before .before .before .before .before .next-token .ensures) (inner .before .before .before .token2 .given .1)
+    (inner .before .if2 .left) (inner .question .ensures) (c .before .refusal .given .1)
 
 operand-returns-7 : (t : ℕ) → operand-lts.Need-returns-7 (operand-claims t) (operand-at t) operand.Post
 operand-returns-7 t c = laws.operand-none (c .before .before .next-token .ensures) (c .before .match .keys3) (c .token-start2 .ensures)

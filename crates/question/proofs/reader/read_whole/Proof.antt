@@ -11,11 +11,13 @@ next-token-requires c κs =
     omega arith
 
 returns : tie.Need-returns
-returns c = laws.whole-ended (c .before .before .before .before .before .before .question .ensures) (c .before .before .before .before .next .given .1) (c .before .before .next-token .ensures) (c .before .match2 .keys1)
+returns c = laws.whole-ended (c .before .before .before .before .before .before .question .ensures) (c .before .before .before .before .next .given .1)
+    (c .before .before .next-token .ensures) (c .before .match2 .keys1)
 
 returns-2 : tie.Need-returns-2
 returns-2 c =
-    laws.whole-more (c .before .before .before .before .before .before .question .ensures) (c .before .before .before .before .next .given .1) (c .before .before .next-token .ensures) (c .before .match2 .keys2) (c .token-start .ensures)
+    laws.whole-more (c .before .before .before .before .before .before .question .ensures) (c .before .before .before .before .next .given .1)
+    (c .before .before .next-token .ensures) (c .before .match2 .keys2) (c .token-start .ensures)
 
 returns-3 : tie.Need-returns-3
 returns-3 c = laws.whole-bad (c .before .before .before .question .ensures) (c .before .refusal .given .1)

@@ -12,22 +12,26 @@ returns c = let skip = c .before .past-spaces in next-end (skip .ensures .0) (c 
 returns-2 : tie.Need-returns-2
 returns-2 c =
     let byte = sym (c .before .before .before .word-byte .ensures) ∙ c .before .before .if2 .taken in
-    next-run (c .before .before .before .before .before .before .past-spaces .ensures .0) (c .before .before .before .before .before .if1 .left) byte (c .before .run-end .ensures .0) (c .run-token .ensures)
+    next-run (c .before .before .before .before .before .before .past-spaces .ensures .0) (c .before .before .before .before .before .if1 .left) byte
+    (c .before .run-end .ensures .0) (c .run-token .ensures)
 
 returns-3 : tie.Need-returns-3
 returns-3 c =
     let byte = sym (c .before .before .word-byte .ensures) ∙ c .before .if2 .left in
-    next-open (c .before .before .before .before .before .past-spaces .ensures .0) (c .before .before .before .before .if1 .left) byte (eq-eqb _ _ (c .if3 .taken))
+    next-open (c .before .before .before .before .before .past-spaces .ensures .0) (c .before .before .before .before .if1 .left) byte
+    (eq-eqb _ _ (c .if3 .taken))
 
 returns-4 : tie.Need-returns-4
 returns-4 c =
     let byte = sym (c .before .before .before .word-byte .ensures) ∙ c .before .before .if2 .left in
-    next-close (c .before .before .before .before .before .before .past-spaces .ensures .0) (c .before .before .before .before .before .if1 .left) byte (ne-eqb _ _ (c .before .if3 .left)) (eq-eqb _ _ (c .if4 .taken))
+    next-close (c .before .before .before .before .before .before .past-spaces .ensures .0) (c .before .before .before .before .before .if1 .left) byte
+    (ne-eqb _ _ (c .before .if3 .left)) (eq-eqb _ _ (c .if4 .taken))
 
 returns-5 : tie.Need-returns-5
 returns-5 c =
     let byte = sym (c .before .before .before .word-byte .ensures) ∙ c .before .before .if2 .left in
-    next-other (c .before .before .before .before .before .before .past-spaces .ensures .0) (c .before .before .before .before .before .if1 .left) byte (ne-eqb _ _ (c .before .if3 .left)) (ne-eqb _ _ (c .if4 .left))
+    next-other (c .before .before .before .before .before .before .past-spaces .ensures .0) (c .before .before .before .before .before .if1 .left) byte
+    (ne-eqb _ _ (c .before .if3 .left)) (ne-eqb _ _ (c .if4 .left))
 
 pub next-token-spec : {M : Type 1} → statement M
 next-token-spec =

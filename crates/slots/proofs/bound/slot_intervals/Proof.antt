@@ -8,13 +8,20 @@ use borrow.Author.Needs.{needs}
 
 returns : tie.Need-returns
 returns c =
-    let start = c .before .before .before .before .before in
-    (sym (slot-intervals-out (start .args .index .now) (start .args .entries .now) (start .pre .0) (start .args .k) (omega (arith, c .before .word-count .ensures .0))), search needs)
+    let start = c .before .before .before .before .before in (
+      sym (slot-intervals-out (start .args .index .now) (start .args .entries .now) (start .pre .0) (start .args .k)
+          (omega (arith, c .before .word-count .ensures .0))),
+      search needs,
+    )
 
 returns-2 : tie.Need-returns-2
 returns-2 c =
-    let start = c .before .before .before .before .before .before in
-    (c .interval-count .ensures .0 ∙ sym (slot-intervals-in (start .args .index .now) (start .args .entries .now) (start .pre .0) (start .args .k) (omega (arith, c .before .before .word-count .ensures .0))), c .interval-count .ensures .1)
+    let start = c .before .before .before .before .before .before in (
+      c .interval-count .ensures .0
+          ∙ sym (slot-intervals-in (start .args .index .now) (start .args .entries .now) (start .pre .0) (start .args .k)
+          (omega (arith, c .before .before .word-count .ensures .0))),
+      c .interval-count .ensures .1,
+    )
 
 pub slot-intervals-spec : {M : Type 1} → statement M
 slot-intervals-spec =

@@ -5,7 +5,7 @@ use native.Mathlib.Omega.{arith}
 use lib.ListN.{length}
 use Rattle.question.specs.Token.{tokens}
 use Rattle.question.specs.Limits.{tokenWords}
-use Rattle.slots.proofs.CompileLaws.{NextWord, NextOther, next-word, next-other, next-none, Compiling, compile-start, compile-other, compile-word, slot-left, compile-end}
+use Rattle.slots.proofs.CompileLaws.{NextWord, NextOther, next-word, next-other, next-none, Compiling, compile-start, compile-other, compile-word, slot-left, codes-written, slots-filled}
 use Rattle.slots.proofs.compile.compile.Statement.{statement}
 use Rattle.slots.proofs.compile.compile.Tie as tie
 
@@ -24,7 +24,8 @@ loop-holds c = let a = c .before .before .before .before .args in compile-start 
 returns : tie.Need-returns Inv-loop μ-loop
 returns c =
     let here = c .before .before .before in
-    compile-end (here .loop .inv) (asked here .pre .1 .0) (next-none (c .before .before .next-token .ensures) (c .before .match .keys1))
+    let none = next-none (c .before .before .next-token .ensures) (c .before .match .keys1) in
+    (codes-written (here .loop .inv) none (asked here .pre .1 .0), slots-filled (here .loop .inv) none)
 
 -- the word of a turn, and the slot that there is for it
 word : (c : tie.After-known-told Inv-loop μ-loop) → let here = c .before .before .before .before in let found = c .before .token .given .0 in
@@ -42,7 +43,8 @@ loop-again c =
     compile-word (here .loop .inv) (asked here .pre .1 .0) (found .coded) (c .entry-for .result) (asked here .pre .1 .1) (found .words) (c .entry-for .ensures)
 
 -- the token of a turn that is neither a word nor the end
-other : (c : tie.At-match-keys3 Inv-loop μ-loop) → let here = c .before .before in NextOther (asked here .args .question .now) (here .loop .at) (c .before .next-token .result)
+other : (c : tie.At-match-keys3 Inv-loop μ-loop) → let here = c .before .before in
+    NextOther (asked here .args .question .now) (here .loop .at) (c .before .next-token .result)
 other c = next-other (c .before .next-token .ensures) (c .match .keys3)
 
 loop-again-2 : tie.Need-loop-again-2 Inv-loop μ-loop

@@ -12,4 +12,5 @@ returns c =
     (λ e. c .before .before .put .ensures, λ e. true-false (sym (eq-eqb _ 0 (start .if1 .taken)) ∙ e))
 
 pub put-closed-spec : {M : Type 1} → statement M
-put-closed-spec = tie.close (tie.spec (λ c. search needs) (λ c κs. c .before .before .before .pre .1 (c .before .if1 .taken)) (λ c. search needs) returns (λ c. (λ e. true-false (sym e ∙ ne-eqb _ 0 (c .if1 .left)), λ e. (refl, refl))))
+put-closed-spec = tie.close (tie.spec (λ c. search needs) (λ c κs. c .before .before .before .pre .1 (c .before .if1 .taken)) (λ c. search needs) returns
+    (λ c. (λ e. true-false (sym e ∙ ne-eqb _ 0 (c .if1 .left)), λ e. (refl, refl))))

@@ -86,14 +86,17 @@ loop-less-2 : tie.Need-loop-less-2 Inv-loop μ-loop
 loop-less-2 c =
     let upper = c .before .before .before .before .before .before .before .before .before in
     let i = upper .before .before in
-    let less = left-less (begin i .pre .0) (i .before .loop .inv .over .read) (j i) (list i) (goes upper) (c .before .before .before .before .moved-on .ensures) in
+    let less = left-less (begin i .pre .0) (i .before .loop .inv .over .read) (j i) (list i) (goes upper)
+    (c .before .before .before .before .moved-on .ensures) in
     omega arith
 
 loop-again-2 : tie.Need-loop-again-2 Inv-loop μ-loop
 loop-again-2 c =
     let i = c .before .before .before .before .before .before .before .before .before .before .before in
-    upper-step (begin i .pre .0) (i .before .loop .inv) (i .loop-test .taken) (c .before .before .before .before .before .before .before .before .before .if1 .left)
-    (c .before .before .before .before .before .before .before .put-closed .ensures) (c .before .before .before .before .moved-on .ensures) (c .before .refill .ensures)
+    upper-step (begin i .pre .0) (i .before .loop .inv) (i .loop-test .taken)
+    (c .before .before .before .before .before .before .before .before .before .if1 .left)
+    (c .before .before .before .before .before .before .before .put-closed .ensures) (c .before .before .before .before .moved-on .ensures)
+    (c .before .refill .ensures)
 
 returns : tie.Need-returns Inv-loop μ-loop
 returns c =
@@ -110,5 +113,6 @@ sweep-scan-spec =
     (λ c κs. search needs) (λ c. omega (arith, few (c .before))) (λ c. search needs) (λ c. search needs)
     (λ c. search needs) to-upper-requires (λ c. omega (arith, few (c .before .before .before .before .before))) loop-again sub-count
     put-closed-requires
-    (λ c κs. let upper = c .before .before .before .before in let i = upper .before .before in (asked-entry (begin i .pre .0) (j i) (list i), (omega arith, goes upper))) (λ c. search needs) (λ c. search needs) (λ c. search needs) refill-requires
+    (λ c κs. let upper = c .before .before .before .before in let i = upper .before .before in
+    (asked-entry (begin i .pre .0) (j i) (list i), (omega arith, goes upper))) (λ c. search needs) (λ c. search needs) (λ c. search needs) refill-requires
     loop-less-2 loop-again-2 (λ c. tallied-length (c .before .loop .inv .stretch .below)) returns)

@@ -39,6 +39,10 @@ pub count-members-spec : {M : Type 1} → statement M
 count-members-spec =
     tie.close
     (tie.spec
-    Inv-loop μ-loop (λ c. (omega arith, omega arith, λ base. rw (members-all (c .args .ws .now) base) (sym (zero-add (length (membersOf (c .args .ws .now) base))))))
+    Inv-loop μ-loop (λ c. (
+      omega arith,
+      omega arith,
+      λ base. rw (members-all (c .args .ws .now) base) (sym (zero-add (length (membersOf (c .args .ws .now) base)))),
+    ))
     (λ c. search needs) (λ c. search needs) (λ c. omega (arith, few c)) (λ c. omega (arith, few c)) (λ c. search needs)
     (λ c. search needs) loop-again returns)

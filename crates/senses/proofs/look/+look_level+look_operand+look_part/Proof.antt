@@ -6,29 +6,28 @@ use lib.ListN.{length}
 use borrow.Author.Needs.{needs}
 use borrow.Author.Tests.{not-true, not-false}
 use Rattle.codes.specs.Code.{wordCode, openCode, closeCode, opCode, opOf}
-use Rattle.evaluate.specs.Look.{Tells}
+use Rattle.senses.specs.Look.{Tells}
 use Rattle.codes.proofs.CodeLaws.{operator-none}
-use Rattle.codes.proofs.ReadsLaws.{operand-none, operand-word, operand-many, operand-deep, operand-part, operand-unclosed, Level, level-start, level-step, level-end}
-use Rattle.evaluate.proofs.EvalLaws.{Here, code-here, operator-here}
-use Rattle.evaluate.proofs.PairedSenses.{tells-word, tells-part, tells-pair, looks-none}
+use Rattle.codes.proofs.ReadsLaws.{Here, code-here, operator-here, operand-none, operand-word, operand-many, operand-deep, operand-part, operand-unclosed, Level, level-start, level-step, level-end}
+use Rattle.senses.proofs.PairedSenses.{tells-word, tells-part, tells-pair, looks-none}
 use borrow.Fn.Kinds.{In}
 use borrow.Fn.PlainCycle.{Measures, is, falls, and}
-use Rattle.evaluate.proofs.look.look_level.Reads as look-level
-use Rattle.evaluate.proofs.look.look_level.Kinds as look-level-kinds
-use Rattle.evaluate.proofs.look.+look_level+look_operand+look_part.Lts-look_level as look-level-lts
-use Rattle.evaluate.proofs.look.look_operand.Reads as look-operand
-use Rattle.evaluate.proofs.look.look_operand.Kinds as look-operand-kinds
-use Rattle.evaluate.proofs.look.+look_level+look_operand+look_part.Lts-look_operand as look-operand-lts
-use Rattle.evaluate.proofs.look.look_part.Reads as look-part
-use Rattle.evaluate.proofs.look.look_part.Kinds as look-part-kinds
-use Rattle.evaluate.proofs.look.+look_level+look_operand+look_part.Lts-look_part as look-part-lts
+use Rattle.senses.proofs.look.look_level.Reads as look-level
+use Rattle.senses.proofs.look.look_level.Kinds as look-level-kinds
+use Rattle.senses.proofs.look.+look_level+look_operand+look_part.Lts-look_level as look-level-lts
+use Rattle.senses.proofs.look.look_operand.Reads as look-operand
+use Rattle.senses.proofs.look.look_operand.Kinds as look-operand-kinds
+use Rattle.senses.proofs.look.+look_level+look_operand+look_part.Lts-look_operand as look-operand-lts
+use Rattle.senses.proofs.look.look_part.Reads as look-part
+use Rattle.senses.proofs.look.look_part.Kinds as look-part-kinds
+use Rattle.senses.proofs.look.+look_level+look_operand+look_part.Lts-look_part as look-part-lts
 use Rattle.codes.proofs.read.code_at.Reads as code-at
 use Rattle.codes.proofs.read.is_operator.Reads as is-operator
-use Rattle.evaluate.proofs.senses.sense_of.Reads as sense-of
-use Rattle.evaluate.proofs.look.unread.Reads as unread
-use Rattle.evaluate.proofs.sense_pair.pair_senses.Reads as pair-senses
-use Rattle.evaluate.proofs.look.+look_level+look_operand+look_part.{statement}
-use Rattle.evaluate.proofs.look.+look_level+look_operand+look_part.Tie.{close}
+use Rattle.senses.proofs.kept.sense_of.Reads as sense-of
+use Rattle.senses.proofs.look.unread.Reads as unread
+use Rattle.senses.proofs.pair.pair_senses.Reads as pair-senses
+use Rattle.senses.proofs.look.+look_level+look_operand+look_part.{statement}
+use Rattle.senses.proofs.look.+look_level+look_operand+look_part.Tie.{close}
 
 abbrev μ-look-level : Measures 2 look-level-kinds.ps ℕ
 μ-look-level κs a = 3 * (a .1 .1 .1 .0) + 2
@@ -59,7 +58,16 @@ look-part-below t = and 2 look-part-kinds.ps (falls 2 look-part-kinds.ps _<_ μ-
 
 -- what the calls of each promise
 abbrev level-claims : ℕ → look-level-lts.Claims
-level-claims t = (look-operand-below t, look-operand.Post, code-at.Asked, code-at.Learnt, is-operator.Asked, is-operator.Learnt, pair-senses.Asked, pair-senses.Learnt)
+level-claims t = (
+  look-operand-below t,
+  look-operand.Post,
+  code-at.Asked,
+  code-at.Learnt,
+  is-operator.Asked,
+  is-operator.Learnt,
+  pair-senses.Asked,
+  pair-senses.Learnt,
+)
 
 abbrev operand-claims : ℕ → look-operand-lts.Claims
 operand-claims t = (code-at.Asked, code-at.Learnt, look-part-below t, look-part.Post, unread.Asked, unread.Learnt, sense-of.Asked, sense-of.Learnt)
@@ -102,7 +110,8 @@ module _ (t : ℕ) where
   level-returns c =
       let a = begun (c .before .before .before) .args in
       let at = c .before .before .before .loop in
-      let none = operator-none (c .before .before .code-at .result) (sym (c .before .is-operator .ensures) ∙ not-true (c .before .is-operator .result) (c .if1 .taken)) in
+      let none = operator-none (c .before .before .code-at .result)
+      (sym (c .before .is-operator .ensures) ∙ not-true (c .before .is-operator .result) (c .if1 .taken)) in
       record {
         ahead = at .inv .0;
         inside = at .inv .1;
@@ -181,14 +190,16 @@ module _ (t : ℕ) where
   opened c = c .before .before .before .before
 
   close-here : (c : AtClose) → Here (asked (opened c) .args .codes .now) (c .before .before .look-level .result .code) closeCode
-  close-here c = code-here (asked (opened c) .args .codes .now) (c .before .before .look-level .result .code) (c .before .code-at2 .ensures) (c .if3 .left) (omega arith)
+  close-here c = code-here (asked (opened c) .args .codes .now) (c .before .before .look-level .result .code) (c .before .code-at2 .ensures) (c .if3 .left)
+      (omega arith)
 
   part-returns : look-part-lts.Need-returns (part-claims t) (look-part-at t) look-part.Post
   part-returns c =
       let start = c .before .before .before .before .before in
       let a = start .args in
       looks-none (start .pre .1 .0) (c .unread .ensures)
-      (λ f. operand-none (a .codes .now) f (a .d) (a .k) (a .i) _ _ _ (start .pre .1 .1 .1) (λ e. c .before .if1 .taken (c .before .before .code-at .ensures ∙ e)))
+      (λ f. operand-none (a .codes .now) f (a .d) (a .k) (a .i) _ _ _ (start .pre .1 .1 .1)
+      (λ e. c .before .if1 .taken (c .before .before .code-at .ensures ∙ e)))
 
   part-returns-2 : look-part-lts.Need-returns-2 (part-claims t) (look-part-at t) look-part.Post
   part-returns-2 c =
@@ -206,7 +217,8 @@ module _ (t : ℕ) where
       record {
         ahead = omega (arith, inner .ensures .ahead, r .ensures);
         inside = omega (arith, inner .ensures .inside, r .ensures);
-        reads = λ f. operand-unclosed (a .codes .now) f (a .d) (a .k) (a .i) (open-here at .0) (inner .result .code) (inner .result .slot) _ (inner .ensures .reads) _ _ _
+        reads = λ f. operand-unclosed (a .codes .now) f (a .d) (a .k) (a .i) (open-here at .0) (inner .result .code) (inner .result .slot) _
+            (inner .ensures .reads) _ _ _
             (λ e. c .before .if3 .taken (c .before .before .code-at2 .ensures ∙ e));
       }
 
@@ -218,7 +230,8 @@ module _ (t : ℕ) where
       record {
         ahead = omega (arith, inner .ensures .ahead);
         inside = omega (arith, close-here c .1);
-        reads = λ f. operand-part (a .codes .now) f (a .d) (a .k) (a .i) (open-here (opened c) .0) (p .code) (p .slot) _ (inner .ensures .reads) _ (close-here c .0)
+        reads = λ f. operand-part (a .codes .now) f (a .d) (a .k) (a .i) (open-here (opened c) .0) (p .code) (p .slot) _ (inner .ensures .reads) _
+            (close-here c .0)
             (tells-part (a .senses .now) (a .k) (p .inside) (p .until));
       }
 

@@ -4,8 +4,8 @@ use native.Mathlib.Omega.{arith}
 use mathlib.Core.Path.{_≡_, sym, _∙_}
 use borrow.Author.Needs.{needs}
 use borrow.Author.Tests.{eq-eqb, ne-eqb}
-use Rattle.evaluate.proofs.senses.pack.Statement.{statement}
-use Rattle.evaluate.proofs.senses.pack.Tie as tie
+use Rattle.senses.proofs.kept.pack.Statement.{statement}
+use Rattle.senses.proofs.kept.pack.Tie as tie
 
 returns : tie.Need-returns
 returns c =

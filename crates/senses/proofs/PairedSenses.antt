@@ -17,9 +17,9 @@ use Rattle.question.specs.Meaning.{combine}
 use Rattle.codes.specs.Code.{andCode, orCode, opCode}
 use Rattle.codes.specs.Reads.{Reads}
 use Rattle.slots.specs.Slots.{slotHas, slotSatisfies}
-use Rattle.evaluate.specs.Senses.{untilOf, insideOf}
-use Rattle.evaluate.specs.declared.look.Look.{Look}
-use Rattle.evaluate.specs.Look.{Tells, Looks}
+use Rattle.senses.specs.Senses.{untilOf, insideOf}
+use Rattle.senses.specs.declared.look.Look.{Look}
+use Rattle.senses.specs.Look.{Tells, Looks}
 use Rattle.slots.proofs.SlotLaws.{slot-lists, slot-lacks, slot-word, slot-part, slot-pair}
 
 -- ---- of equal tests, and of the opposite
@@ -63,7 +63,8 @@ module _ (p q : ℕ → Bool) {x : ℕ} {a : Bool} {u : ℕ} where
   paired-or Or e s = steady-same (λ y. not (not (p y) && not (q y))) (λ y. p y || q y) x a u (λ y. or-by-and (p y) (q y)) s
   paired-or Not e s = absurd (omega arith)
 
-  pub paired-not : (c : ℕ) (o : Op) → c ≡ opCode o → (c ≡ andCode → ⊥) → (c ≡ orCode → ⊥) → Steady (λ y. p y && not (q y)) x a u → Steady (λ y. combine o (p y) (q y)) x a u
+  pub paired-not : (c : ℕ) (o : Op) → c ≡ opCode o → (c ≡ andCode → ⊥) → (c ≡ orCode → ⊥) → Steady (λ y. p y && not (q y)) x a u →
+      Steady (λ y. combine o (p y) (q y)) x a u
   paired-not c And e f g s = absurd (f e)
   paired-not c Or e f g s = absurd (g e)
   paired-not c Not e f g s = s
@@ -96,7 +97,8 @@ module _ (senses : List ℕ) (k : ℕ) (a : Bool) (u : ℕ) where
   unfolding treeWords
   tells-pair o left right j e b c m n paired s t v slots x h known =
       let l = length-append (treeWords left) (treeWords right) in
-      steady-same (λ y. combine o (slotSatisfies v left k y) (slotSatisfies v right j y)) (slotSatisfies v (pair o left right) k) x a u (λ y. sym (slot-pair v k y o left right j e))
+      steady-same (λ y. combine o (slotSatisfies v left k y) (slotSatisfies v right j y)) (slotSatisfies v (pair o left right) k) x a u
+      (λ y. sym (slot-pair v k y o left right j e))
       (paired (slotSatisfies v left k) (slotSatisfies v right j) x (s v slots x (omega arith) known) (t v slots x (omega arith) known))
 
 -- ---- of a look

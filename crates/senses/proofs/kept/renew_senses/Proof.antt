@@ -4,10 +4,10 @@ use native.Mathlib.Omega.{arith}
 use mathlib.Core.Path.{_≡_, sym, _∙_}
 use lib.ListN.{length}
 use Rattle.slots.specs.Slots.{slotHas}
-use Rattle.evaluate.specs.Senses.{untilOf, Sensed}
-use Rattle.evaluate.proofs.KeptSenses.{sensed-known, renewed-next}
-use Rattle.evaluate.proofs.senses.renew_senses.Statement.{statement}
-use Rattle.evaluate.proofs.senses.renew_senses.Tie as tie
+use Rattle.senses.specs.Senses.{untilOf, Sensed}
+use Rattle.senses.proofs.KeptSenses.{sensed-known, renewed-next}
+use Rattle.senses.proofs.kept.renew_senses.Statement.{statement}
+use Rattle.senses.proofs.kept.renew_senses.Tie as tie
 
 abbrev Inv-loop : tie.InvT-loop
 Inv-loop index entries slots x hints₀ senses₀ k₀ hints senses k =
@@ -30,8 +30,10 @@ renew-sense-requires : tie.Need-renew-sense-requires Inv-loop μ-loop
 renew-sense-requires c κs =
     let inv = c .before .before .before .loop .inv in
     let pre = begun (c .before .before .before) .pre in
-    let more = c .before .before .loop-test .taken in
-    (record { sound = pre .0 .sound; entries-long = pre .0 .entries-long; hints-long = inv .0 }, (inv .1, (omega (arith, pre .1 .1 .0), (pre .1 .1 .1 .0, inv .2))))
+    let more = c .before .before .loop-test .taken in (
+      record { sound = pre .0 .sound; entries-long = pre .0 .entries-long; hints-long = inv .0 },
+      (inv .1, (omega (arith, pre .1 .1 .0), (pre .1 .1 .1 .0, inv .2))),
+    )
 
 loop-again : tie.Need-loop-again Inv-loop μ-loop
 loop-again c =

@@ -1,5 +1,5 @@
 // Two senses under an operator: what they say together, and how long that stays so.
-ghost use Rattle.evaluate.specs.Look.{Opposite, Both, Paired};
+ghost use Rattle.senses.specs.Look.{Opposite, Both, Paired};
 use codes::code::AND_CODE;
 use codes::code::OR_CODE;
 use list::sense::Sense;

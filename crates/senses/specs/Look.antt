@@ -10,11 +10,11 @@ use Rattle.question.specs.declared.token.Op.{Op}
 use Rattle.question.specs.Token.{Tok}
 use Rattle.question.specs.Grammar.{Tree, Out, treeWords}
 use Rattle.question.specs.Meaning.{combine}
-use Rattle.evaluate.specs.declared.look.Look.{Look}
+use Rattle.senses.specs.declared.look.Look.{Look}
 use Rattle.codes.specs.Code.{opCode}
 use Rattle.slots.specs.Slots.{slotSatisfies}
 use Rattle.codes.specs.Reads.{Reads}
-use Rattle.evaluate.specs.Senses.{Known}
+use Rattle.senses.specs.Senses.{Known}
 
 -- what a sense says of a test at x
 abbrev pub Senses : Sense → (ℕ → Bool) → ℕ → Type 0

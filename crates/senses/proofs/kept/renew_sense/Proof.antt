@@ -1,10 +1,10 @@
 -- A sense that holds is kept; else the slot is looked at.
 use native.Mathlib.Omega.{arith}
 use Rattle.slots.specs.Slots.{slotHas}
-use Rattle.evaluate.proofs.KeptSenses.{renewed-set}
+use Rattle.senses.proofs.KeptSenses.{renewed-set}
 use borrow.Author.Needs.{needs}
-use Rattle.evaluate.proofs.senses.renew_sense.Statement.{statement}
-use Rattle.evaluate.proofs.senses.renew_sense.Tie as tie
+use Rattle.senses.proofs.kept.renew_sense.Statement.{statement}
+use Rattle.senses.proofs.kept.renew_sense.Tie as tie
 
 returns-2 : tie.Need-returns-2
 returns-2 c =
@@ -13,7 +13,8 @@ returns-2 c =
     let look = c .before .before .before .look-slot in
     let r = look .result in (
       look .ensures .0,
-      renewed-set (slotHas (a .index .now) (a .entries .now)) (a .senses .now) (a .x) (a .k) (start .pre .1 .1 .1 .1) (r .inside) (r .until) (c .pack .result) (look .ensures .1)
+      renewed-set (slotHas (a .index .now) (a .entries .now)) (a .senses .now) (a .x) (a .k) (start .pre .1 .1 .1 .1) (r .inside) (r .until) (c .pack .result)
+          (look .ensures .1)
           (omega arith) (c .pack .ensures .0) (c .pack .ensures .1),
     )
 

@@ -1,10 +1,10 @@
 -- `or` by `and` of the opposites, `not` by `and` with the opposite of the right side.
 use mathlib.Core.Path.{sym, _∙_}
 use mathlib.Core.Bool.{not, _&&_}
-use Rattle.evaluate.proofs.PairedSenses.{paired-and, paired-or, paired-not}
+use Rattle.senses.proofs.PairedSenses.{paired-and, paired-or, paired-not}
 use borrow.Author.Needs.{needs}
-use Rattle.evaluate.proofs.sense_pair.pair_senses.Statement.{statement}
-use Rattle.evaluate.proofs.sense_pair.pair_senses.Tie as tie
+use Rattle.senses.proofs.pair.pair_senses.Statement.{statement}
+use Rattle.senses.proofs.pair.pair_senses.Tie as tie
 
 returns : tie.Need-returns
 returns c o e p q x s t = paired-and p q o (sym (c .before .if1 .taken) ∙ e) (c .both .ensures p q x s t)

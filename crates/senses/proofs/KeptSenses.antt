@@ -8,10 +8,10 @@ use mathlib.Core.List.{List}
 use lib.ListN.{length, getD, set, replicate, length-set}
 use lib.Seq.{getD-set-same, getD-set-other}
 use Rattle.laws.proofs.Tests.{leb-cases}
+use Rattle.laws.proofs.Lists.{zeros-at}
 use Rattle.limits.specs.Limits.{recordMax}
 use Rattle.list.specs.Sense.{Steady}
-use Rattle.window.proofs.HoldLaws.{zeros-at}
-use Rattle.evaluate.specs.Senses.{inIt, untilOf, Sensed, Known, Renewed}
+use Rattle.senses.specs.Senses.{inIt, untilOf, Sensed, Known, Renewed}
 
 pub sensed-none : (v : ℕ → ℕ → Bool) (n x : ℕ) → Sensed v (replicate n 0) x
 sensed-none v n x = record { near = λ k. omega (arith, zeros-at n k); same = λ k y h l. absurd (omega (arith, zeros-at n k)) }

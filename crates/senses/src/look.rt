@@ -1,13 +1,13 @@
-// Whether a record fits a question, by its codes and the senses of its slots there, and until which number that stays so.
+// Whether a record satisfies a question, by its codes and the senses of its slots there, and until which number that stays so.
 ghost use mathlib.Core.Path.{_≡_};
 ghost use Prim.Native.Nat.{_≤_};
 ghost use lib.ListN.{length, getD};
 ghost use Rattle.limits.specs.Limits.{questionWordsMax};
-ghost use Rattle.question.specs.Grammar.{fromLeft, question, operand};
 ghost use Rattle.codes.specs.Code.{wordCode, noCode};
-ghost use Rattle.evaluate.specs.Look.{Looks};
-use crate::sense_pair::pair_senses;
-use crate::senses::sense_of;
+ghost use Rattle.codes.specs.Reads.{asLevel, asOperand};
+ghost use Rattle.senses.specs.Look.{Looks};
+use crate::kept::sense_of;
+use crate::pair::pair_senses;
 use codes::code::CLOSE_CODE;
 use codes::code::OPEN_CODE;
 use codes::code::WORD_CODE;
@@ -40,7 +40,7 @@ fn unread(code: usize) -> Look
 pub fn look_level(codes: &[u8], i: usize, k: usize, d: usize, senses: &[u32]) -> Look
     requires within { ⌜ i ≤ length (now codes) ⌝ }
     requires long { ⌜ length (now senses) ≡ questionWordsMax ⌝ }
-    ensures { λ r. ⌜ Looks (λ f. question fromLeft f d k) (now (codes .entry)) i k (now (senses .entry)) r ⌝ }
+    ensures { λ r. ⌜ Looks (asLevel d k) (now (codes .entry)) i k (now (senses .entry)) r ⌝ }
 {
     let first = look_operand(codes, i, k, d, senses);
     let mut at = first.code;
@@ -77,7 +77,7 @@ pub fn look_level(codes: &[u8], i: usize, k: usize, d: usize, senses: &[u32]) ->
 fn look_operand(codes: &[u8], i: usize, k: usize, d: usize, senses: &[u32]) -> Look
     requires within { ⌜ i ≤ length (now codes) ⌝ }
     requires long { ⌜ length (now senses) ≡ questionWordsMax ⌝ }
-    ensures { λ r. ⌜ Looks (λ f. operand fromLeft f d k) (now (codes .entry)) i k (now (senses .entry)) r ⌝ }
+    ensures { λ r. ⌜ Looks (asOperand d k) (now (codes .entry)) i k (now (senses .entry)) r ⌝ }
 {
     if code_at(codes, i) != WORD_CODE {
         return look_part(codes, i, k, d, senses);
@@ -99,7 +99,7 @@ fn look_part(codes: &[u8], i: usize, k: usize, d: usize, senses: &[u32]) -> Look
     requires within { ⌜ i ≤ length (now codes) ⌝ }
     requires long { ⌜ length (now senses) ≡ questionWordsMax ⌝ }
     requires wordless { ⌜ (getD (now codes) i noCode ≡ wordCode → ⊥) ⌝ }
-    ensures { λ r. ⌜ Looks (λ f. operand fromLeft f d k) (now (codes .entry)) i k (now (senses .entry)) r ⌝ }
+    ensures { λ r. ⌜ Looks (asOperand d k) (now (codes .entry)) i k (now (senses .entry)) r ⌝ }
 {
     if code_at(codes, i) != OPEN_CODE {
         return unread(i);

@@ -5,7 +5,7 @@ ghost use lib.ListN.{length};
 ghost use Rattle.limits.specs.Limits.{questionWordsMax, recordMax};
 ghost use Rattle.list.specs.Sense.{Steady};
 ghost use Rattle.slots.specs.Slots.{slotHas, ReadBy};
-ghost use Rattle.evaluate.specs.Senses.{untilOf, insideOf, inIt, Sensed, Known, Renewed};
+ghost use Rattle.senses.specs.Senses.{untilOf, insideOf, inIt, Sensed, Known, Renewed};
 use directory::parts::Regions;
 use directory::parts::regions_of;
 use index::trailer::word_count;

@@ -1,0 +1,2 @@
+pub mod PairedSenses
+pub mod KeptSenses
