@@ -1,5 +1,5 @@
 -- Reference 10: what the asking program writes for a question, by what it read of the file.
-use Prim.Native.Nat.{ℕ, _/_}
+use Prim.Native.Nat.{ℕ, _+_, _/_}
 use mathlib.Core.Path.{_≡_}
 use mathlib.Core.Bool.{cond}
 use mathlib.Core.List.{List, []}
@@ -21,7 +21,7 @@ indexMost = 65536
 
 -- Reference 10: the check of what was read; of a missing file that is nothing, of one that is too long 65,537 bytes
 abbrev pub fileCheck : List ℕ → Checked
-fileCheck index = cond (ltb indexMost (length index)) (Refused (IndexLength 65537)) (checkOf index)
+fileCheck index = cond (ltb indexMost (length index)) (Refused (IndexLength (indexMost + 1))) (checkOf index)
 
 -- Reference 10: what a question is answered with, where `room` intervals have room in the cells `out`
 abbrev pub answerTo : List ℕ → List ℕ → ℕ → Answer

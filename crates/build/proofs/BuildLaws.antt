@@ -3,7 +3,7 @@ use mathlib.Core.Path.{_≡_, refl, sym, ap, _∙_}
 use Prim.Native.Nat.{ℕ, _≤_, _<_}
 use native.Mathlib.Omega.{arith}
 use mathlib.Core.Bool.{Bool, true, false, cond}
-use mathlib.Core.List.{List, [], _++_}
+use mathlib.Core.List.{List, []}
 use lib.Dec.{leb, ltb}
 use lib.ListN.{length, getD, take, drop}
 use lib.Seq.{take-at, drop-at}
@@ -11,6 +11,7 @@ use borrow.Author.Tests.{ltb-false}
 use Rattle.limits.specs.Limits.{indexMax}
 use Rattle.refusal.specs.declared.Refusal.{Refusal}
 use Rattle.refusal.specs.declared.Refusal.the-variants.{BuildSize, Room}
+use Rattle.list.specs.Front.{inFront}
 use Rattle.list.specs.declared.Written.{Written}
 use Rattle.list.specs.declared.Written.the-variants.{Wrote, Refused}
 use Rattle.list.specs.Among.{among}
@@ -94,14 +95,17 @@ module _ {n : ℕ} {words counts numbers out out′ : List ℕ} {size : ℕ} (do
   indexable = accepted-indexable build-accepted
 
   -- the index that was asked for, and behind it what was there
-  pub build-out : out′ ≡ indexFrom n words counts numbers ++ drop size out
+  abbrev index : List ℕ
+  index = indexFrom n words counts numbers
+
+  pub build-out : out′ ≡ inFront index out
   build-out = rw (← done .answer) at (done .bytes)
 
-  pub build-bytes : take size out′ ≡ indexFrom n words counts numbers
-  build-bytes = rw build-out (take-at (indexFrom n words counts numbers) (drop size out) size (build-accepted .is-size))
+  pub build-bytes : take size out′ ≡ index
+  build-bytes = rw build-out (take-at index (drop (length index) out) size (build-accepted .is-size))
 
   pub build-rest : drop size out′ ≡ drop size out
-  build-rest = rw build-out (drop-at (indexFrom n words counts numbers) (drop size out) size (build-accepted .is-size))
+  build-rest = rw build-out (drop-at index (drop (length index) out) size (build-accepted .is-size) ∙ ap (λ (m : ℕ). drop m out) (build-accepted .is-size))
 
   pub build-sound : Sound (take size out′)
   build-sound = rw build-bytes (built-sound indexable)

@@ -1,6 +1,6 @@
 -- Words entered one by one, each with its list: what is to be written is what is left to write, one word on; and all of it, with the trailer, is the index.
 use mathlib.Core.Path.{_≡_, refl, sym, ap, _∙_}
-use Prim.Native.Nat.{ℕ, _+_, _-_, _*_, _≤_, _<_}
+use Prim.Native.Nat.{ℕ, _+_, _-_, _*_, _≤_, _<_, max}
 use native.Mathlib.Omega.{arith}
 use mathlib.Core.List.{List, [], _∷_, _++_}
 use lib.ListN.{length, getD, take, drop, length-append}
@@ -13,13 +13,14 @@ use Rattle.layout.specs.declared.entry.Spots.{Spots}
 use Rattle.build.specs.Lent.{wordsFrom, lentWords, sumTo, listsFrom}
 use Rattle.layout.specs.Layout.{keptBytes, listsBytes, wordsBytes, directoryBytes, trailerBytes, indexOf}
 use Rattle.layout.specs.Laid.{entered, enteredTo, EnteredWithin}
-use Rattle.build.specs.Passes.{wordEnd, allEntered, AllWithin}
+use Rattle.build.specs.Passes.{allEntered, AllWithin}
 use Rattle.layout.proofs.BytesLaws.{cells-length}
 use Rattle.layout.proofs.LayoutLaws.{directoryCells, directory-bytes, directory-length}
 use Rattle.build.proofs.WordsLaws.{next-word, last-word}
 use Rattle.build.proofs.CountLaws.{sum-next, sum-first-none}
 use Rattle.build.proofs.ListsLaws.{lists-next, lists-none}
 use Rattle.layout.proofs.WriteLaws.{indexPlan, index-entered}
+use Rattle.parts.specs.Part.{partLength}
 use Rattle.list.specs.Front.{inFront}
 
 -- ---- one word
@@ -74,7 +75,7 @@ module _ {words counts numbers : List ℕ} {room : ℕ} {at : Spots} {start firs
       nothing [] e = refl
       nothing (w ∷ ws) e = absurd (omega arith)
 
-  module _ {end last : ℕ} (e : end ≡ start + wordEnd (drop start words)) (g : end ≤ length words) (l : last ≡ first + getD counts i 0)
+  module _ {end last : ℕ} (e : end ≡ start + partLength 10 (drop start words)) (g : end ≤ max start (length words)) (l : last ≡ first + getD counts i 0)
       (h : i < length counts) where
     -- the word is ended, since a word is left
     pub word-ended : end < length words

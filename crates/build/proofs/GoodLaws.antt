@@ -28,8 +28,8 @@ use Rattle.build.specs.declared.words.Words.the-variants.{Counted, Bad}
 use Rattle.layout.specs.declared.entry.Spots.{Spots}
 use Rattle.build.specs.Lent.{lentWords, wordTotal, badLent, badCount, badRest, sumTo, listsFrom}
 use Rattle.layout.specs.Layout.{cellsBytes, listsBytes, wordsBytes}
-use Rattle.build.specs.Build.{badWords, badCounts, badNumbers, faultThen, lentOf, indexFrom, buildOf, Builds}
-use Rattle.build.specs.Passes.{wordsAnswer, countFault, Fair, Lists, GoodLent, lentEntered, AllWithin}
+use Rattle.build.specs.Build.{badWords, countFault, badCounts, badNumbers, faultThen, lentOf, indexFrom, buildOf, Builds}
+use Rattle.build.specs.Passes.{wordsAnswer, Fair, Lists, GoodLent, lentEntered, AllWithin}
 use Rattle.build.proofs.LentLaws.{LentWord, lent-word, LentCount, lent-count, lent-rest, lists-length, lists-at}
 use Rattle.build.proofs.CountLaws.{list-none, fair-count}
 use Rattle.build.proofs.WordsLaws.{words-bytes-length}
@@ -183,7 +183,7 @@ module _ {n : ℕ} {words counts numbers : List ℕ} (is : GoodLent n words coun
     unfolding buildOf
     build-wrote {out} g w =
         let fits = le-leb size (length out) g in
-        record { answer = rw (is .good, e, small, fits); bytes = rw (is .good, e, small, fits) (rw e at w) }
+        record { answer = rw (is .good, e, small, fits); bytes = rw (is .good, e, small, fits) w }
 
   -- ---- where its parts belong, and that they make the index
 

@@ -16,25 +16,11 @@ use Rattle.refusal.specs.declared.Found.the-variants.{At, Nowhere}
 use Rattle.refusal.specs.First.{first}
 use Rattle.refusal.proofs.FirstLaws.{first-is, first-none-is}
 use Rattle.word.specs.Word.{before, isWord}
+use Rattle.parts.specs.Part.{partLength}
 use Rattle.build.specs.Lent.{wordsFrom, lentWords, restFrom, restOf, one-if-any, wordTotal, lentBefore, badLent}
 use Rattle.layout.specs.Layout.{wordsBytes}
-use Rattle.build.specs.Passes.{wordEnd}
 use Rattle.layout.proofs.BytesLaws.{Next, next-of}
 use Rattle.build.proofs.LentLaws.{LentWord}
-
--- ---- one byte on
-
-pub word-end-here : (bytes : List ℕ) (i : ℕ) → i < length bytes → getD bytes i 0 ≡ 10 → wordEnd (drop i bytes) ≡ 0
-unfolding wordEnd
-word-end-here bytes i h e = rw (drop-next bytes i h, eq-eqb (getD bytes i 0) 10 e)
-
-pub word-end-on : (bytes : List ℕ) (i : ℕ) → i < length bytes → (getD bytes i 0 ≡ 10 → ⊥) → wordEnd (drop i bytes) ≡ suc (wordEnd (drop (i + 1) bytes))
-unfolding wordEnd
-word-end-on bytes i h e = rw (drop-next bytes i h, ne-eqb (getD bytes i 0) 10 e)
-
-pub word-end-none : (bytes : List ℕ) (i : ℕ) → length bytes ≤ i → wordEnd (drop i bytes) ≡ 0
-unfolding wordEnd
-word-end-none bytes i h = rw (drop-none bytes i h)
 
 -- ---- one word on
 
@@ -42,40 +28,40 @@ word-end-none bytes i h = rw (drop-none bytes i h)
 abbrev Ended : List ℕ → List (List ℕ) → List ℕ → List ℕ → ℕ → Type 0
 Ended acc ws rest bs k = (ws ≡ (acc ++ take k bs) ∷ wordsFrom [] (drop (k + 1) bs)) × (rest ≡ restFrom [] (drop (k + 1) bs))
 
-ended-step : (acc : List ℕ) (b : ℕ) (bs : List ℕ) (t : Bool) → cond t 0 (suc (wordEnd bs)) < suc (length bs) →
-    ((acc : List ℕ) → wordEnd bs < length bs → Ended acc (wordsFrom acc bs) (restFrom acc bs) bs (wordEnd bs)) →
+ended-step : (acc : List ℕ) (b : ℕ) (bs : List ℕ) (t : Bool) → cond t 0 (suc (partLength 10 bs)) < suc (length bs) →
+    ((acc : List ℕ) → partLength 10 bs < length bs → Ended acc (wordsFrom acc bs) (restFrom acc bs) bs (partLength 10 bs)) →
     Ended acc (cond t (acc ∷ wordsFrom [] bs) (wordsFrom (acc ++ b ∷ []) bs)) (cond t (restFrom [] bs) (restFrom (acc ++ b ∷ []) bs)) (b ∷ bs)
-    (cond t 0 (suc (wordEnd bs)))
+    (cond t 0 (suc (partLength 10 bs)))
 ended-step acc b bs true h ih = (rw (append-nil acc), refl)
 ended-step acc b bs false h ih =
-    let e : suc (wordEnd bs) + 1 ≡ suc (wordEnd bs + 1) = omega arith in
+    let e : suc (partLength 10 bs) + 1 ≡ suc (partLength 10 bs + 1) = omega arith in
     let w = ih (acc ++ b ∷ []) (omega arith) in
-    (w .0 ∙ rw (e, append-assoc acc (b ∷ []) (take (wordEnd bs) bs)), w .1 ∙ rw e)
+    (w .0 ∙ rw (e, append-assoc acc (b ∷ []) (take (partLength 10 bs) bs)), w .1 ∙ rw e)
 
-words-ended : (acc bs : List ℕ) → wordEnd bs < length bs → Ended acc (wordsFrom acc bs) (restFrom acc bs) bs (wordEnd bs)
-unfolding wordsFrom restFrom wordEnd
+words-ended : (acc bs : List ℕ) → partLength 10 bs < length bs → Ended acc (wordsFrom acc bs) (restFrom acc bs) bs (partLength 10 bs)
+unfolding wordsFrom restFrom partLength
 words-ended acc [] h = absurd (omega arith)
 words-ended acc (b ∷ bs) h = ended-step acc b bs (eqb b 10) h (λ acc g. words-ended acc bs g)
 
-open-step : (acc : List ℕ) (b : ℕ) (bs : List ℕ) (t : Bool) → suc (length bs) ≤ cond t 0 (suc (wordEnd bs)) →
-    ((acc : List ℕ) → length bs ≤ wordEnd bs → (wordsFrom acc bs ≡ []) × (restFrom acc bs ≡ acc ++ bs)) →
+open-step : (acc : List ℕ) (b : ℕ) (bs : List ℕ) (t : Bool) → suc (length bs) ≤ cond t 0 (suc (partLength 10 bs)) →
+    ((acc : List ℕ) → length bs ≤ partLength 10 bs → (wordsFrom acc bs ≡ []) × (restFrom acc bs ≡ acc ++ bs)) →
     (cond t (acc ∷ wordsFrom [] bs) (wordsFrom (acc ++ b ∷ []) bs) ≡ []) × (cond t (restFrom [] bs) (restFrom (acc ++ b ∷ []) bs) ≡ acc ++ b ∷ bs)
 open-step acc b bs true h ih = absurd (omega arith)
 open-step acc b bs false h ih = let w = ih (acc ++ b ∷ []) (omega arith) in (w .0, w .1 ∙ append-assoc acc (b ∷ []) bs)
 
-words-open : (acc bs : List ℕ) → length bs ≤ wordEnd bs → (wordsFrom acc bs ≡ []) × (restFrom acc bs ≡ acc ++ bs)
-unfolding wordsFrom restFrom wordEnd
+words-open : (acc bs : List ℕ) → length bs ≤ partLength 10 bs → (wordsFrom acc bs ≡ []) × (restFrom acc bs ≡ acc ++ bs)
+unfolding wordsFrom restFrom partLength
 words-open acc [] h = (refl, sym (append-nil acc))
 words-open acc (b ∷ bs) h = open-step acc b bs (eqb b 10) h (λ acc g. words-open acc bs g)
 
-module _ (bytes : List ℕ) {start end : ℕ} (is : end ≡ start + wordEnd (drop start bytes)) where
+module _ (bytes : List ℕ) {start end : ℕ} (is : end ≡ start + partLength 10 (drop start bytes)) where
   -- the word that starts at start, and those behind it
   pub next-word : start ≤ length bytes → end < length bytes →
       (wordsFrom [] (drop start bytes) ≡ take (end - start) (drop start bytes) ∷ wordsFrom [] (drop (end + 1) bytes))
       × (restFrom [] (drop start bytes) ≡ restFrom [] (drop (end + 1) bytes))
   next-word g h =
       let bs = drop start bytes in
-      let e : wordEnd bs ≡ end - start = omega arith in
+      let e : partLength 10 bs ≡ end - start = omega arith in
       let f : start + (end - start + 1) ≡ end + 1 = omega arith in
       let w = words-ended [] bs (omega (arith, length-drop start bytes)) in
       (w .0 ∙ rw (e, drop-drop (end - start + 1) start bytes, f), w .1 ∙ rw (e, drop-drop (end - start + 1) start bytes, f))
@@ -170,7 +156,7 @@ module _ {bytes : List ℕ} {prior priorEnd start count : ℕ} (at : Passing byt
       let o : one-if-any (restOf bytes) ≡ 0 = rw (← r) in
       (first-none-is (badLent ws) (wordTotal bytes) (λ j k. at .good j (omega arith)), omega (arith, at .seen))
 
-  module _ {end : ℕ} (is : end ≡ start + wordEnd (drop start bytes)) where
+  module _ {end : ℕ} (is : end ≡ start + partLength 10 (drop start bytes)) where
     abbrev word : List ℕ
     word = take (end - start) (drop start bytes)
 

@@ -2,15 +2,16 @@
 use Prim.Native.Nat.{ℕ}
 use mathlib.Core.Path.{_≡_}
 use mathlib.Core.Bool.{cond}
-use mathlib.Core.List.{List, _++_}
+use mathlib.Core.List.{List}
 use lib.Dec.{leb, ltb}
-use lib.ListN.{length, drop}
+use lib.ListN.{length}
 use Rattle.limits.specs.Limits.{indexMax, recordMax}
 use Rattle.refusal.specs.declared.Found.{Found}
 use Rattle.refusal.specs.declared.Found.the-variants.{At, Nowhere}
 use Rattle.refusal.specs.declared.Refusal.{Refusal}
 use Rattle.refusal.specs.declared.Refusal.the-variants.{BuildWord, BuildCount, BuildSize, Number, Room}
 use Rattle.refusal.specs.First.{first}
+use Rattle.list.specs.Front.{inFront}
 use Rattle.list.specs.declared.Written.{Written}
 use Rattle.list.specs.declared.Written.the-variants as written
 use Rattle.index.specs.declared.Checked.{Checked}
@@ -23,15 +24,19 @@ use Rattle.layout.specs.Layout.{indexOf}
 abbrev pub badWords : List ℕ → Found
 badWords words = first (badLent (lentWords words)) (wordTotal words)
 
--- Reference 9.1, row 18: the first bad count, or the word count
-abbrev pub badCounts : List ℕ → List ℕ → List ℕ → Found
-badCounts words counts numbers =
-    badPlace (first (badCount counts (length numbers)) (length (lentWords words))) (badRest counts (length numbers) (length (lentWords words)))
-    (length (lentWords words))
+-- Reference 9.1, row 18: the first bad count of so many words, or the word count, where so many numbers are lent
+abbrev pub countFault : List ℕ → ℕ → ℕ → Found
+countFault counts total words = badPlace (first (badCount counts total) words) (badRest counts total words) words
 
--- Reference 9.1, row 15: the first bad number among all
+abbrev pub badCounts : List ℕ → List ℕ → List ℕ → Found
+badCounts words counts numbers = countFault counts (length numbers) (length (lentWords words))
+
+-- Reference 9.1, row 15: the first bad number among all, where there are so many words
+abbrev pub numberFault : ℕ → List ℕ → ℕ → List ℕ → Found
+numberFault n counts words numbers = first (badListed n counts words numbers) (length numbers)
+
 abbrev pub badNumbers : ℕ → List ℕ → List ℕ → List ℕ → Found
-badNumbers n words counts numbers = first (badListed n counts (length (lentWords words)) numbers) (length numbers)
+badNumbers n words counts numbers = numberFault n counts (length (lentWords words)) numbers
 
 -- Reference 9.2: a fault is refused, or what comes next is asked
 abbrev pub faultThen : (ℕ → Refusal) → Found → Checked → Checked
@@ -67,7 +72,7 @@ buildOf n words counts numbers room =
 
 -- Reference 7: what the lent bytes hold then
 abbrev pub bytesAfter : Written → List ℕ → List ℕ → List ℕ
-bytesAfter (written.Wrote size) index out = index ++ drop size out
+bytesAfter (written.Wrote size) index out = inFront index out
 bytesAfter (written.Refused r) index out = out
 
 -- Reference 8.9: the promise of a build

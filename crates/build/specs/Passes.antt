@@ -1,9 +1,8 @@
 -- What the passes of a build answer and hold, each by the definitions that the build goes by.
-use Prim.Native.Nat.{ℕ, suc, _+_, _-_, _*_, _≤_, _<_}
+use Prim.Native.Nat.{ℕ, _+_, _-_, _*_, _≤_, _<_}
 use mathlib.Core.Path.{_≡_}
-use mathlib.Core.Bool.{false, cond}
-use mathlib.Core.List.{List, [], _∷_}
-use lib.Dec.{eqb}
+use mathlib.Core.Bool.{false}
+use mathlib.Core.List.{List}
 use lib.ListN.{length, getD}
 use lib.Seq.{sets}
 use Rattle.limits.specs.Limits.{indexMax, recordMax, wordsMax}
@@ -16,28 +15,14 @@ use Rattle.build.specs.declared.words.Words.{Words}
 use Rattle.build.specs.declared.words.Words.the-variants.{Counted, Bad}
 use Rattle.layout.specs.declared.entry.Spots.{Spots}
 use Rattle.index.specs.declared.Checked.the-variants.{Good}
-use Rattle.index.specs.Check.{badPlace}
-use Rattle.build.specs.Lent.{lentWords, sumTo, badCount, badRest, badListed, listsFrom}
+use Rattle.build.specs.Lent.{lentWords, sumTo, badCount, badRest, listsFrom}
 use Rattle.build.specs.Build.{lentOf, indexFrom}
 use Rattle.layout.specs.Layout.{listsBytes, wordsBytes, directoryBytes}
-
--- how many bytes stand before the first byte 10
-unfoldable pub wordEnd : List ℕ → ℕ
-wordEnd [] = 0
-wordEnd (b ∷ bs) = cond (eqb b 10) 0 (suc (wordEnd bs))
 
 -- the first bad word, or how many words there are
 abbrev pub wordsAnswer : Found → ℕ → Words
 wordsAnswer (At i) count = Bad i
 wordsAnswer Nowhere count = Counted count
-
--- Reference 9.1, row 18: the first bad count of so many words, or how many words there are
-abbrev pub countFault : List ℕ → ℕ → ℕ → Found
-countFault counts total words = badPlace (first (badCount counts total) words) (badRest counts total words) words
-
--- Reference 9.1, row 15: the first bad number, where each count has its word
-abbrev pub numberFault : ℕ → List ℕ → List ℕ → Found
-numberFault n counts numbers = first (badListed n counts (length counts) numbers) (length numbers)
 
 -- every count is good, and they take all numbers
 pub record Fair (counts : List ℕ) (total : ℕ) : Type 0 where

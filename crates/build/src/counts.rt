@@ -1,6 +1,6 @@
 // The counts of records, one for each word.
 ghost use mathlib.Core.Path.{_≡_};
-ghost use Rattle.build.specs.Passes.{countFault};
+ghost use Rattle.build.specs.Build.{countFault};
 use refusal::Found;
 
 // Reference 9.1, row 18: the first bad count, or the word count.

@@ -4,30 +4,14 @@ ghost use Prim.Native.Nat.{_+_, _≤_};
 ghost use lib.ListN.{length, drop};
 ghost use Rattle.build.specs.Lent.{lentWords};
 ghost use Rattle.build.specs.Build.{badWords};
-ghost use Rattle.build.specs.Passes.{wordEnd, wordsAnswer};
+ghost use Rattle.build.specs.Passes.{wordsAnswer};
 use limits::WORDS_MAX;
+use parts::part_end;
 
 // How many words there are, or the first bad one.
 pub enum Words {
     Counted(usize),
     Bad(usize),
-}
-
-// Where the word that starts at `start` ends: at the next byte 10, or behind all bytes.
-pub fn word_end(words: &[u8], start: usize) -> usize
-    requires { ⌜ start ≤ length (now words) ⌝ }
-    ensures is { λ r. ⌜ r ≡ start + wordEnd (drop start (now (words .entry))) ⌝ }
-    ensures forward { λ r. ⌜ start ≤ r ⌝ }
-    ensures within { λ r. ⌜ r ≤ length (now (words .entry)) ⌝ }
-{
-    let mut end = start;
-    while end < words.len() {
-        if words[end] == 10 {
-            return end;
-        }
-        end += 1;
-    }
-    end
 }
 
 // One pass over the words, with where the one before stands.
@@ -39,7 +23,7 @@ pub fn check_words(words: &[u8]) -> Words
     let mut start = 0;
     let mut count = 0;
     while start < words.len() {
-        let end = word_end(words, start);
+        let end = part_end(words, start, b'\n');
         if end == words.len() {
             return Words::Bad(count);
         }

@@ -8,10 +8,10 @@ ghost use Rattle.build.specs.Lent.{lentWords, listsFrom};
 ghost use Rattle.layout.specs.Layout.{listsBytes};
 ghost use Rattle.build.specs.Build.{indexFrom};
 ghost use Rattle.build.specs.Passes.{GoodLent, Lists, lentEntered, AllWithin};
-use crate::words::word_end;
 use layout::cells::put_five;
 use layout::entry::Spots;
 use layout::entry::write_word;
+use parts::part_end;
 
 // Writes all words with their lists.
 fn write_words(out: &mut [u8], from: Spots, words: &[u8], counts: &[u32], numbers: &[u32])
@@ -25,7 +25,7 @@ fn write_words(out: &mut [u8], from: Spots, words: &[u8], counts: &[u32], number
     let mut first = 0;
     let mut i = 0;
     while i < counts.len() {
-        let end = word_end(words, start);
+        let end = part_end(words, start, b'\n');
         let last = first + counts[i] as usize;
         at = write_word(out, at, &words[start..end], &numbers[first..last]);
         start = end + 1;

@@ -26,15 +26,10 @@ abbrev pub closed : Bool → ℕ → ℕ → List ℕ → List ℕ
 closed true l u r = r
 closed false l u r = l ∷ u ∷ r
 
--- where the stretch starts that x belongs to: at l if it goes on, else at x
-abbrev pub startOf : Bool → ℕ → ℕ → ℕ
-startOf true l x = l
-startOf false l x = x
-
 -- the cells of the stretch from l to u that is open, and of the numbers after it
 unfoldable pub runsFrom : ℕ → ℕ → List ℕ → List ℕ
 runsFrom l u [] = l ∷ u ∷ []
-runsFrom l u (x ∷ xs) = closed (eqb x (u + 1)) l u (runsFrom (startOf (eqb x (u + 1)) l x) x xs)
+runsFrom l u (x ∷ xs) = closed (eqb x (u + 1)) l u (runsFrom (cond (eqb x (u + 1)) l x) x xs)
 
 -- the cells of the numbers
 unfoldable pub runs : List ℕ → List ℕ
@@ -59,7 +54,7 @@ breaks-end u xs i h = rw (drop-none xs i h)
 
 runsFrom-at : (l u : ℕ) (xs : List ℕ) (i : ℕ) → i < length xs →
     runsFrom l u (drop i xs) ≡ closed (eqb (getD xs i 0) (u + 1)) l u
-    (runsFrom (startOf (eqb (getD xs i 0) (u + 1)) l (getD xs i 0)) (getD xs i 0) (drop (i + 1) xs))
+    (runsFrom (cond (eqb (getD xs i 0) (u + 1)) l (getD xs i 0)) (getD xs i 0) (drop (i + 1) xs))
 unfolding runsFrom
 runsFrom-at l u xs i h = rw (drop-next xs i h)
 
@@ -87,7 +82,7 @@ runs-none (x ∷ xs) h = absurd (omega arith)
 -- ---- how many cells
 
 cells-step : (l u x : ℕ) (xs : List ℕ) (t : Bool) → ((l : ℕ) → length (runsFrom l x xs) ≡ 2 * (1 + breaks x xs)) →
-    length (closed t l u (runsFrom (startOf t l x) x xs)) ≡ 2 * (1 + (cond t 0 1 + breaks x xs))
+    length (closed t l u (runsFrom (cond t l x) x xs)) ≡ 2 * (1 + (cond t 0 1 + breaks x xs))
 cells-step l u x xs true ih = omega (arith, ih l)
 cells-step l u x xs false ih = omega (arith, ih x)
 
@@ -106,7 +101,7 @@ runs-count xs h =
 
 proper-step : (n k l u x : ℕ) (xs : List ℕ) (t : Bool) → eqb x (u + 1) ≡ t → k ≤ l → l ≤ u → u ≤ n → u < x →
     ((k l : ℕ) → k ≤ l → l ≤ x → ProperFrom n k (runsFrom l x xs)) →
-    ProperFrom n k (closed t l u (runsFrom (startOf t l x) x xs))
+    ProperFrom n k (closed t l u (runsFrom (cond t l x) x xs))
 proper-step n k l u x xs true e a b d q ih = ih k l a (omega arith)
 proper-step n k l u x xs false e a b d q ih =
     let ne = eqb-false x (u + 1) e in
@@ -140,7 +135,7 @@ one-more l u x b =
 
 names-step : (l u x y : ℕ) (xs : List ℕ) (t : Bool) → eqb y (u + 1) ≡ t → l ≤ u →
     ((l : ℕ) → l ≤ y → names (runsFrom l y xs) x ≡ leb l x && leb x y || among xs x) →
-    names (closed t l u (runsFrom (startOf t l y) y xs)) x ≡ leb l x && leb x u || (eqb x y || among xs x)
+    names (closed t l u (runsFrom (cond t l y) y xs)) x ≡ leb l x && leb x u || (eqb x y || among xs x)
 unfolding names
 names-step l u x y xs true e b ih =
     let q = eqb-true y (u + 1) e in

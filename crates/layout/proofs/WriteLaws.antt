@@ -14,7 +14,7 @@ use Rattle.laws.proofs.Lists.{drop-next, drop-none, sets-append, sets-front}
 use Rattle.laws.proofs.Parts.{tail-written}
 use Rattle.list.specs.Ginix.{one}
 use Rattle.list.specs.Front.{inFront}
-use Rattle.convert.proofs.RunLaws.{closed, startOf, runsFrom, runs, runs-at}
+use Rattle.convert.proofs.RunLaws.{closed, runsFrom, runs, runs-at}
 use Rattle.layout.specs.declared.kept.Places.{Places}
 use Rattle.layout.specs.declared.entry.Spots.{Spots}
 use Rattle.layout.specs.Layout.{cellBytes, cellsBytes, cellSingles, cellLowers, cellUppers, keptBytes, cellsIn, listsBytes, wordsBytes, entryBytes, directoryBytes}
@@ -199,7 +199,7 @@ broke-off false k = omega arith
 
 pairs-step : (l u x : ℕ) (xs : List ℕ) (t : Bool) → eqb x (u + 1) ≡ t → l ≤ u →
     ((l : ℕ) → l ≤ x → length (cellLowers (runsFrom l x xs)) ≡ 1 - one (eqb l x) + pairsFrom (one (eqb l x)) x xs) →
-    length (cellLowers (closed t l u (runsFrom (startOf t l x) x xs)))
+    length (cellLowers (closed t l u (runsFrom (cond t l x) x xs)))
     ≡ 1 - one (eqb l u) + (one (ltb (cond t 0 1) (one (eqb l u))) + pairsFrom (cond t 0 1) x xs)
 unfolding cellLowers
 pairs-step l u x xs true e h ih =

@@ -7,7 +7,6 @@ use native.Mathlib.Omega.{arith}
 use lib.Dec.{eqb}
 use lib.ListN.{length, getD, take, drop, length-drop}
 use lib.Seq.{drop-drop, length-take-le}
-use Rattle.io.specs.Counts.{Counts}
 use Rattle.laws.proofs.Lists.{drop-next, drop-none}
 use Rattle.parts.specs.Part.{partLength, onto, partsOf}
 
@@ -55,5 +54,5 @@ unfolding partsOf
 parts-none b xs from h = rw (drop-none xs from h)
 
 -- a number of bytes that there are is the length of the part in front
-pub counts-within : (n : ℕ) (bytes : List ℕ) → n ≤ length bytes → Counts n bytes
+pub counts-within : (n : ℕ) (bytes : List ℕ) → n ≤ length bytes → (n ≤ length bytes) × (n ≡ length (take n bytes))
 counts-within n bytes h = (h, sym (length-take-le n bytes h))

@@ -1,4 +1,4 @@
-// Parts of bytes, each of which ends before a byte b: the lines of an input, and the fields of a line.
+// Parts of bytes, each of which ends before a byte b: the lines of an input, the fields of a line, the words that are lent to a build.
 ghost use mathlib.Core.Path.{_≡_};
 ghost use Prim.Native.Nat.{_+_, _≤_, max};
 ghost use lib.ListN.{length, drop};

@@ -22,7 +22,7 @@ use Rattle.merge.specs.Put.{Fitting, Put, PutWhere, upTo}
 use Rattle.merge.proofs.EveryLaws.{every-out}
 use Rattle.merge.proofs.ListsLaws.{lists-next, lists-end}
 use Rattle.merge.specs.Every.{inAll}
-use Rattle.probing.specs.Probing.{cellsBetween, PiecesFit, PiecesPut, StandsIn, closes, lowerOn}
+use Rattle.probing.specs.Probing.{cellsBetween, PiecesFit, PiecesPut, StandsIn, closes}
 
 -- ---- a list with the fewest intervals of those below j
 
@@ -171,14 +171,14 @@ pending p b o l x = consIf o l (stretches p o x (b + 1 - x))
 abbrev closed : Bool → ℕ → ℕ → List ℕ → List ℕ
 closed test l x c = cond test (l ∷ (x - 1) ∷ c) c
 
-pending-turn : (o v : Bool) (l x : ℕ) (r : List ℕ) → consIf o l (turned o v x r) ≡ closed (closes o v) l x (consIf v (lowerOn o l x) r)
+pending-turn : (o v : Bool) (l x : ℕ) (r : List ℕ) → consIf o l (turned o v x r) ≡ closed (closes o v) l x (consIf v (cond o l x) r)
 pending-turn false false l x r = refl
 pending-turn false true l x r = refl
 pending-turn true false l x r = refl
 pending-turn true true l x r = refl
 
 pending-next : (p : ℕ → Bool) (b : ℕ) (o v : Bool) (l x u : ℕ) → Steady p x v u → u ≤ b + 1 →
-    pending p b o l x ≡ closed (closes o v) l x (pending p b v (lowerOn o l x) u)
+    pending p b o l x ≡ closed (closes o v) l x (pending p b v (cond o l x) u)
 pending-next p b o v l x u s h =
     rw (stretches-on p o v b x u (s .later) h (s .same)) (pending-turn o v l x (stretches p v u (b + 1 - u)))
 
@@ -211,12 +211,12 @@ module _ {p : ℕ → Bool} {a b : ℕ} {writing : Bool} {out₀ : List ℕ} {t�
 
   pub cut-fits : {v : Bool} {u : ℕ} → b ≤ recordMax → PiecesFit writing out₀ t₀ (cellsBetween p a b) → Steady p x v u → u ≤ b + 1 → closes o v ≡ true →
       Fitting writing out t (upTo l x)
-  cut-fits {v} {u} m f s h = part-fits v (pending p b v (lowerOn o l x) u) m f (pending-next p b o v l x u s h)
+  cut-fits {v} {u} m f s h = part-fits v (pending p b v (cond o l x) u) m f (pending-next p b o v l x u s h)
 
   pub cut-end-fits : b ≤ recordMax → PiecesFit writing out₀ t₀ (cellsBetween p a b) → b < x → closes o false ≡ true → Fitting writing out t (upTo l x)
   cut-end-fits m f h = part-fits false [] m f (pending-end p b o l x h)
 
-  begun-next : (o v : Bool) (u : ℕ) → (o ≡ true → l < x) → x < u → v ≡ true → lowerOn o l x < u
+  begun-next : (o v : Bool) (u : ℕ) → (o ≡ true → l < x) → x < u → v ≡ true → cond o l x < u
   begun-next true v u f h e = let g = f refl in omega arith
   begun-next false v u f h e = h
 
@@ -229,14 +229,14 @@ module _ {p : ℕ → Bool} {a b : ℕ} {writing : Bool} {out₀ : List ℕ} {t�
       (λ k. rw (q .1 k .0, q .1 k .1) (rw (e, k) at (c .left)))
 
   pub cut-next : {v : Bool} {u : ℕ} {out′ : List ℕ} {t′ : Tally} → Steady p x v u → u ≤ b + 1 → PutWhere (closes o v) writing out out′ t (upTo l x) t′ →
-      Cut p a b writing out₀ t₀ out′ t′ v (lowerOn o l x) u
+      Cut p a b writing out₀ t₀ out′ t′ v (cond o l x) u
   cut-next {v} {u} {out′} {t′} s h q =
       let n = c .near in
       let m = s .later in
       record {
         near = (omega arith, h);
         begun = begun-next o v u (c .begun) m;
-        left = left-next v (pending p b v (lowerOn o l x) u) out′ t′ (pending-next p b o v l x u s h) q;
+        left = left-next v (pending p b v (cond o l x) u) out′ t′ (pending-next p b o v l x u s h) q;
       }
 
   pub cut-end : {out′ : List ℕ} {t′ : Tally} → b < x → PutWhere (closes o false) writing out out′ t (upTo l x) t′ →

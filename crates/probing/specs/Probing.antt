@@ -49,8 +49,3 @@ pub record StandsIn (index entries : List ℕ) (j a b : ℕ) : Type 0 where
 -- a piece that is open where x comes ends before x, unless x is in
 abbrev pub closes : Bool → Bool → Bool
 closes opened inside = opened && not inside
-
--- a piece begins at x, where none is open
-abbrev pub lowerOn : Bool → ℕ → ℕ → ℕ
-lowerOn true lower x = lower
-lowerOn false lower x = x

@@ -1,6 +1,6 @@
 // Reference 3.3: the method of probing; each interval of the shortest list is cut down to what stands in every other list.
 ghost use mathlib.Core.Path.{_≡_};
-ghost use mathlib.Core.Bool.{true};
+ghost use mathlib.Core.Bool.{true, cond};
 ghost use Prim.Native.Nat.{_+_, _≤_, _<_};
 ghost use lib.ListN.{length, getD};
 ghost use Rattle.limits.specs.Limits.{recordMax};
@@ -13,7 +13,7 @@ ghost use Rattle.merge.specs.Request.{SoundRequest, listsOf};
 ghost use Rattle.merge.specs.Put.{Fitting, PutWhere, upTo};
 ghost use Rattle.list.specs.Answer.{HasRoom, Sweeps};
 ghost use Rattle.merge.specs.Every.{inAll};
-ghost use Rattle.probing.specs.Probing.{Shortest, PiecesFit, PiecesPut, piecesIn, StandsIn, closes, lowerOn};
+ghost use Rattle.probing.specs.Probing.{Shortest, PiecesFit, PiecesPut, piecesIn, StandsIn, closes};
 use directory::parts::Regions;
 use directory::parts::interval_count;
 use directory::parts::regions_of;
@@ -115,10 +115,10 @@ pub struct Piece {
     pub lower: u32,
 }
 
-// The piece behind x, by whether x is in.
+// The piece behind x, by whether x is in; it begins at x, where none is open.
 fn next_piece(piece: Piece, x: u32, inside: bool) -> Piece
     ensures state { λ r. ⌜ r .open ≡ inside ⌝ }
-    ensures lower { λ r. ⌜ r .lower ≡ lowerOn (piece .open) (piece .lower) x ⌝ }
+    ensures lower { λ r. ⌜ r .lower ≡ cond (piece .open) (piece .lower) x ⌝ }
 {
     if piece.open {
         Piece {

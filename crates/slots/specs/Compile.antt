@@ -1,22 +1,15 @@
 -- A question made ready in one pass over its tokens: its codes, one a token, and an entry number for each word, in its slot.
 use Prim.Native.Nat.{ℕ, _≤_, _<_}
 use mathlib.Core.Path.{_≡_}
-use mathlib.Core.Bool.{Bool, false, cond}
 use mathlib.Core.List.{List, []}
-use lib.Dec.{ltb}
 use lib.ListN.{length, getD, take}
-use Rattle.list.specs.Interval.{names}
-use Rattle.index.specs.Format.{wordCount, listOf}
 use Rattle.directory.specs.Has.{has}
 use Rattle.question.specs.Token.{tokens}
 use Rattle.question.specs.Limits.{tokenWords}
 use Rattle.codes.specs.Code.{codesOf}
-use Rattle.slots.specs.Slots.{slotHas}
+use Rattle.slots.specs.Slots.{entryHas, slotHas}
 
--- an entry number stands for a word: it has the word's records, and one that is no entry's has none
-abbrev pub entryHas : List ℕ → ℕ → ℕ → Bool
-entryHas index e x = cond (ltb e (wordCount index)) (names (listOf index e) x) false
-
+-- an entry number stands for a word: it has the word's records
 abbrev pub StandsFor : List ℕ → List ℕ → ℕ → Type 0
 StandsFor index word e = (x : ℕ) → entryHas index e x ≡ has index word x
 

@@ -12,9 +12,13 @@ use Rattle.index.specs.Sound.{Sound}
 use Rattle.question.specs.Grammar.{Tree, word, pair, part, treeWords}
 use Rattle.question.specs.Meaning.{combine}
 
--- whether the word of slot k stands in record x: an entry number that is no entry's has none
+-- whether record x is in the list of an entry; a number that is no entry's has none
+abbrev pub entryHas : List ℕ → ℕ → ℕ → Bool
+entryHas index e x = cond (ltb e (wordCount index)) (names (listOf index e) x) false
+
+-- whether the word of slot k stands in record x, by the entry that the slot keeps
 unfoldable pub slotHas : List ℕ → List ℕ → ℕ → ℕ → Bool
-slotHas index entries k x = cond (ltb (getD entries k 0) (wordCount index)) (names (listOf index (getD entries k 0)) x) false
+slotHas index entries k x = entryHas index (getD entries k 0) x
 
 -- what slots are read by: a sound index, the entries of 16 slots, and a hint of two numbers for each
 pub record ReadBy (index entries hints : List ℕ) : Type 0 where

@@ -98,6 +98,9 @@ fn main() {
     }
     let mut caller = Caller::new();
     caller.show = options.show;
+    for name in options.only.iter().chain(&options.except) {
+        assert!(FAMILIES.iter().any(|family| family.name == name), "no family is called {name}");
+    }
     let named = |names: &[String], family: &Family| names.iter().any(|name| name == family.name);
     let chosen = |family: &&Family| (options.only.is_empty() || named(&options.only, family)) && !named(&options.except, family);
     for family in FAMILIES.iter().filter(chosen) {

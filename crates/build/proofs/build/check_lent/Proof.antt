@@ -6,7 +6,7 @@ use borrow.Author.Needs.{needs}
 use Rattle.refusal.specs.declared.Found.the-variants.{Nowhere}
 use Rattle.build.specs.Lent.{lentWords}
 use Rattle.build.specs.Build.{badWords}
-use Rattle.build.specs.Passes.{countFault}
+use Rattle.build.specs.Build.{countFault}
 use Rattle.build.proofs.GoodLaws.{words-bad, words-counted, fair-counts, refused-limit, refused-word, refused-count, refused-number, none-refused}
 use Rattle.build.proofs.build.check_lent.Statement.{statement}
 use Rattle.build.proofs.build.check_lent.Tie as tie

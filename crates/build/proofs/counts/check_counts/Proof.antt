@@ -10,7 +10,7 @@ use Rattle.refusal.specs.declared.Found.the-variants.{At, Nowhere}
 use Rattle.refusal.specs.First.{firstFrom, first}
 use Rattle.refusal.proofs.FirstLaws.{first-start, first-hit, first-miss, first-end}
 use Rattle.build.specs.Lent.{sumTo, badCount}
-use Rattle.build.specs.Passes.{countFault}
+use Rattle.build.specs.Build.{countFault}
 use Rattle.build.proofs.CountLaws.{sum-next, count-missing, count-zero, count-past, count-good, rest-surplus, rest-over, rest-none, sum-none}
 use Rattle.build.proofs.counts.check_counts.Statement.{statement}
 use Rattle.build.proofs.counts.check_counts.Tie as tie

@@ -9,7 +9,7 @@ use borrow.Author.Needs.{needs}
 use Rattle.refusal.specs.declared.Found.the-variants.{At}
 use Rattle.refusal.proofs.FirstLaws.{first-at}
 use Rattle.build.specs.Lent.{sumTo, badListed}
-use Rattle.build.specs.Passes.{numberFault}
+use Rattle.build.specs.Build.{numberFault}
 use Rattle.build.proofs.CountLaws.{sum-next, sum-first-none, fair-count, list-hit, list-on, lists-end}
 use Rattle.build.proofs.numbers.check_numbers.Statement.{statement}
 use Rattle.build.proofs.numbers.check_numbers.Tie as tie
@@ -43,7 +43,7 @@ abbrev turn : tie.After-known-told Inv-loop μ-loop → Turn
 turn c = c .before .before .before .before .before .before
 
 hit : (c : tie.After-known-told Inv-loop μ-loop) →
-    numberFault (begin (turn c) .args .n) (now (begin (turn c) .args .counts)) (now (begin (turn c) .args .numbers))
+    numberFault (begin (turn c) .args .n) (now (begin (turn c) .args .counts)) (length (now (begin (turn c) .args .counts))) (now (begin (turn c) .args .numbers))
     ≡ At (turn c .before .loop .start + c .before .bad .given .0 .0)
 hit c =
     let t = turn c in

@@ -30,7 +30,7 @@ loop-holds c = let start = c .before .before .before .before in (refl, enter-sta
 -- ---- the word of the turn
 
 abbrev Turn : Type 0
-Turn = tie.After-word-end Inv-loop μ-loop
+Turn = tie.After-part-end Inv-loop μ-loop
 
 abbrev begin : Turn → tie.Start Inv-loop μ-loop
 begin c = c .before .before .before .before .before .before .before
@@ -43,7 +43,7 @@ write-word-requires : tie.Need-write-word-requires Inv-loop μ-loop
 write-word-requires c κs =
     let t = c .before .before .before .before in
     let at = t .before .before .loop in
-    let end = t .word-end .ensures in
+    let end = t .part-end .ensures in
     let some = t .before .loop-test .taken in
     (list-good (begin t .pre .0) (at .i) some (at .inv .1 .number) refl, rw (at .inv .0) (enter-within (at .inv .1) (end .0) (end .1 .1) refl some))
 
@@ -54,7 +54,7 @@ turn c = c .before .before .before .before .before .before .before
 add-start : tie.Need-add-start Inv-loop μ-loop
 add-start c =
     let t = turn c in
-    let end = t .word-end .ensures in
+    let end = t .part-end .ensures in
     let ended = word-ended (t .before .before .loop .inv .1) (end .0) (end .1 .1) refl (t .before .loop-test .taken) in
     omega arith
 
@@ -62,7 +62,7 @@ loop-again : tie.Need-loop-again Inv-loop μ-loop
 loop-again c =
     let t = turn c in
     let at = t .before .before .loop in
-    let end = t .word-end .ensures in
+    let end = t .part-end .ensures in
     let some = t .before .loop-test .taken in
     let wrote = c .before .before .write-word .ensures in (
       rw (wrote .0) (simp length-sets (at .inv .0)),
