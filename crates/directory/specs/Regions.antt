@@ -4,9 +4,10 @@ use Prim.Native.Nat.{ℕ, _-_, _≤_, _<_}
 use mathlib.Core.List.{List}
 use lib.ListN.{length}
 use Rattle.limits.specs.Limits.{recordMax}
+use Rattle.list.specs.declared.Place.{Place}
 use Rattle.list.specs.Cell.{numbersIn}
 use Rattle.list.specs.Seek.{Ascends}
-use Rattle.list.specs.Reading.{KeptIn}
+use Rattle.list.specs.Reading.{KeptIn, readingPlace}
 use Rattle.index.specs.Format.{wordCount, part, singlesOf, lowerOf, upperOf}
 use Rattle.index.specs.Sound.{Sound}
 use Rattle.directory.specs.declared.parts.Regions.{Regions}
@@ -39,3 +40,7 @@ pub record RegionsOf (index : List ℕ) (i : ℕ) (r : Regions) : Type 0 where
   pub kept : KeptIn recordMax (singlesIn index r) (lowerIn index r) (upperIn index r)
   pub singles-ascend : Ascends (numbersIn (singlesIn index r))
   pub upper-ascend : Ascends (numbersIn (upperIn index r))
+
+-- where the list of entry i is read on for x: behind all that ends before x
+abbrev pub entryPlace : List ℕ → ℕ → ℕ → Place
+entryPlace index i x = readingPlace x (numbersIn (singlesOf index i)) (numbersIn (upperOf index i))

@@ -4,6 +4,7 @@ pub mod entry;
 pub mod find;
 pub mod parts;
 pub mod probe;
+pub mod sense;
 
 // A word's entry number, or the refusal.
 pub enum Lookup {

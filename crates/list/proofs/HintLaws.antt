@@ -8,7 +8,7 @@ use lib.Seq.{getD-set-same, getD-set-other}
 use Rattle.list.specs.declared.Place.{Place}
 use Rattle.list.specs.Hints.{hintAt, withHint}
 
--- what is kept for a slot is what is read for it: neither position can take the other's place
+-- what is kept for a list is what is read for it: neither position can take the other's place
 pub hint-kept : (hints : List ℕ) (k : ℕ) (place : Place) → 2 * k + 1 < length hints → hintAt (withHint hints k place) k ≡ place
 hint-kept hints k place h =
     rw (

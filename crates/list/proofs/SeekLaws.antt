@@ -64,6 +64,11 @@ module _ (region : List ℕ) (x i v : ℕ) (up : Ascends (numbersIn region)) (h 
   pub region-under : x ≤ v → countBelow x (numbersIn region) ≤ i
   region-under g = count-under 0 x (numbersIn region) up i (omega (arith, numbersIn-length region)) (omega arith)
 
+  pub region-past : ltb v x ≡ ltb i (countBelow x (numbersIn region))
+  region-past =
+      leb-cases x v (λ g. rw (le-ltb v x g, le-ltb i (countBelow x (numbersIn region)) (region-under g)))
+      (λ g. rw (lt-ltb v x g, lt-ltb i (countBelow x (numbersIn region)) (region-over g)))
+
 pub region-within : (region : List ℕ) (x : ℕ) → countBelow x (numbersIn region) ≤ length region / 4
 region-within region x = omega (arith, numbersIn-length region, count-length x (numbersIn region))
 

@@ -1,6 +1,7 @@
 // How many numbers of an ascending region lie below x.
 ghost use mathlib.Core.Path.{_≡_};
 ghost use Prim.Native.Nat.{_/_, _≤_};
+ghost use lib.Dec.{ltb};
 ghost use lib.ListN.{length};
 ghost use Rattle.list.specs.Cell.{numbersIn};
 ghost use Rattle.list.specs.Seek.{countBelow, Ascends};
@@ -54,28 +55,32 @@ pub fn count_below(region: &[u8], from: usize, x: u32) -> usize
     halve(region, lo, hi, x)
 }
 
-// The hint, where one comparison tells that it is not past the count, or 0.
-fn not_past(region: &[u8], hint: usize, x: u32) -> usize
+// Whether the count is past i: there is a number i, and it is below x.
+fn past(region: &[u8], i: usize, x: u32) -> bool
     requires { ⌜ Ascends (numbersIn (now region)) ⌝ }
-    ensures { λ r. ⌜ r ≤ countBelow x (numbersIn (now (region .entry))) ⌝ }
+    ensures { λ r. ⌜ r ≡ ltb i (countBelow x (numbersIn (now (region .entry)))) ⌝ }
 {
-    if hint == 0 {
-        return 0;
+    if i < region.len() / 4 {
+        number_at(region, i) < x
+    } else {
+        false
     }
-    if region.len() / 4 < hint {
-        return 0;
-    }
-    if number_at(region, hint - 1) < x {
-        return hint;
-    }
-    0
 }
 
-// The count from any hint.
+// The count from any hint: from behind it, where the count is past it; the hint itself, where the count is past the number in front of it only.
 pub fn seek(region: &[u8], hint: usize, x: u32) -> usize
     requires { ⌜ Ascends (numbersIn (now region)) ⌝ }
     ensures is { λ r. ⌜ r ≡ countBelow x (numbersIn (now (region .entry))) ⌝ }
     ensures within { λ r. ⌜ r ≤ length (now (region .entry)) / 4 ⌝ }
 {
-    count_below(region, not_past(region, hint, x), x)
+    if past(region, hint, x) {
+        return count_below(region, hint + 1, x);
+    }
+    if hint == 0 {
+        return 0;
+    }
+    if past(region, hint - 1, x) {
+        return hint;
+    }
+    count_below(region, 0, x)
 }

@@ -1,14 +1,13 @@
 // Reference 3.3: the method of probing; each interval of the shortest list is cut down to what stands in every other list.
 ghost use mathlib.Core.Path.{_≡_};
 ghost use mathlib.Core.Bool.{true, cond};
-ghost use Prim.Native.Nat.{_+_, _≤_, _<_};
+ghost use Prim.Native.Nat.{_+_, _*_, _≤_, _<_};
 ghost use lib.ListN.{length, getD};
 ghost use Rattle.limits.specs.Limits.{recordMax};
 ghost use Rattle.list.specs.Ginix.{intersectionOf};
 ghost use Rattle.list.specs.Interval.{names};
 ghost use Rattle.list.specs.Sense.{Steady};
 ghost use Rattle.index.specs.Format.{listOf};
-ghost use Rattle.directory.specs.Regions.{EntryIn};
 ghost use Rattle.merge.specs.Request.{SoundRequest, listsOf};
 ghost use Rattle.merge.specs.Put.{Fitting, PutWhere, upTo};
 ghost use Rattle.list.specs.Answer.{HasRoom, Sweeps};
@@ -17,16 +16,16 @@ ghost use Rattle.probing.specs.Probing.{Shortest, PiecesFit, PiecesPut, 
 use directory::parts::Regions;
 use directory::parts::interval_count;
 use directory::parts::regions_of;
+use directory::sense::sense_in;
 use list::PairAt;
 use list::Place;
 use list::SingleAt;
 use list::answer::Tally;
+use list::hints::HINTS;
 use list::reading::Interval;
 use list::reading::interval_at;
 use list::reading::next_place;
-use list::reading::reading_place;
 use list::sense::Sense;
-use list::sense::sense_at;
 use list::sense::smaller;
 use merge::put::put;
 
@@ -49,29 +48,22 @@ fn shortest(index: &[u8], entries: &[u32]) -> usize
     best
 }
 
-// What the list of an entry says of x, and how long it says so: by binary search.
-fn sense_in(index: &[u8], entry: usize, x: u32) -> Sense
-    requires entry { ⌜ EntryIn (now index) entry ⌝ }
-    requires high { ⌜ x ≤ recordMax ⌝ }
-    ensures { λ r. ⌜ Steady (names (listOf (now (index .entry)) entry)) x (r .inside) (r .until) ⌝ }
-{
-    let Regions { s, l, u, end } = regions_of(index, entry);
-    let singles = &index[s..l];
-    let upper = &index[u..end];
-    let start = Place {
-        p: SingleAt(0),
-        q: PairAt(0),
-    };
-    let at = reading_place(singles, upper, start, x);
-    sense_at(singles, &index[l..u], upper, at, x)
-}
-
-// The same of list k of a request, where [x, b] is known to stand in list j: that one is not searched.
-fn sense_of(index: &[u8], entries: &[u32], j: usize, k: usize, x: u32, b: u32) -> Sense
+// What list k of a request says of x, and how long it says so, where [x, b] is known to stand in list j: that one is not searched.
+fn sense_of(
+    index: &[u8],
+    entries: &[u32],
+    j: usize,
+    k: usize,
+    x: u32,
+    b: u32,
+    hints: &mut [usize],
+) -> Sense
     requires within { ⌜ StandsIn (now index) (now entries) j x b ⌝ }
     requires order { ⌜ x ≤ b ⌝ }
     requires list { ⌜ k < length (now entries) ⌝ }
-    ensures { λ r. ⌜ Steady (names (listOf (now (index .entry)) (getD (now (entries .entry)) k 0))) x (r .inside) (r .until) ⌝ }
+    requires hints { ⌜ 2 * length (now entries) ≤ length (now hints) ⌝ }
+    ensures keeps { λ r. ⌜ length (now (hints .exit)) ≡ length (now (hints .entry)) ⌝ }
+    ensures steady { λ r. ⌜ Steady (names (listOf (now (index .entry)) (getD (now (entries .entry)) k 0))) x (r .inside) (r .until) ⌝ }
 {
     if k == j {
         return Sense {
@@ -79,21 +71,23 @@ fn sense_of(index: &[u8], entries: &[u32], j: usize, k: usize, x: u32, b: u32) -
             until: b + 1,
         };
     }
-    sense_in(index, entries[k] as usize, x)
+    sense_in(index, entries[k] as usize, x, k, hints)
 }
 
 // Probes [x, b], which stands in list j, in every list: whether x is in all of them, and up to where that stays so, within the probe.
 // The first list that x is not in decides.
-fn probe(index: &[u8], entries: &[u32], j: usize, x: u32, b: u32) -> Sense
+fn probe(index: &[u8], entries: &[u32], j: usize, x: u32, b: u32, hints: &mut [usize]) -> Sense
     requires within { ⌜ StandsIn (now index) (now entries) j x b ⌝ }
     requires order { ⌜ x ≤ b ⌝ }
+    requires hints { ⌜ 2 * length (now entries) ≤ length (now hints) ⌝ }
+    ensures keeps { λ r. ⌜ length (now (hints .exit)) ≡ length (now (hints .entry)) ⌝ }
     ensures steady { λ r. ⌜ Steady (inAll (now (index .entry)) (now (entries .entry))) x (r .inside) (r .until) ⌝ }
     ensures near { λ r. ⌜ r .until ≤ b + 1 ⌝ }
 {
     let mut until = b + 1;
     let mut k = 0;
     while k < entries.len() {
-        let sense = sense_of(index, entries, j, k, x, b);
+        let sense = sense_of(index, entries, j, k, x, b, hints);
         if !sense.inside {
             return Sense {
                 inside: false,
@@ -165,14 +159,17 @@ fn put_within(
     entries: &[u32],
     j: usize,
     within: Interval,
+    hints: &mut [usize],
     writing: bool,
     out: &mut [u32],
     before: Tally,
 ) -> Tally
     requires within { ⌜ StandsIn (now index) (now entries) j (within .lower) (within .upper) ⌝ }
     requires order { ⌜ within .lower ≤ within .upper ⌝ }
+    requires hints { ⌜ 2 * length (now entries) ≤ length (now hints) ⌝ }
     requires fits { ⌜ PiecesFit writing (now out) before (piecesIn (now index) (now entries) within) ⌝ }
-    ensures { λ r. ⌜ PiecesPut writing (now (out .entry)) (now (out .exit)) before (piecesIn (now (index .entry)) (now (entries .entry)) within) r ⌝ }
+    ensures keeps { λ r. ⌜ length (now (hints .exit)) ≡ length (now (hints .entry)) ⌝ }
+    ensures puts { λ r. ⌜ PiecesPut writing (now (out .entry)) (now (out .exit)) before (piecesIn (now (index .entry)) (now (entries .entry)) within) r ⌝ }
 {
     let b = within.upper;
     let mut x = within.lower;
@@ -182,7 +179,7 @@ fn put_within(
         lower: x,
     };
     while x <= b {
-        let sense = probe(index, entries, j, x, b);
+        let sense = probe(index, entries, j, x, b, hints);
         tally = close_piece(out, writing, tally, piece, x, sense.inside);
         piece = next_piece(piece, x, sense.inside);
         x = sense.until;
@@ -190,7 +187,8 @@ fn put_within(
     close_piece(out, writing, tally, piece, x, false)
 }
 
-// Counts, and writes, the intersection of the lists of a request: the shortest is walked, and each of its intervals is probed in the others.
+// Counts, and writes, the intersection of the lists of a request: the shortest is walked, and each of its intervals is probed in the others, forward
+// from where each was read last.
 pub fn sweep_probing(index: &[u8], entries: &[u32], writing: bool, out: &mut [u32]) -> Tally
     requires sound { ⌜ SoundRequest (now index) (now entries) ⌝ }
     requires room { ⌜ HasRoom (intersectionOf (listsOf (now index) (now entries))) writing (now out) ⌝ }
@@ -203,6 +201,7 @@ pub fn sweep_probing(index: &[u8], entries: &[u32], writing: bool, out: &mut [u3
     let lower = &index[l..u];
     let upper = &index[u..end];
     let count = singles.len() / 4 + lower.len() / 4;
+    let mut hints: [usize; HINTS] = [0; HINTS];
     let mut at = Place {
         p: SingleAt(0),
         q: PairAt(0),
@@ -214,7 +213,7 @@ pub fn sweep_probing(index: &[u8], entries: &[u32], writing: bool, out: &mut [u3
     let mut i = 0;
     while i < count {
         let within = interval_at(singles, lower, upper, at);
-        tally = put_within(index, entries, j, within, writing, out, tally);
+        tally = put_within(index, entries, j, within, &mut hints, writing, out, tally);
         at = next_place(singles, lower, at);
         i += 1;
     }

@@ -6,15 +6,10 @@ ghost use Rattle.limits.specs.Limits.{questionWordsMax, recordMax};
 ghost use Rattle.list.specs.Sense.{Steady};
 ghost use Rattle.slots.specs.Slots.{slotHas, ReadBy};
 ghost use Rattle.senses.specs.Senses.{untilOf, insideOf, inIt, Sensed, Known, Renewed};
-use directory::parts::Regions;
-use directory::parts::regions_of;
+use directory::sense::sense_in;
 use index::trailer::word_count;
 use list::END;
-use list::hints::hint_of;
-use list::hints::keep_hint;
-use list::reading::reading_place;
 use list::sense::Sense;
-use list::sense::sense_at;
 
 // What the word of slot k says of record x; its hint keeps where the list is read on.
 fn look_slot(index: &[u8], entries: &[usize], k: usize, x: u32, hints: &mut [usize]) -> Sense
@@ -31,12 +26,9 @@ fn look_slot(index: &[u8], entries: &[usize], k: usize, x: u32, hints: &mut [usi
             until: END,
         };
     }
-    let Regions { s, l, u, end } = regions_of(index, entry);
-    let singles = &index[s..l];
-    let upper = &index[u..end];
-    let at = reading_place(singles, upper, hint_of(hints, k), x);
-    keep_hint(hints, k, at);
-    sense_at(singles, &index[l..u], upper, at, x)
+    // By its fields: handed on whole, a sense is packed into one number and taken apart again, at each look.
+    let Sense { inside, until } = sense_in(index, entry, x, k, hints);
+    Sense { inside, until }
 }
 
 // A sense as one number.

@@ -83,6 +83,13 @@ pub fn catalogue(random: &mut Random) -> Catalogue {
     Catalogue { highest, words: words.into_iter().map(|w| (w, set(random, highest, size))).collect() }
 }
 
+/// Eight words, whose lists have up to 3, 30, 300 and 3,000 intervals, two of each: long ones beside short ones.
+pub fn uneven(random: &mut Random) -> Catalogue {
+    let highest = *random.pick(&[20_000, RECORD_MAX]);
+    let list = |i: u8| (vec![b'a' + i], set(random, highest, 3 * 10_usize.pow(u32::from(i) / 2)));
+    Catalogue { highest, words: (0..8).map(list).collect() }
+}
+
 /// One damage: a bit, a byte, a cell of trailer, directory or lists, a cut, a surplus, or two entries exchanged.
 pub fn damage(random: &mut Random, bytes: &mut Vec<u8>) {
     let (length, entries) = (bytes.len(), entries_of(bytes));

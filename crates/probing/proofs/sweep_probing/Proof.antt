@@ -1,6 +1,6 @@
 -- Interval by interval of the shortest list.
 use Prim.Native.Nat.{ℕ, _+_, _-_}
-use mathlib.Core.Path.{_≡_, refl, ap}
+use mathlib.Core.Path.{_≡_, refl, sym, ap, _∙_}
 use native.Mathlib.Omega.{arith}
 use denote.Ref.{now}
 use lib.ListN.{length, getD}
@@ -16,12 +16,13 @@ use Rattle.probing.proofs.sweep_probing.Statement.{statement}
 use Rattle.probing.proofs.sweep_probing.Tie as tie
 
 abbrev Inv-loop : tie.InvT-loop
-Inv-loop index entries writing out₀ j entry s l u end singles lower upper count at₀ tally₀ i₀ out at tally i =
-    (count ≡ length (entrySingles index (getD entries j 0)) + length (entryLowers index (getD entries j 0)))
+Inv-loop index entries writing out₀ j entry s l u end singles lower upper count hints₀ at₀ tally₀ i₀ out hints at tally i =
+    (length hints ≡ 32)
+    × (count ≡ length (entrySingles index (getD entries j 0)) + length (entryLowers index (getD entries j 0)))
     × Going index entries (getD entries j 0) writing out₀ out tally at i
 
 abbrev μ-loop : tie.MeasureT-loop
-μ-loop index entries writing out₀ j entry s l u end singles lower upper count at₀ tally₀ i₀ out at tally i = count - i
+μ-loop index entries writing out₀ j entry s l u end singles lower upper count hints₀ at₀ tally₀ i₀ out hints at tally i = count - i
 
 abbrev First : Type 0
 First = tie.After-shortest Inv-loop μ-loop
@@ -43,7 +44,7 @@ loop-holds c =
     let g = found .regions-of .ensures in
     let s = ap length (g .singles) in
     let l = ap length (g .lower) in
-    (omega (arith, entry-walked (named f), entry-intervals (named f)), going-start (begin f .pre .0) (f .shortest .ensures .inside) refl refl)
+    (refl, omega (arith, entry-walked (named f), entry-intervals (named f)), going-start (begin f .pre .0) (f .shortest .ensures .inside) refl refl)
 
 abbrev Turn : Type 0
 Turn = tie.In-loop Inv-loop μ-loop
@@ -59,50 +60,55 @@ left : (c : Turn) →
     Goes (entrySingles (now (begin (first c) .args .index)) (entry (first c))) (entryLowers (now (begin (first c) .args .index)) (entry (first c)))
     (c .before .loop .at)
 left c =
-    let n = c .before .loop .inv .0 in
+    let n = c .before .loop .inv .1 in
     let m = c .loop-test .taken in
-    going-goes (begin (first c) .pre .0) (first c .shortest .ensures .inside) (c .before .loop .inv .1) (omega arith)
+    going-goes (begin (first c) .pre .0) (first c .shortest .ensures .inside) (c .before .loop .inv .2) (omega arith)
 
 interval-at-requires : tie.Need-interval-at-requires Inv-loop μ-loop
 interval-at-requires c κs = let g = found c .regions-of .ensures in (rw (g .singles, g .lower) (left c), g .paired)
 
 put-within-requires : tie.Need-put-within-requires Inv-loop μ-loop
 put-within-requires c κs =
-    let i = c .before .before in
+    let i = c .before .before .before in
     let r = found i .regions-of .ensures in
-    let e = c .before .interval-at .ensures in
+    let e = c .before .before .interval-at .ensures in
     let a = begin (first i) .pre .0 in
     let h = first i .shortest .ensures .inside in
-    let g = i .before .loop .inv .1 in
+    let g = i .before .loop .inv .2 in
+    let hints = i .before .loop .inv .0 in
     rw (e .0, e .1, r .singles, r .lower, r .upper)
-    (going-within a h g (left i), (going-ordered a h g (left i), going-fits a h g (left i) (begin (first i) .pre .1)))
+    (going-within a h g (left i), (going-ordered a h g (left i), (omega (arith, a .few), going-fits a h g (left i) (begin (first i) .pre .1))))
 
 next-place-requires : tie.Need-next-place-requires Inv-loop μ-loop
 next-place-requires c κs =
-    let i = c .before .before .before .before .before in
+    let i = c .before .before .before .before .before .before .before in
     let g = found i .regions-of .ensures in
     rw (g .singles, g .lower) (left i)
 
 add-i : tie.Need-add-i Inv-loop μ-loop
 add-i c =
-    let i = c .before .before .before .before .before .before in
-    omega (arith, i .loop-test .taken, i .before .loop .inv .0, entry-walked (named (first i)), entry-few (named (first i)))
+    let i = c .before .before .before .before .before .before .before .before in
+    omega (arith, i .loop-test .taken, i .before .loop .inv .1, entry-walked (named (first i)), entry-few (named (first i)))
 
 loop-again : tie.Need-loop-again Inv-loop μ-loop
 loop-again c =
-    let i = c .before .before .before .before .before .before in
+    let i = c .before .before .before .before .before .before .before .before in
     let r = found i .regions-of .ensures in
-    let e = c .before .before .before .before .before .interval-at .ensures in
-    let q = rw (e .0, e .1, r .singles, r .lower, r .upper) at (c .before .before .before .put-within .ensures) in
-    let inv = i .before .loop .inv in
-    (inv .0, rw (c .next-place .ensures, r .singles, r .lower) (going-next (begin (first i) .pre .0) (first i .shortest .ensures .inside) (inv .1) (left i) q))
+    let e = c .before .before .before .before .before .before .before .interval-at .ensures in
+    let p = c .before .before .before .before .put-within .ensures in
+    let q = rw (e .0, e .1, r .singles, r .lower, r .upper) at (p .1) in
+    let inv = i .before .loop .inv in (
+      p .0 ∙ inv .0,
+      inv .1,
+      rw (c .next-place .ensures, r .singles, r .lower) (going-next (begin (first i) .pre .0) (first i .shortest .ensures .inside) (inv .2) (left i) q),
+    )
 
 returns : tie.Need-returns Inv-loop μ-loop
 returns c =
     let f = c .before .before .before .before .before .before .before in
-    let n = c .before .loop .inv .0 in
+    let n = c .before .loop .inv .1 in
     let m = c .loop-test .left in
-    going-end (begin f .pre .0) (f .shortest .ensures .inside) (c .before .loop .inv .1) (omega arith) (begin f .pre .1)
+    going-end (begin f .pre .0) (f .shortest .ensures .inside) (c .before .loop .inv .2) (omega arith) (begin f .pre .1)
 
 pub sweep-probing-spec : {M : Type 1} → statement M
 sweep-probing-spec =
@@ -114,5 +120,6 @@ sweep-probing-spec =
     (λ c. omega (arith, c .shared-slice-known3 .given (c .before .shortest .result)))
     (λ c κs. named (c .before))
     (λ c. search needs) (λ c. search needs) (λ c. search needs) (λ c. search needs) (λ c. search needs) (λ c. search needs)
-    (λ c. search needs) (λ c. search needs) (λ c. search needs) (λ c. search needs) loop-holds interval-at-requires put-within-requires next-place-requires
-    add-i (λ c. search needs) loop-again (λ c. tallied-length (c .before .loop .inv .1 .swept)) returns)
+    (λ c. search needs) (λ c. search needs) (λ c. search needs) (λ c. search needs) loop-holds interval-at-requires
+    (λ c. sym (c .before .before .before .loop .inv .0)) put-within-requires next-place-requires add-i (λ c. search needs) loop-again
+    (λ c. tallied-length (c .before .loop .inv .2 .swept)) returns)

@@ -19,7 +19,7 @@ pub struct Family {
     pub run: fn(&mut Caller, &mut Random) -> Outcome,
 }
 
-pub static FAMILIES: [Family; 11] = [
+pub static FAMILIES: [Family; 12] = [
     Family { name: "check", cases: 200_000, run: check },
     Family { name: "damage", cases: 200, run: damage },
     Family { name: "lookup", cases: 100_000, run: entries::lookup },
@@ -27,6 +27,7 @@ pub static FAMILIES: [Family; 11] = [
     Family { name: "probe", cases: 100_000, run: entries::probe },
     Family { name: "union", cases: 100_000, run: join::union },
     Family { name: "intersection", cases: 100_000, run: join::intersection },
+    Family { name: "uneven", cases: 5_000, run: join::uneven },
     Family { name: "ask", cases: 200_000, run: ask::run },
     Family { name: "convert", cases: 200_000, run: convert::run },
     Family { name: "build", cases: 100_000, run: build::run },

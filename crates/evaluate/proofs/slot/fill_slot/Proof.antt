@@ -22,7 +22,7 @@ fill-list-requires c κs =
     (search needs, (search needs, begin (found .before .before) .pre .1 .1))
 
 keep-hint-requires : tie.Need-keep-hint-requires
-keep-hint-requires c κs = let pre = begin (regions (c .before .before .before) .before .before) .pre in (pre .1 .0, pre .0 .hints-long)
+keep-hint-requires c κs = let pre = begin (regions (c .before .before .before) .before .before) .pre in omega (arith, pre .1 .0, pre .0 .hints-long)
 
 same-length : tie.Need-same-length
 same-length c = search needs

@@ -1,4 +1,4 @@
--- Both numbers of slot k lie within the 32, before and after the first is written.
+-- Both numbers of list k lie within the hints, before and after the first is written.
 use native.Mathlib.Omega.{arith}
 use lib.ListN.{length-set}
 use borrow.Author.Needs.{needs}

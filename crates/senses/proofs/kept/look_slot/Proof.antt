@@ -1,7 +1,6 @@
--- The slot's list says it, from the place of x; a slot without an entry is out up to the end.
+-- The list of the slot's entry says it; a slot without an entry is out up to the end.
 use native.Mathlib.Omega.{arith}
 use mathlib.Core.Path.{refl}
-use Rattle.directory.proofs.EntryLaws.{regions-list}
 use Rattle.senses.proofs.PairedSenses.{slot-in, slot-out}
 use borrow.Author.Needs.{needs}
 use Rattle.senses.proofs.kept.look_slot.Statement.{statement}
@@ -9,10 +8,6 @@ use Rattle.senses.proofs.kept.look_slot.Tie as tie
 
 abbrev begin : tie.After-word-count → tie.Start
 begin c = c .before .before .before .before .before
-
--- from the list's place of x back to its regions
-abbrev regions : tie.After-reading-place → tie.After-regions-of
-regions c = c .before .before .before .before .before
 
 returns : tie.Need-returns
 returns c =
@@ -22,28 +17,25 @@ returns c =
           (start .pre .1 .1),
     )
 
-sense-at-requires : tie.Need-sense-at-requires
-sense-at-requires c κs =
-    let at = c .before .before .before .before .before in
-    let found = regions at in
-    (found .regions-of .ensures .kept, (at .reading-place .ensures, begin (found .before .before) .pre .1 .1))
-
-same-length : tie.Need-same-length
-same-length c = search needs
+sense-in-requires : tie.Need-sense-in-requires
+sense-in-requires c κs =
+    let counted = c .before .before in
+    let pre = begin counted .pre in (
+      record { sound = pre .0 .sound; below = omega (arith, c .before .if1 .left, counted .word-count .ensures .0) },
+      (pre .1 .1, omega (arith, pre .1 .0, pre .0 .hints-long)),
+    )
 
 returns-2 : tie.Need-returns-2
 returns-2 c =
-    let found = regions (c .before .before .before .before .before .before) in
-    let a = begin (found .before .before) .args in
-    let told = slot-in (a .index .now) (a .entries .now) (a .k) (a .x) _ _
-    (omega (arith, found .before .if1 .left, found .before .before .word-count .ensures .0)) in
-    (same-length c, told (rw (regions-list (found .regions-of .ensures)) at (c .sense-at .ensures)))
+    let said = c .before .before .sense-in .ensures in
+    let past = c .before .before .before .before in
+    let a = begin (past .before) .args in (
+      said .0,
+      slot-in (a .index .now) (a .entries .now) (a .k) (a .x) _ _ (omega (arith, past .if1 .left, past .before .word-count .ensures .0)) (said .1 .1),
+    )
 
 pub look-slot-spec : {M : Type 1} → statement M
 look-slot-spec =
     tie.close
     (tie.spec
-    (λ c. search needs) (λ c. search needs) (λ c κs. search needs) returns (λ c κs. search needs) (λ c. search needs)
-    (λ c. search needs) (λ c. search needs) (λ c. search needs) (λ c. search needs) (λ c. search needs) (λ c κs. search needs)
-    (λ c κs. search needs) (λ c κs. search needs) (λ c. search needs) (λ c. search needs) (λ c. search needs) sense-at-requires same-length
-    returns-2)
+    (λ c. search needs) (λ c. search needs) (λ c κs. search needs) returns sense-in-requires (λ c. search needs) returns-2)
