@@ -1,10 +1,11 @@
 /* Times and ratios, all in one run: the check, questions, joins and building. Answers are compared before anything is timed, and the two sides
  * of a ratio are timed in turns, best of many. */
-#include "corpus.h"
-#include "engine.h"
+#include "asked.h"
+#include "beside.h"
+#include "growth.h"
 #include "methods.h"
-#include "naburain.h"
 #include "others.h"
+#include "probing.h"
 #include "reference.h"
 
 #include <stdio.h>
@@ -18,45 +19,7 @@ static const struct kind KINDS[] = {
     {"sparse", 16777215, 1000, 1, 10},         /* few records far apart: little to check, long jumps */
 };
 
-struct asked {
-    const char *what, *question;
-};
-
-static const struct asked QUESTIONS[] = {
-    {"and, rare", "r0 and r1"},
-    {"and, rare with common", "r0 and c0"},
-    {"and, common", "c0 and c1"},
-    {"or, five words", "m0 or m1 or m2 or m3 or m4"},
-    {"or, five common", "c0 or c1 or c2 or c3 or c4"},
-    {"not", "c0 not m0"},
-    {"ten words", "c0 and m0 or r0 not m1 or c1 and c2 not r1 or m2 and m3 or r2"},
-    {"nested", "((c0 or m0) and (c1 or (m1 not r0))) not (c2 and (m2 or r1))"},
-};
-
-static volatile uint64_t sink;
-
 /* ---- what is timed: one call each ---- */
-
-struct job {
-    const struct corpus *corpus;
-    const char *question;
-    const uint32_t *entries;
-    size_t entry_count;
-    uint32_t *cells;
-    size_t room;
-    struct naburain_answered (*join)(const uint8_t *, size_t, const uint32_t *, size_t, uint32_t *, size_t);
-    join_call *engine_join;
-    struct roaring *roaring;
-    struct sqlite *sqlite;
-    struct tree *tree;
-};
-
-typedef void run(const struct job *);
-
-static void our_check(const struct job *job)
-{
-    sink += naburain_check(job->corpus->index, job->corpus->length).refusal;
-}
 
 static void engine_checks(const struct job *job)
 {
@@ -75,12 +38,6 @@ static void plain_sum(const struct job *job)
     sink += sum;
 }
 
-static void our_ask(const struct job *job)
-{
-    const struct corpus *c = job->corpus;
-    sink += naburain_ask(c->index, c->length, (const uint8_t *)job->question, strlen(job->question), job->cells, job->room).records;
-}
-
 static void engine_asks(const struct job *job)
 {
     const struct corpus *c = job->corpus;
@@ -96,11 +53,6 @@ static void reference_asks(const struct job *job)
 {
     const struct corpus *c = job->corpus;
     sink += reference_ask(c->index, c->length, (const uint8_t *)job->question, strlen(job->question), job->cells, job->room).records;
-}
-
-static void our_join(const struct job *job)
-{
-    sink += job->join(job->corpus->index, job->corpus->length, job->entries, job->entry_count, job->cells, job->room).records;
 }
 
 static void engine_joins(const struct job *job)
@@ -136,61 +88,6 @@ static void sum_lists(const struct job *job)
     sink += sum;
 }
 
-/* ---- timing ---- */
-
-static double once(run *what, const struct job *job, size_t times)
-{
-    double began = seconds();
-    for (size_t i = 0; i < times; i++) {
-        what(job);
-    }
-    return (seconds() - began) / (double)times;
-}
-
-static size_t times_for(run *what, const struct job *job)
-{
-    double single = once(what, job, 1);
-    return single > 2e-3 ? 1 : (size_t)(2e-3 / (single + 1e-8)) + 1;
-}
-
-/* Best of `rounds` for each of several runs, taken in turns. */
-static void best_of(run *const *what, size_t count, const struct job *job, double *best)
-{
-    enum { ROUNDS = 12, MOST = 8 };
-    size_t times[MOST];
-    for (size_t k = 0; k < count; k++) {
-        times[k] = times_for(what[k], job);
-        best[k] = 1e9;
-    }
-    for (int round = 0; round < ROUNDS; round++) {
-        for (size_t k = 0; k < count; k++) {
-            double took = once(what[k], job, times[k]);
-            best[k] = took < best[k] ? took : best[k];
-        }
-    }
-}
-
-/* The ratio of what is left of two times after the check; a dash where the check is nearly all. */
-static void show_rest(double ours, double our_check_time, double theirs, double their_check_time)
-{
-    double a = ours - our_check_time, b = theirs - their_check_time;
-    if (a < 0.03 * our_check_time || b < 0.03 * their_check_time) {
-        printf(" %9s %9s %6s", "-", "-", "-");
-    } else {
-        printf(" %9.1f %9.1f %6.2f", 1e6 * a, 1e6 * b, a / b);
-    }
-}
-
-static void same(const char *what, uint64_t refusal, uint64_t intervals, uint64_t records, struct engine_result theirs, const uint32_t *ours,
-                 const uint32_t *cells)
-{
-    if (refusal != 0 || theirs.refusal != 0 || intervals != theirs.intervals || records != theirs.records ||
-        memcmp(ours, cells, 8 * intervals) != 0) {
-        printf("FAILED: the two engines answer %s differently\n", what);
-        exit(1);
-    }
-}
-
 /* ---- the tables ---- */
 
 static void bench_check(const struct corpus *corpora, size_t count)
@@ -221,7 +118,7 @@ static size_t entries_of(const char *question, uint32_t *entries)
 
 static void bench_questions(const struct corpus *corpus, uint32_t *ours, uint32_t *theirs, size_t room)
 {
-    for (size_t i = 0; i < sizeof QUESTIONS / sizeof QUESTIONS[0]; i++) {
+    for (size_t i = 0; i < QUESTION_COUNT; i++) {
         const char *question = QUESTIONS[i].question;
         uint32_t entries[16];
         struct job job = {.corpus = corpus, .question = question, .entries = entries, .cells = ours, .room = room};
@@ -229,52 +126,28 @@ static void bench_questions(const struct corpus *corpus, uint32_t *ours, uint32_
         size_t length = strlen(question);
         struct naburain_answered got = naburain_ask(corpus->index, corpus->length, (const uint8_t *)question, length, ours, room);
         struct engine_result held = engine_ask(corpus->index, corpus->length, (const uint8_t *)question, length, theirs, room);
-        same(question, got.refusal, got.intervals, got.records, held, ours, theirs);
+        same(question, got, held, ours, theirs);
         double best[5];
         best_of((run *const[]){our_ask, engine_asks, our_check, engine_checks, sum_lists}, 5, &job, best);
         printf("%-10s %-22s %9d %9.1f %9.1f %6.2f", corpus->name, QUESTIONS[i].what, (int)got.intervals, 1e6 * best[0], 1e6 * best[1],
                best[0] / best[1]);
         show_rest(best[0], best[2], best[1], best[3]);
-        double rest = best[0] - best[2];
-        if (rest < 0.03 * best[2]) {
-            printf(" %9.2f %7s\n", 1e6 * best[4], "-");
+        if (tells(best[0], best[2])) {
+            printf(" %9.2f %7.1f\n", 1e6 * best[4], (best[0] - best[2]) / best[4]);
         } else {
-            printf(" %9.2f %7.1f\n", 1e6 * best[4], rest / best[4]);
+            printf(" %9.2f %7s\n", 1e6 * best[4], "-");
         }
     }
 }
 
-struct method {
-    const char *what;
-    struct naburain_answered (*ours)(const uint8_t *, size_t, const uint32_t *, size_t, uint32_t *, size_t);
-    join_call *engine;
-    join_call *reference;
-};
-
-static const struct method METHODS[] = {
-    {"union, scan line", naburain_union_scan_line, engine_union, reference_union},
-    {"union, active interval", naburain_union_active_interval, engine_union, reference_union},
-    {"intersect, twin heap", naburain_intersection_twin_heap, engine_intersection, reference_intersection},
-    {"intersect, probing", naburain_intersection_probing, engine_intersection, reference_intersection},
-};
-
-/* The heap methods against the same methods in C. */
+/* The methods against the same methods in C. */
 static const struct method IN_C[] = {
-    {"scan line", naburain_union_scan_line, method_scan_line, NULL},
-    {"scan line, by value", naburain_union_scan_line, method_scan_line_by_value, NULL},
-    {"active interval", naburain_union_active_interval, method_active_interval, NULL},
-    {"twin heap", naburain_intersection_twin_heap, method_twin_heap, NULL},
-};
-
-struct lists {
-    const char *what;
-    uint32_t entries[16];
-    size_t count;
-};
-
-static const struct lists LISTS[] = {
-    {"c0 c1 c2 c3", {0, 1, 2, 3}, 4},
-    {"c0 m0 r0", {0, 10, 20}, 3},
+    {"scan line", naburain_union_scan_line, NULL, method_scan_line, NULL},
+    {"scan line, by value", naburain_union_scan_line, NULL, method_scan_line_by_value, NULL},
+    {"active interval", naburain_union_active_interval, NULL, method_active_interval, NULL},
+    {"twin heap", naburain_intersection_twin_heap, NULL, method_twin_heap, NULL},
+    {"probing", naburain_intersection_probing, NULL, method_probing, NULL},
+    {"probing, from start", naburain_intersection_probing, NULL, method_probing_from_start, NULL},
 };
 
 static const struct lists SIXTEEN = {"16 lists", {0, 1, 2, 3, 4, 5, 6, 7, 8, 9, 10, 11, 12, 13, 14, 15}, 16};
@@ -287,7 +160,7 @@ static void bench_join(const struct corpus *corpus, const struct method *method,
                       .join = method->ours, .engine_join = against_reference ? method->reference : method->engine};
     struct naburain_answered got = job.join(corpus->index, corpus->length, lists->entries, lists->count, ours, room);
     struct engine_result held = job.engine_join(corpus->index, corpus->length, lists->entries, lists->count, theirs, room);
-    same(method->what, got.refusal, got.intervals, got.records, held, ours, theirs);
+    same(method->what, got, held, ours, theirs);
     double best[4];
     best_of((run *const[]){our_join, engine_joins, our_check, against_reference ? reference_checks : engine_checks}, 4, &job, best);
     printf("%-10s %-22s %-12s %9d %9.1f %9.1f %6.2f", corpus->name, method->what, lists->what, (int)got.intervals, 1e6 * best[0],
@@ -298,9 +171,9 @@ static void bench_join(const struct corpus *corpus, const struct method *method,
 
 static void bench_joins(const struct corpus *corpus, int against_reference, uint32_t *ours, uint32_t *theirs, size_t room)
 {
-    for (size_t k = 0; k < sizeof METHODS / sizeof METHODS[0]; k++) {
-        for (size_t i = 0; i < sizeof LISTS / sizeof LISTS[0]; i++) {
-            bench_join(corpus, &METHODS[k], &LISTS[i], against_reference, ours, theirs, room);
+    for (size_t k = 0; k < METHOD_COUNT; k++) {
+        for (size_t i = 0; i < ASKED_COUNT; i++) {
+            bench_join(corpus, &METHODS[k], &ASKED[i], against_reference, ours, theirs, room);
         }
     }
 }
@@ -308,7 +181,7 @@ static void bench_joins(const struct corpus *corpus, int against_reference, uint
 static void bench_methods(const struct corpus *corpus, uint32_t *ours, uint32_t *theirs, size_t room)
 {
     for (size_t k = 0; k < sizeof IN_C / sizeof IN_C[0]; k++) {
-        bench_join(corpus, &IN_C[k], &LISTS[0], 0, ours, theirs, room);
+        bench_join(corpus, &IN_C[k], &ASKED[0], 0, ours, theirs, room);
         bench_join(corpus, &IN_C[k], &SIXTEEN, 0, ours, theirs, room);
     }
 }
@@ -316,13 +189,13 @@ static void bench_methods(const struct corpus *corpus, uint32_t *ours, uint32_t 
 /* Questions and joins against the independent implementation, which makes the same check. */
 static void bench_reference(const struct corpus *corpus, uint32_t *ours, uint32_t *theirs, size_t room)
 {
-    for (size_t i = 0; i < sizeof QUESTIONS / sizeof QUESTIONS[0]; i++) {
+    for (size_t i = 0; i < QUESTION_COUNT; i++) {
         const char *question = QUESTIONS[i].question;
         struct job job = {.corpus = corpus, .question = question, .cells = ours, .room = room};
         size_t length = strlen(question);
         struct naburain_answered got = naburain_ask(corpus->index, corpus->length, (const uint8_t *)question, length, ours, room);
         struct engine_result held = reference_ask(corpus->index, corpus->length, (const uint8_t *)question, length, theirs, room);
-        same(question, got.refusal, got.intervals, got.records, held, ours, theirs);
+        same(question, got, held, ours, theirs);
         double best[4];
         best_of((run *const[]){our_ask, reference_asks, our_check, reference_checks}, 4, &job, best);
         printf("%-10s %-22s %-12s %9d %9.1f %9.1f %6.2f", corpus->name, QUESTIONS[i].what, "", (int)got.intervals, 1e6 * best[0], 1e6 * best[1],
@@ -347,17 +220,17 @@ static void show_other(const char *who, const char *question, run *theirs, struc
     double best, answer = whole - check;
     best_of(&theirs, 1, job, &best);
     printf("%-10s %-22s %-8s", job->corpus->name, question, who);
-    if (answer < 0.03 * check) {
-        printf(" %10s %10.1f %8s\n", "-", 1e6 * best, "-");
-    } else {
+    if (tells(whole, check)) {
         printf(" %10.1f %10.1f %8.2f\n", 1e6 * answer, 1e6 * best, answer / best);
+    } else {
+        printf(" %10s %10.1f %8s\n", "-", 1e6 * best, "-");
     }
 }
 
 static void bench_others(const struct corpus *corpus, uint32_t *cells, size_t room)
 {
     struct job job = {.corpus = corpus, .cells = cells, .room = room, .roaring = roaring_open(corpus), .sqlite = sqlite_open(corpus)};
-    for (size_t i = 0; i < sizeof QUESTIONS / sizeof QUESTIONS[0]; i++) {
+    for (size_t i = 0; i < QUESTION_COUNT; i++) {
         job.question = QUESTIONS[i].question;
         job.tree = read_question(job.question);
         uint64_t records =
@@ -380,64 +253,6 @@ static void bench_others(const struct corpus *corpus, uint32_t *cells, size_t ro
     }
     if (job.sqlite != NULL) {
         sqlite_close(job.sqlite);
-    }
-}
-
-/* How many intervals the list of an entry has, from its directory entry: singles and pairs. */
-static uint64_t intervals_of(const struct corpus *corpus, uint32_t entry)
-{
-    uint32_t directory, singles, pairs;
-    memcpy(&directory, corpus->index + corpus->length - 16, 4);
-    memcpy(&singles, corpus->index + directory + 20 * entry + 12, 4);
-    memcpy(&pairs, corpus->index + directory + 20 * entry + 16, 4);
-    return (uint64_t)singles + pairs;
-}
-
-static double log_two(uint64_t n)
-{
-    double bits = 0;
-    while (n > 1) {
-        n /= 2;
-        bits += 1;
-    }
-    return bits < 1 ? 1 : bits;
-}
-
-/* The steps that a method may take: intervals times the logarithm of the lists, or, for probing, the shortest list's intervals times the
- * logarithms of the others. */
-static double steps_of(const struct corpus *corpus, const uint32_t *entries, size_t count, int probing)
-{
-    uint64_t all = 0, shortest = UINT64_MAX;
-    double logs = 0;
-    for (size_t i = 0; i < count; i++) {
-        uint64_t n = intervals_of(corpus, entries[i]);
-        all += n;
-        logs += log_two(n);
-        shortest = n < shortest ? n : shortest;
-    }
-    return probing ? (double)shortest * (logs - log_two(shortest)) : (double)all * log_two(count);
-}
-
-/* Joins of ten times as many intervals, and of more lists: the time for one step should stay. */
-static void bench_growth(uint32_t *cells, size_t room)
-{
-    static const uint32_t FEW[] = {0, 1, 2, 3}, MANY[] = {0, 1, 2, 3, 4, 5, 6, 7, 8, 9, 10, 11, 12, 13, 14, 15}, SHORT[] = {10, 0, 1, 2};
-    printf("\nJoins that grow (without the check; best of 12)\n%-22s %6s %12s %12s %14s\n", "method", "lists", "steps", "microseconds", "ns a step");
-    for (uint32_t stretches = 1000; stretches <= 100000; stretches *= 10) {
-        struct corpus corpus = make_corpus(&(struct kind){"growing", 16777215, stretches, 8, 5});
-        for (size_t i = 0; i < sizeof METHODS / sizeof METHODS[0]; i++) {
-            int probing = METHODS[i].ours == naburain_intersection_probing;
-            const uint32_t *lists[] = {FEW, probing ? SHORT : MANY};
-            const size_t counts[] = {4, probing ? 4 : 16};
-            for (int j = 0; j < 2; j++) {
-                struct job job = {.corpus = &corpus, .entries = lists[j], .entry_count = counts[j], .cells = cells, .room = room, .join = METHODS[i].ours};
-                double best[2], steps = steps_of(&corpus, lists[j], counts[j], probing);
-                best_of((run *const[]){our_join, our_check}, 2, &job, best);
-                double answer = best[0] > best[1] ? best[0] - best[1] : 0;
-                printf("%-22s %6zu %12.0f %12.1f %14.2f\n", METHODS[i].what, counts[j], steps, 1e6 * answer, 1e9 * answer / steps);
-            }
-        }
-        free_corpus(&corpus);
     }
 }
 
@@ -549,6 +364,16 @@ static void table_others(const struct bench *b)
     }
 }
 
+static void table_probing(const struct bench *b)
+{
+    bench_probing(b->ours, b->theirs, b->room);
+}
+
+static void table_beside(const struct bench *b)
+{
+    bench_beside(b->corpora, b->count, b->ours, b->theirs, b->room);
+}
+
 static void table_build(const struct bench *b)
 {
     (void)b;
@@ -558,8 +383,9 @@ static void table_build(const struct bench *b)
 static const struct {
     const char *name;
     void (*print)(const struct bench *b);
-} TABLES[] = {{"check", table_check},   {"questions", table_questions}, {"joins", table_joins},   {"methods", table_methods},
-              {"growth", table_growth}, {"rust", table_rust},           {"others", table_others}, {"build", table_build}};
+} TABLES[] = {{"check", table_check},     {"questions", table_questions}, {"joins", table_joins}, {"methods", table_methods},
+              {"growth", table_growth},   {"probing", table_probing},     {"rust", table_rust},   {"others", table_others},
+              {"beside", table_beside},   {"build", table_build}};
 
 /* Prints all tables, or those whose name is given. */
 static int print_tables(const struct bench *b, const char *name)

@@ -34,20 +34,35 @@ void *must(void *block)
 }
 
 /* Marks the stretches of one word in a map with a byte for each record. */
+typedef void drawing(const struct kind *kind, uint32_t stretches, uint64_t *state, uint8_t *map);
+
+static void draw_stretch(const struct kind *kind, uint32_t from, uint64_t *state, uint8_t *map)
+{
+    uint32_t length = next_random(state) % 10 < kind->singles_in_ten ? 1 : 1 + (uint32_t)(next_random(state) % kind->longest);
+    for (uint32_t record = from; record <= kind->highest && record < from + length; record++) {
+        map[record] = 1;
+    }
+}
+
+/* Anywhere: stretches that meet become one. */
 static void draw(const struct kind *kind, uint32_t stretches, uint64_t *state, uint8_t *map)
 {
-    memset(map, 0, (size_t)kind->highest + 1);
     for (uint32_t i = 0; i < stretches; i++) {
-        uint32_t from = 1 + (uint32_t)(next_random(state) % kind->highest);
-        uint32_t length = next_random(state) % 10 < kind->singles_in_ten ? 1 : 1 + (uint32_t)(next_random(state) % kind->longest);
-        for (uint32_t record = from; record <= kind->highest && record < from + length; record++) {
-            map[record] = 1;
-        }
+        draw_stretch(kind, 1 + (uint32_t)(next_random(state) % kind->highest), state, map);
     }
     if (kind->longest == 1) { /* touching singles would be a stretch */
         for (uint32_t record = 2; record <= kind->highest; record++) {
             map[record] &= (uint8_t)!map[record - 1];
         }
+    }
+}
+
+/* One in each of so many equal parts, with a record free behind it: as many as are asked for. */
+static void draw_apart(const struct kind *kind, uint32_t stretches, uint64_t *state, uint8_t *map)
+{
+    uint32_t part = kind->highest / stretches;
+    for (uint32_t i = 0; i < stretches; i++) {
+        draw_stretch(kind, 1 + part * i + (uint32_t)(next_random(state) % (part - kind->longest)), state, map);
     }
 }
 
@@ -57,17 +72,16 @@ static uint32_t stretches_of(const struct kind *kind, int word)
     return stretches < 3 ? 3 : stretches;
 }
 
-struct corpus make_corpus(const struct kind *kind)
+static struct corpus draw_corpus(const struct kind *kind, drawing *how, const char *words, const uint32_t *stretches, size_t count)
 {
-    char words[WORDS * 3 + 1] = "";
-    uint32_t counts[WORDS];
+    uint32_t *counts = must(malloc(count * sizeof *counts));
     size_t room = 1 << 20, length = 0;
     uint32_t *numbers = must(malloc(room * sizeof *numbers));
     uint8_t *map = must(malloc((size_t)kind->highest + 1));
     uint64_t state = 1;
-    for (int word = 0; word < WORDS; word++) {
-        snprintf(words + 3 * word, 4, "%c%d\n", "cmr"[word / 10], word % 10);
-        draw(kind, stretches_of(kind, word), &state, map);
+    for (size_t word = 0; word < count; word++) {
+        memset(map, 0, (size_t)kind->highest + 1);
+        how(kind, stretches[word], &state, map);
         size_t before = length;
         for (uint32_t record = 1; record <= kind->highest; record++) {
             if (map[record]) {
@@ -81,15 +95,30 @@ struct corpus make_corpus(const struct kind *kind)
     }
     free(map);
     uint8_t *index = must(malloc(NABURAIN_INDEX_MAX));
-    double began = seconds();
-    struct naburain_written built = naburain_build(kind->highest, (const uint8_t *)words, 3 * WORDS, counts, WORDS, numbers, length, index, NABURAIN_INDEX_MAX);
-    double took = seconds() - began;
-    free(numbers);
+    struct naburain_written built =
+        naburain_build(kind->highest, (const uint8_t *)words, strlen(words), counts, count, numbers, length, index, NABURAIN_INDEX_MAX);
+    free(numbers), free(counts);
     if (built.refusal != 0) {
         fprintf(stderr, "bench: building %s was refused by %d with %d\n", kind->name, (int)built.refusal, (int)built.value);
         exit(2);
     }
-    return (struct corpus){kind->name, kind->highest, must(realloc(index, built.written)), built.written, length, took};
+    return (struct corpus){kind->name, kind->highest, must(realloc(index, built.written)), built.written, length};
+}
+
+struct corpus make_corpus(const struct kind *kind)
+{
+    char words[WORDS * 3 + 1] = "";
+    uint32_t stretches[WORDS];
+    for (int word = 0; word < WORDS; word++) {
+        snprintf(words + 3 * word, 4, "%c%d\n", "cmr"[word / 10], word % 10);
+        stretches[word] = stretches_of(kind, word);
+    }
+    return draw_corpus(kind, draw, words, stretches, WORDS);
+}
+
+struct corpus make_corpus_of(const struct kind *kind, const char *words, const uint32_t *stretches, size_t count)
+{
+    return draw_corpus(kind, draw_apart, words, stretches, count);
 }
 
 void free_corpus(struct corpus *corpus)

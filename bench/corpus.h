@@ -11,7 +11,6 @@ struct corpus {
     uint8_t *index; /* made by naburain_build */
     size_t length;
     size_t numbers; /* records of all lists together */
-    double build_seconds;
 };
 
 /* What a kind of corpus is made of: stretches of 1 to `longest` records; how many a common word has, a middling one a tenth, a rare one
@@ -25,6 +24,10 @@ struct kind {
 };
 
 struct corpus make_corpus(const struct kind *kind);
+
+/* One of words of its own, each on a line and in order, with so many stretches each, far enough apart that none is lost. */
+struct corpus make_corpus_of(const struct kind *kind, const char *words, const uint32_t *stretches, size_t count);
+
 void free_corpus(struct corpus *corpus);
 
 uint64_t next_random(uint64_t *state);

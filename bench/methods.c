@@ -1,57 +1,13 @@
-/* Lists read interval by interval, and heaps of their bounds. */
+/* Heaps of the lists' bounds. */
 #include "methods.h"
 
-#include "engine_index.h"
+#include "lists.h"
 
-enum { LISTS = 16, LOWERS = 32, LIMIT = 16777216 };
-
-struct list {
-    const uint8_t *s, *l, *u;
-    size_t singles, pairs;
-};
-
-struct place {
-    size_t p, q;
-};
+enum { LOWERS = 32 };
 
 struct places {
     struct place at[LISTS];
 };
-
-struct interval {
-    uint32_t lower, upper;
-};
-
-struct request {
-    struct list lists[LISTS];
-    size_t count;
-    uint32_t *cells;
-    uint64_t intervals, records;
-};
-
-/* ---- one list ---- */
-
-static uint32_t or_limit(const uint8_t *cells, size_t count, size_t i)
-{
-    return i < count ? cell(cells + 4 * i) : LIMIT;
-}
-
-static struct interval next_interval(const struct list *list, struct place at)
-{
-    uint32_t single = or_limit(list->s, list->singles, at.p), low = or_limit(list->l, list->pairs, at.q);
-    return single < low ? (struct interval){single, single} : (struct interval){low, cell(list->u + 4 * at.q)};
-}
-
-static struct place next_place(const struct list *list, struct place at)
-{
-    int single = or_limit(list->s, list->singles, at.p) < or_limit(list->l, list->pairs, at.q);
-    return (struct place){at.p + (size_t)single, at.q + (size_t)!single};
-}
-
-static int used_up(const struct list *list, struct place at)
-{
-    return list->singles + list->pairs <= at.p + at.q;
-}
 
 static __attribute__((noinline)) struct places moved_on(const struct list *list, struct places places, size_t j)
 {
@@ -84,48 +40,7 @@ static void push(uint32_t *heap, size_t size, uint32_t key)
     heap[at] = key;
 }
 
-/* ---- a request ---- */
-
-static struct engine_result refused(uint64_t refusal, uint64_t value)
-{
-    return (struct engine_result){refusal, value, 0, 0};
-}
-
-/* Rows 1 to 5, 13, 14, and 12 unless there is room for the intervals of all lists together: the methods here never count first. */
-static struct engine_result open_request(struct request *request, const uint8_t *bytes, size_t length, const uint32_t *entries, size_t count,
-                                         uint32_t *cells, size_t room)
-{
-    struct sound index;
-    struct engine_result result = open_index(bytes, length, &index);
-    if (result.refusal != 0) {
-        return result;
-    }
-    if (count == 0 || count > LISTS) {
-        return refused(13, count);
-    }
-    size_t most = 0;
-    for (size_t i = 0; i < count; i++) {
-        if (entries[i] >= index.count) {
-            return refused(14, i);
-        }
-        struct line line = line_of(&index, entries[i]);
-        const uint8_t *s = bytes + line.list_start, *l = s + 4 * (size_t)line.singles;
-        request->lists[i] = (struct list){s, l, l + 4 * (size_t)line.pairs, line.singles, line.pairs};
-        most += line.singles + (size_t)line.pairs;
-    }
-    request->count = count;
-    request->cells = cells;
-    request->intervals = request->records = 0;
-    return room / 2 < most ? refused(12, most) : refused(0, 0);
-}
-
-static void put(struct request *request, uint32_t lower, uint32_t upper)
-{
-    request->cells[2 * request->intervals] = lower;
-    request->cells[2 * request->intervals + 1] = upper;
-    request->intervals++;
-    request->records += upper - lower + 1;
-}
+/* ---- the methods ---- */
 
 /* The lower bound of each list's first interval, with its list. */
 static void first_lowers(const struct request *request, uint32_t *keys)
@@ -145,8 +60,6 @@ static size_t refill(const struct list *list, struct place at, size_t j, uint32_
     sink_key(keys, size, next_interval(list, at).lower * 32 + (uint32_t)j);
     return size;
 }
-
-/* ---- the methods ---- */
 
 static inline void scan_line(struct request *request, int by_value)
 {
@@ -235,20 +148,6 @@ static void twin_heap(struct request *request)
 }
 
 /* ---- the calls ---- */
-
-typedef void sweep(struct request *);
-
-static struct engine_result answer(sweep *method, const uint8_t *index, size_t length, const uint32_t *entries, size_t count, uint32_t *cells,
-                                   size_t room)
-{
-    struct request request;
-    struct engine_result result = open_request(&request, index, length, entries, count, cells, room);
-    if (result.refusal != 0) {
-        return result;
-    }
-    method(&request);
-    return (struct engine_result){0, 0, request.intervals, request.records};
-}
 
 static void scan_in_place(struct request *request)
 {

@@ -1,0 +1,77 @@
+#include "timing.h"
+
+#include <stdio.h>
+#include <stdlib.h>
+
+volatile uint64_t sink;
+
+void our_check(const struct job *job)
+{
+    sink += naburain_check(job->corpus->index, job->corpus->length).refusal;
+}
+
+void our_ask(const struct job *job)
+{
+    const struct corpus *c = job->corpus;
+    sink += naburain_ask(c->index, c->length, (const uint8_t *)job->question, strlen(job->question), job->cells, job->room).records;
+}
+
+void our_join(const struct job *job)
+{
+    sink += job->join(job->corpus->index, job->corpus->length, job->entries, job->entry_count, job->cells, job->room).records;
+}
+
+static double once(run *what, const struct job *job, size_t times)
+{
+    double began = seconds();
+    for (size_t i = 0; i < times; i++) {
+        what(job);
+    }
+    return (seconds() - began) / (double)times;
+}
+
+static size_t times_for(run *what, const struct job *job)
+{
+    double single = once(what, job, 1);
+    return single > 2e-3 ? 1 : (size_t)(2e-3 / (single + 1e-8)) + 1;
+}
+
+void best_of(run *const *what, size_t count, const struct job *job, double *best)
+{
+    enum { ROUNDS = 12, MOST = 8 };
+    size_t times[MOST];
+    for (size_t k = 0; k < count; k++) {
+        times[k] = times_for(what[k], job);
+        best[k] = 1e9;
+    }
+    for (int round = 0; round < ROUNDS; round++) {
+        for (size_t k = 0; k < count; k++) {
+            double took = once(what[k], job, times[k]);
+            best[k] = took < best[k] ? took : best[k];
+        }
+    }
+}
+
+int tells(double whole, double check)
+{
+    return whole - check >= 0.03 * check;
+}
+
+void show_rest(double ours, double our_check_time, double theirs, double their_check_time)
+{
+    if (!tells(ours, our_check_time) || !tells(theirs, their_check_time)) {
+        printf(" %9s %9s %6s", "-", "-", "-");
+    } else {
+        double a = ours - our_check_time, b = theirs - their_check_time;
+        printf(" %9.1f %9.1f %6.2f", 1e6 * a, 1e6 * b, a / b);
+    }
+}
+
+void same(const char *what, struct naburain_answered ours, struct engine_result theirs, const uint32_t *our_cells, const uint32_t *their_cells)
+{
+    if (ours.refusal != 0 || theirs.refusal != 0 || ours.intervals != theirs.intervals || ours.records != theirs.records ||
+        memcmp(our_cells, their_cells, 8 * ours.intervals) != 0) {
+        printf("FAILED: the two sides answer %s differently\n", what);
+        exit(1);
+    }
+}
