@@ -18,7 +18,7 @@ static uint64_t intervals_of(const struct corpus *corpus, uint32_t entry)
 }
 
 /* The steps that a method may take: intervals times the logarithm of the lists, or, for probing, the shortest list's intervals times, for each
- * other list, the logarithm of how many of its intervals there are for one of the shortest. */
+ * other list, the logarithm of one more than how many of its intervals there are for one of the shortest. */
 static double steps_of(const struct corpus *corpus, const uint32_t *entries, size_t count, int probing)
 {
     double all = 0, shortest = 1e9, logs = 0;
@@ -30,7 +30,7 @@ static double steps_of(const struct corpus *corpus, const uint32_t *entries, siz
     for (size_t i = 0; i < count; i++) {
         logs += log2(1 + (double)intervals_of(corpus, entries[i]) / shortest);
     }
-    return probing ? shortest * (logs - 1) : all * log2((double)count);
+    return probing ? shortest * (logs - 1) : all * log2((double)count); /* less the shortest list's own logarithm, 1 */
 }
 
 void bench_growth(uint32_t *cells, size_t room)
