@@ -55,7 +55,7 @@ extern "C" {
 #define NABURAIN_BUILD_COUNT 18    /* counts to build: the first bad one; the word count where counts or numbers are left */
 #define NABURAIN_BUILD_SIZE 19     /* N is too large: 0; the index would be too long: 1 */
 #define NABURAIN_PROBE 20          /* no range to probe: 0 */
-#define NABURAIN_NO_WORD 21        /* no entry has the word looked up: 0 */
+#define NABURAIN_NO_WORD 21        /* no entry has the word looked up: the number of the entry that it would be */
 
 struct naburain_checked {
     uint64_t refusal;
@@ -99,7 +99,8 @@ struct naburain_written {
 struct naburain_checked naburain_check(const uint8_t *index, size_t index_length);
 
 /* Reference 8.2. The number, counted from 0, of the entry whose word has just these bytes. Any bytes may be looked up, none too.
- * Refusals 1 to 5, then 21 where no entry has them. */
+ * Refusals 1 to 5, then 21 where no entry has them: `value` is then how many words of the index stand before them, so that the entries around the
+ * place where they would stand are value - 1 and value; it is 0 before the first word, and the number of words behind the last. */
 struct naburain_found naburain_lookup(const uint8_t *index, size_t index_length, const uint8_t *word, size_t word_length);
 
 /* Reference 8.3. The word of an entry, as a part of the index: `length` bytes from byte `start`.

@@ -1,6 +1,6 @@
 /* desk INDEX QUESTION..            answers a question
  * desk INDEX                       asks for questions
- * desk lookup INDEX WORD           shows a word with its neighbours
+ * desk lookup INDEX WORD           shows a word with its neighbours, or those of the place where it would stand
  * desk build TEXT INDEX [HIGHEST]  builds an index from a text */
 #include "desk.h"
 
@@ -12,7 +12,7 @@ static int usage(void)
 {
     fprintf(stderr, "desk INDEX QUESTION..            answers a question, as: desk sample.index 'boats or (harbour and maps)'\n"
                     "desk INDEX                       asks for questions, one a line\n"
-                    "desk lookup INDEX WORD           shows a word with its neighbours\n"
+                    "desk lookup INDEX WORD           shows a word with its neighbours, or where a misspelt one would stand\n"
                     "desk build TEXT INDEX [HIGHEST]  builds an index from lines `word: number number-number ..`\n");
     return UNUSABLE;
 }

@@ -82,7 +82,10 @@ static void small_calls(const uint8_t *index)
     uint32_t *numbers = malloc(3 * sizeof *numbers), *cells = malloc(4 * sizeof *cells);
     expect(naburain_check(index, LENGTH).refusal == 0, "check");
     expect(naburain_lookup(index, LENGTH, maps, 4).entry == 2, "lookup");
-    expect(naburain_lookup(index, LENGTH, pier, 4).refusal == NABURAIN_NO_WORD, "lookup of a word that is not there");
+    struct naburain_found missing = naburain_lookup(index, LENGTH, pier, 4);
+    expect(missing.refusal == NABURAIN_NO_WORD && missing.value == 3 && missing.entry == 0, "lookup of a word that is not there");
+    missing = naburain_lookup(index, LENGTH, NULL, 0);
+    expect(missing.refusal == NABURAIN_NO_WORD && missing.value == 0 && missing.entry == 0, "lookup of no bytes");
     struct naburain_part part = naburain_word(index, LENGTH, 2);
     expect(part.refusal == 0 && part.length == 4 && memcmp(index + part.start, "maps", 4) == 0, "an entry's word");
     expect(naburain_word(index, LENGTH, 4).refusal == NABURAIN_ENTRY, "a fifth entry");

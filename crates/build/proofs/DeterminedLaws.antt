@@ -6,10 +6,6 @@ use mathlib.Core.Bool.{true}
 use mathlib.Core.List.{List, [], _∷_}
 use lib.ListN.{length, getD, take}
 use Rattle.laws.proofs.Tests.{true-false, leb-cases}
-use Rattle.refusal.specs.declared.Found.{Found}
-use Rattle.refusal.specs.declared.Found.the-variants.{At, Nowhere}
-use Rattle.refusal.specs.First.{first}
-use Rattle.word.specs.Word.{same}
 use Rattle.word.proofs.WordLaws.{before-irreflexive}
 use Rattle.list.specs.declared.Written.the-variants.{Wrote}
 use Rattle.list.specs.Interval.{isProper, names}
@@ -22,9 +18,13 @@ use Rattle.list.proofs.WalkLaws.{walked-length}
 use Rattle.list.proofs.KeptLaws.{kept-facts}
 use Rattle.index.specs.Format.{wordCount, highest, wordOf, singlesOf, lowerOf, upperOf, listOf}
 use Rattle.index.specs.Sound.{Sound}
-use Rattle.directory.specs.Has.{has, wordPlace}
+use Rattle.directory.specs.declared.Standing.{Standing}
+use Rattle.directory.specs.declared.Standing.the-variants.{Here, Absent}
+use Rattle.directory.specs.Has.{has}
+use Rattle.directory.specs.Standing.{wordPlace, standingOf}
 use Rattle.index.proofs.SoundLaws.{words-step, sound-entry, sound-list, singles-length, lower-length}
-use Rattle.directory.proofs.HasLaws.{has-entry, list-proper, below-down, entry-place, found-place, nowhere-has}
+use Rattle.directory.proofs.HasLaws.{has-entry, list-proper}
+use Rattle.directory.proofs.StandingLaws.{below-down, entry-place, stands-at, absent-has}
 use Rattle.build.specs.Lent.{lentWords, listsFrom}
 use Rattle.build.specs.Build.{Builds}
 use Rattle.layout.specs.Layout.{Below}
@@ -66,14 +66,14 @@ module _ (a b : List ℕ) (s : Sound a) (t : Sound b) (agree : (w : List ℕ) (x
   placeIn i = wordPlace b (wordOf a i)
 
   word-there : (i : ℕ) → i < wordCount a → (placeIn i < wordCount b) × (wordOf b (placeIn i) ≡ wordOf a i)
-  word-there i h = go (first (λ j. same (wordOf b j) (wordOf a i)) (wordCount b)) refl
+  word-there i h = go (standingOf b (wordOf a i)) refl
     where
-      go : (f : Found) → first (λ j. same (wordOf b j) (wordOf a i)) (wordCount b) ≡ f → (placeIn i < wordCount b) × (wordOf b (placeIn i) ≡ wordOf a i)
-      go (At j) e = let p = found-place b t (wordOf a i) j e in rw (p .2) (p .0, p .1)
-      go Nowhere e =
+      go : (found : Standing) → standingOf b (wordOf a i) ≡ found → (placeIn i < wordCount b) × (wordOf b (placeIn i) ≡ wordOf a i)
+      go (Here j) e = let w = stands-at b t (wordOf a i) (Here j) e in rw (entry-place b t (wordOf a i) j (w .1) (w .2)) (w .1, w .2)
+      go (Absent p) e =
           let x = getD (listOf a i) 0 0 in
-          let p = first-named (highest a) (listOf a i) (list-proper a s i h) (list-some a s i h) in
-          true-false (sym p ∙ sym (has-entry a s (wordOf a i) i x h refl) ∙ agree (wordOf a i) x ∙ nowhere-has b (wordOf a i) x e)
+          let some = first-named (highest a) (listOf a i) (list-proper a s i h) (list-some a s i h) in
+          true-false (sym some ∙ sym (has-entry a s (wordOf a i) i x h refl) ∙ agree (wordOf a i) x ∙ absent-has b t (wordOf a i) p x e)
 
   -- places rise with the words
   place-rises : (i : ℕ) → suc i < wordCount a → placeIn i < placeIn (suc i)

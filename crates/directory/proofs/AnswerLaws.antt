@@ -1,6 +1,7 @@
 -- What the calls over one entry answer, by what the check and the tests before it said.
 use mathlib.Core.Path.{_≡_, refl}
 use Prim.Native.Nat.{ℕ, _≤_, _<_}
+use native.Mathlib.Omega.{arith}
 use mathlib.Core.Bool.{Bool, true, false, _||_}
 use mathlib.Core.List.{List}
 use lib.Dec.{eqb, ltb}
@@ -9,19 +10,20 @@ use Rattle.laws.proofs.Tests.{or-neither}
 use Rattle.limits.specs.Limits.{recordMax}
 use Rattle.refusal.specs.declared.Refusal.{Refusal}
 use Rattle.refusal.specs.declared.Refusal.the-variants.{EntryNumber, ProbeRange, NoWord}
-use Rattle.refusal.specs.declared.Found.the-variants.{At, Nowhere}
-use Rattle.refusal.specs.First.{first}
-use Rattle.word.specs.Word.{same}
 use Rattle.list.specs.declared.probe.Probe.{Probe}
 use Rattle.index.specs.declared.Checked.{Checked}
 use Rattle.index.specs.declared.Checked.the-variants.{Good, Refused}
-use Rattle.index.specs.Format.{wordCount, wordStart, wordLength, wordOf, listOf}
+use Rattle.index.specs.Format.{wordCount, wordStart, wordLength, listOf}
 use Rattle.index.specs.Check.{checkOf}
-use Rattle.index.proofs.CheckLaws.{not-good, good-sound}
+use Rattle.index.proofs.CheckLaws.{not-good, good-sound, check-numbers}
+use Rattle.directory.specs.declared.Standing.{Standing}
+use Rattle.directory.specs.declared.Standing.the-variants.{Here, Absent}
 use Rattle.directory.specs.declared.Lookup.the-variants.{Entry, NoEntry}
 use Rattle.directory.specs.declared.Probed.the-variants.{Counted, NoCount}
-use Rattle.directory.specs.Entry.{lookupOf, entryAfter, entryCheck, entryStart, entryLength, badRange, rangeAnswer, listProbed, probeOf}
+use Rattle.directory.specs.Standing.{standingOf, Stands}
+use Rattle.directory.specs.Entry.{standingAnswer, lookupAfter, lookupOf, entryAfter, entryCheck, entryStart, entryLength, badRange, rangeAnswer, listProbed, probeOf}
 use Rattle.directory.specs.Regions.{EntryIn}
+use Rattle.directory.proofs.StandingLaws.{stands-at}
 
 -- ---- a lookup
 
@@ -30,13 +32,30 @@ module _ (index word : List ℕ) where
   unfolding lookupOf
   lookup-refused r e = rw e
 
-  pub lookup-found : (i : ℕ) → checkOf index ≡ Good → first (λ j. same (wordOf index j) word) (wordCount index) ≡ At i → lookupOf index word ≡ Entry i
+  pub lookup-standing : (found : Standing) → checkOf index ≡ Good → standingOf index word ≡ found → lookupOf index word ≡ standingAnswer found
   unfolding lookupOf
-  lookup-found i e f = rw (e, f)
+  lookup-standing found e f = rw (e, f)
 
-  pub lookup-missing : checkOf index ≡ Good → first (λ j. same (wordOf index j) word) (wordCount index) ≡ Nowhere → lookupOf index word ≡ NoEntry NoWord
+  -- Reference 8.2: the words below the number that is answered stand before the bytes, and those from it on do not
+  pub lookup-entry : (i : ℕ) → lookupOf index word ≡ Entry i → Stands index word (Here i)
   unfolding lookupOf
-  lookup-missing e f = rw (e, f)
+  lookup-entry i = go (checkOf index) refl (standingOf index word) refl
+    where
+      go : (k : Checked) → checkOf index ≡ k → (found : Standing) → standingOf index word ≡ found → lookupAfter k found ≡ Entry i → Stands index word (Here i)
+      go (Refused r) e found f h = absurd (let z : _≡_ {A = ℕ} 0 1 = cc in omega arith)
+      go Good e (Here j) f h = let q : j ≡ i = cc in rw q at (stands-at index (good-sound index e) word (Here j) f)
+      go Good e (Absent q) f h = absurd (let z : _≡_ {A = ℕ} 0 1 = cc in omega arith)
+
+  -- Reference 8.2: and so do they of the number that 21 carries, which no check gives
+  pub lookup-missing : (p : ℕ) → lookupOf index word ≡ NoEntry (NoWord p) → Stands index word (Absent p)
+  unfolding lookupOf
+  lookup-missing p = go (checkOf index) refl (standingOf index word) refl
+    where
+      go : (k : Checked) → checkOf index ≡ k → (found : Standing) → standingOf index word ≡ found → lookupAfter k found ≡ NoEntry (NoWord p) →
+          Stands index word (Absent p)
+      go (Refused r) e found f h = let q : r ≡ NoWord p = cc in absurd (let few = check-numbers index (NoWord p) (rw q at e) in omega arith)
+      go Good e (Here j) f h = absurd (let z : _≡_ {A = ℕ} 0 1 = cc in omega arith)
+      go Good e (Absent q) f h = let d : q ≡ p = cc in rw d at (stands-at index (good-sound index e) word (Absent q) f)
 
 -- ---- an entry number
 

@@ -1,3 +1,4 @@
 pub mod HasLaws
+pub mod StandingLaws
 pub mod AnswerLaws
 pub mod EntryLaws

@@ -4,34 +4,33 @@ use mathlib.Core.Bool.{Bool, cond, _||_}
 use mathlib.Core.List.{List}
 use lib.Dec.{eqb, ltb}
 use Rattle.limits.specs.Limits.{recordMax}
-use Rattle.refusal.specs.declared.Found.{Found}
-use Rattle.refusal.specs.declared.Found.the-variants.{At, Nowhere}
 use Rattle.refusal.specs.declared.Refusal.the-variants.{EntryNumber, ProbeRange, NoWord}
-use Rattle.refusal.specs.First.{first}
-use Rattle.word.specs.Word.{same}
 use Rattle.list.specs.Ginix.{belowCount, overlapCount}
 use Rattle.index.specs.declared.Checked.{Checked}
 use Rattle.index.specs.declared.Checked.the-variants.{Good, Refused}
-use Rattle.index.specs.Format.{wordCount, wordStart, wordLength, wordOf, listOf}
+use Rattle.index.specs.Format.{wordCount, wordStart, wordLength, listOf}
 use Rattle.index.specs.Part.{Slice, partOf}
 use Rattle.index.specs.Check.{checkOf}
+use Rattle.directory.specs.declared.Standing.{Standing}
+use Rattle.directory.specs.declared.Standing.the-variants.{Here, Absent}
 use Rattle.directory.specs.declared.Lookup.{Lookup}
 use Rattle.directory.specs.declared.Lookup.the-variants.{Entry, NoEntry}
 use Rattle.directory.specs.declared.Probed.{Probed}
 use Rattle.directory.specs.declared.Probed.the-variants.{Counted, NoCount}
+use Rattle.directory.specs.Standing.{standingOf}
 
--- Reference 8.2: the entry, or 21 behind the check
-abbrev pub foundAnswer : Found → Lookup
-foundAnswer (At i) = Entry i
-foundAnswer Nowhere = NoEntry NoWord
+-- Reference 8.2: the entry, or 21 with the number at which the bytes would stand
+abbrev pub standingAnswer : Standing → Lookup
+standingAnswer (Here i) = Entry i
+standingAnswer (Absent place) = NoEntry (NoWord place)
 
-abbrev pub lookupAfter : Checked → Found → Lookup
-lookupAfter (Refused r) found = NoEntry r
-lookupAfter Good found = foundAnswer found
+abbrev pub lookupAfter : Checked → Standing → Lookup
+lookupAfter (Refused r) standing = NoEntry r
+lookupAfter Good standing = standingAnswer standing
 
 -- Reference 8.2: the whole lookup
 unfoldable pub lookupOf : List ℕ → List ℕ → Lookup
-lookupOf index word = lookupAfter (checkOf index) (first (λ i. same (wordOf index i) word) (wordCount index))
+lookupOf index bytes = lookupAfter (checkOf index) (standingOf index bytes)
 
 -- Reference 9.1, row 14: a call of one entry has no place to tell
 abbrev pub entryAfter : Checked → Bool → Checked

@@ -1,3 +1,4 @@
 pub mod Has
+pub mod Standing
 pub mod Entry
 pub mod Regions

@@ -1,16 +1,15 @@
 // Looking a word up in the directory.
 ghost use mathlib.Core.Path.{_≡_};
-ghost use Rattle.refusal.specs.First.{first};
-ghost use Rattle.word.specs.Word.{same, before, orderOf};
-ghost use Rattle.index.specs.Format.{wordCount, wordOf};
+ghost use Rattle.word.specs.Word.{before, orderOf};
+ghost use Rattle.index.specs.Format.{wordOf};
 ghost use Rattle.index.specs.Sound.{Sound};
-ghost use Rattle.directory.specs.Has.{wordPlace};
+ghost use Rattle.directory.specs.Standing.{wordPlace, standingOf};
 ghost use Rattle.directory.specs.Entry.{lookupOf};
 ghost use Rattle.directory.specs.Regions.{EntryIn};
 use crate::Lookup;
+use crate::Standing;
 use index::Checked;
 use index::trailer::word_count;
-use refusal::Found;
 use refusal::Refusal;
 use word::Order;
 
@@ -51,19 +50,19 @@ pub fn find_place(index: &[u8], word: &[u8]) -> usize
     low
 }
 
-// The entry whose word it is, if there is one: it stands at its place or nowhere.
-pub fn find_word(index: &[u8], word: &[u8]) -> Found
+// Where the word stands, or would stand: a word of the index stands at its place, so that one comparison tells.
+pub fn find_word(index: &[u8], word: &[u8]) -> Standing
     requires { ⌜ Sound (now index) ⌝ }
-    ensures { λ r. ⌜ r ≡ first (λ i. same (wordOf (now (index .entry)) i) (now (word .entry))) (wordCount (now (index .entry))) ⌝ }
+    ensures { λ r. ⌜ r ≡ standingOf (now (index .entry)) (now (word .entry)) ⌝ }
 {
     let place = find_place(index, word);
     if place >= word_count(index) {
-        return Found::Nowhere;
+        return Standing::Absent(place);
     }
     match order_at(index, place, word) {
-        Order::Same => Found::At(place),
-        Order::Before => Found::Nowhere,
-        Order::Behind => Found::Nowhere,
+        Order::Same => Standing::Here(place),
+        Order::Before => Standing::Absent(place),
+        Order::Behind => Standing::Absent(place),
     }
 }
 
@@ -74,8 +73,8 @@ pub fn look_up(index: &[u8], word: &[u8]) -> Lookup
     match index::check::check_index(index) {
         Checked::Refused(refusal) => Lookup::NoEntry(refusal),
         Checked::Good => match find_word(index, word) {
-            Found::At(i) => Lookup::Entry(i),
-            Found::Nowhere => Lookup::NoEntry(Refusal::NoWord),
+            Standing::Here(i) => Lookup::Entry(i),
+            Standing::Absent(place) => Lookup::NoEntry(Refusal::NoWord(place)),
         },
     }
 }

@@ -6,6 +6,12 @@ pub mod parts;
 pub mod probe;
 pub mod sense;
 
+// Where bytes stand among the words: at the entry whose word they are, or absent, with the entry number at which they would stand.
+pub enum Standing {
+    Here(usize),
+    Absent(usize),
+}
+
 // A word's entry number, or the refusal.
 pub enum Lookup {
     Entry(usize),

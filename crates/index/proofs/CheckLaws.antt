@@ -11,6 +11,7 @@ use Rattle.refusal.specs.declared.Found.{Found}
 use Rattle.refusal.specs.declared.Found.the-variants.{At, Nowhere}
 use Rattle.refusal.specs.declared.Refusal.{Refusal}
 use Rattle.refusal.specs.declared.Refusal.the-variants.{IndexLength, IndexEdition, IndexTrailer, IndexEntry, IndexList}
+use Rattle.refusal.specs.Refusal.{numberOf}
 use Rattle.refusal.specs.First.{first}
 use Rattle.refusal.proofs.FirstLaws.{first-none, first-none-is}
 use Rattle.index.specs.declared.Checked.{Checked}
@@ -113,3 +114,27 @@ sound-good index s =
     check-contents index (s .size) (s .edition-one) (s .trailer)
     ∙ contents-good index (rw (first-none-is (badEntry index) (wordCount index) (s .entries), s .ends))
     (first-none-is (badList index) (wordCount index) (s .lists))
+
+-- ---- a check refuses by 1 to 5, and by no other
+
+abbrev numberIn : Checked → ℕ
+numberIn Good = 0
+numberIn (Refused r) = numberOf r
+
+check-few : (index : List ℕ) → numberIn (checkOf index) ≤ 5
+unfolding checkOf contentsOf
+check-few index = go (badLength index) (badEdition index) (badTrailer index) (badEntryOf index) (badListOf index)
+  where
+    go : (size edition′ trailer : Bool) (entries lists : Found) →
+        numberIn (cond size (Refused (IndexLength (length index))) (cond edition′ (Refused (IndexEdition (edition index)))
+        (cond trailer (Refused IndexTrailer) (entriesAnswer entries (listsAnswer lists)))))
+        ≤ 5
+    go true e t f l = omega arith
+    go false true t f l = omega arith
+    go false false true f l = omega arith
+    go false false false (At i) l = omega arith
+    go false false false Nowhere (At i) = omega arith
+    go false false false Nowhere Nowhere = omega arith
+
+pub check-numbers : (index : List ℕ) (r : Refusal) → checkOf index ≡ Refused r → numberOf r ≤ 5
+check-numbers index r e = rw e at (check-few index)

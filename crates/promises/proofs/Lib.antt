@@ -3,6 +3,7 @@ pub mod ExampleLaws
 pub mod Rows
 pub mod Table
 pub mod Numbers
+pub mod Lookups
 pub mod OutcomeLaws
 pub mod TableLaws
 pub mod WrongLaws

@@ -6,19 +6,24 @@ use mathlib.Core.List.{List}
 use mathlib.Core.Option.{Option, none, some}
 use lib.Dec.{eqb}
 use Rattle.laws.proofs.Tests.{true-false}
+use borrow.Author.Tests.{eq-eqb}
 use Rattle.refusal.specs.declared.Refusal.{Refusal}
+use Rattle.refusal.specs.declared.Refusal.the-variants.{Room, NoWord}
 use Rattle.refusal.specs.Refusal.{numberOf}
 use Rattle.list.specs.declared.Written.{Written}
 use Rattle.list.specs.declared.Written.the-variants as written
 use Rattle.list.specs.declared.answer.Answer.{Answer}
 use Rattle.list.specs.declared.answer.Answer.the-variants as answer
+use Rattle.directory.specs.declared.Lookup.{Lookup}
+use Rattle.directory.specs.declared.Lookup.the-variants.{Entry, NoEntry}
 use Rattle.directory.specs.declared.Probed.{Probed}
 use Rattle.directory.specs.declared.Probed.the-variants.{Counted, NoCount}
+use Rattle.promises.specs.Numbers.{carries, RowRight}
 use Rattle.promises.specs.Wrong.{Writer, Promise, Meets, Equals, Fails, FailsToBe, Accepts, Refusing, RefusingAll, Fixed, Silent, FirstOnly}
-use Rattle.promises.specs.Wrong.{Inventing, InventingAll, Misreporting, intervalsIn, recordsIn, neededOf, neededIn, writtenIn, neededBy}
-use Rattle.promises.specs.Wrong.{belowIn, overlappingIn}
-use Rattle.promises.specs.Made.{leaving, returning, withIntervals, withRecords, withRoom, withNeeded, withWritten, withNeededBy, WrongWays}
-use Rattle.promises.specs.Made.{WrongFirst, WrongCounts, WrongWritten, withBelow, withOverlapping, WrongRefusal, WrongProbe}
+use Rattle.promises.specs.Wrong.{Inventing, InventingAll, Misreporting, intervalsIn, recordsIn, valueBy, neededIn, writtenIn, neededBy}
+use Rattle.promises.specs.Wrong.{placeIn, belowIn, overlappingIn}
+use Rattle.promises.specs.Made.{leaving, returning, withIntervals, withRecords, withValue, withNeeded, withWritten, withNeededBy, WrongWays}
+use Rattle.promises.specs.Made.{WrongFirst, WrongCounts, WrongWritten, withPlace, withBelow, withOverlapping, WrongRefusal, WrongPlace, WrongProbe}
 
 -- ---- what `Meets` and `Fails` say: some implementation meets a promise, and then not all fail it
 
@@ -101,18 +106,20 @@ one-records : (n : ℕ) (r : Answer) (m : ℕ) → recordsIn (withRecords n r) �
 one-records n (answer.Listed t) m e = sym (some-is n m e)
 one-records n (answer.Refused r) m e = untold m e
 
-one-room : (n : ℕ) (r : Refusal) (m : ℕ) → neededOf (withRoom n r) ≡ some m → m ≡ n
-one-room n r m = go (eqb (numberOf r) 12) refl
+one-value : (k : ℕ) (row : ℕ → Refusal) → RowRight (carries k row) → (n : ℕ) (r : Refusal) (m : ℕ) → valueBy k (withValue k row n r) ≡ some m → m ≡ n
+one-value k row right n r m = go (eqb (numberOf r) k) refl
   where
-    go : (t : Bool) → eqb (numberOf r) 12 ≡ t → neededOf (withRoom n r) ≡ some m → m ≡ n
-    go true e h = sym (some-is n m (rw e at h))
+    go : (t : Bool) → eqb (numberOf r) k ≡ t → valueBy k (withValue k row n r) ≡ some m → m ≡ n
+    go true e h =
+        let made : valueBy k (row n) ≡ some m = rw e at h in
+        sym (some-is n m (rw (right n .0, right n .1, eq-eqb k k refl) at made))
     go false e h =
-        let kept : neededOf r ≡ some m = rw e at h in
+        let kept : valueBy k r ≡ some m = rw e at h in
         untold m (rw e at kept)
 
 one-needed : (n : ℕ) (r : Answer) (m : ℕ) → neededIn (withNeeded n r) ≡ some m → m ≡ n
 one-needed n (answer.Listed t) m e = untold m e
-one-needed n (answer.Refused r) m e = one-room n r m e
+one-needed n (answer.Refused r) m e = one-value 12 Room (λ v. (refl, refl)) n r m e
 
 one-written : (n : ℕ) (r : Written) (m : ℕ) → writtenIn (withWritten n r) ≡ some m → m ≡ n
 one-written n (written.Wrote k) m e = sym (some-is n m e)
@@ -120,7 +127,11 @@ one-written n (written.Refused r) m e = untold m e
 
 one-needed-by : (n : ℕ) (r : Written) (m : ℕ) → neededBy (withNeededBy n r) ≡ some m → m ≡ n
 one-needed-by n (written.Wrote k) m e = untold m e
-one-needed-by n (written.Refused r) m e = one-room n r m e
+one-needed-by n (written.Refused r) m e = one-value 12 Room (λ v. (refl, refl)) n r m e
+
+one-place : (n : ℕ) (r : Lookup) (m : ℕ) → placeIn (withPlace n r) ≡ some m → m ≡ n
+one-place n (Entry i) m e = untold m e
+one-place n (NoEntry r) m e = one-value 21 NoWord (λ v. (refl, refl)) n r m e
 
 one-below : (n : ℕ) (r : Probed) (m : ℕ) → belowIn (withBelow n r) ≡ some m → m ≡ n
 one-below n (Counted p) m e = sym (some-is n m e)
@@ -168,6 +179,9 @@ wrong-written f count room =
 
 pub wrong-refusal : {A R : Type 0} (value : A → R) (refused : R → Bool) → FailsToBe value (RefusingAll refused) → WrongRefusal value refused
 wrong-refusal value refused fails refusal e = fails refusal (refusing-all-kind refused refusal e)
+
+pub wrong-place : {A : Type 0} (value : A → Lookup) → FailsToBe value (InventingAll placeIn) → WrongPlace value
+wrong-place value place n = place (λ a. withPlace n (value a)) (inventing-all-kind value placeIn withPlace one-place n)
 
 pub wrong-probe : {A : Type 0} (value : A → Probed) → FailsToBe value (InventingAll belowIn) → FailsToBe value (InventingAll overlappingIn) → WrongProbe value
 wrong-probe value below overlapping =

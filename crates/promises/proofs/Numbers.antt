@@ -12,7 +12,7 @@ use Rattle.refusal.specs.Refusal.{numberOf, valueOf}
 use Rattle.promises.proofs.Rows.{_&_}
 use Rattle.promises.specs.Numbers.{Numbered, carries, zeroed, refusals, rowNumbers, RowRight, RowsRight, made, AllNumbered}
 
-given-back : (r : Refusal) → made (getD refusals (numberOf r - 1) (zeroed 0 NoWord)) (valueOf r) ≡ r
+given-back : (r : Refusal) → made (getD refusals (numberOf r - 1) (zeroed 0 ProbeRange)) (valueOf r) ≡ r
 given-back (IndexLength v) = refl
 given-back (IndexEdition v) = refl
 given-back IndexTrailer = refl
@@ -33,7 +33,7 @@ given-back (BuildWord v) = refl
 given-back (BuildCount v) = refl
 given-back (BuildSize v) = refl
 given-back ProbeRange = refl
-given-back NoWord = refl
+given-back (NoWord v) = refl
 
 rows-right : RowsRight refusals
 rows-right =
@@ -57,7 +57,7 @@ rows-right =
     & (λ v. (refl, refl))
     & (λ v. (refl, refl))
     & (refl, refl)
-    & (refl, refl)
+    & (λ v. (refl, refl))
     & tt
 
 pub refusals-numbered : AllNumbered refusals
@@ -72,8 +72,8 @@ refusals-numbered = record {
 -- two refusals with one number and one value are one
 pub numbers-tell : (rows : List Numbered) → AllNumbered rows → (r s : Refusal) → numberOf r ≡ numberOf s → valueOf r ≡ valueOf s → r ≡ s
 numbers-tell rows all r s e f =
-    sym (all .complete r) ∙ ap (λ n. made (getD rows (n - 1) (zeroed 0 NoWord)) (valueOf r)) e
-    ∙ ap (λ v. made (getD rows (numberOf s - 1) (zeroed 0 NoWord)) v) f ∙ all .complete s
+    sym (all .complete r) ∙ ap (λ n. made (getD rows (n - 1) (zeroed 0 ProbeRange)) (valueOf r)) e
+    ∙ ap (λ v. made (getD rows (numberOf s - 1) (zeroed 0 ProbeRange)) v) f ∙ all .complete s
 
 pub refusals-tell : (r s : Refusal) → numberOf r ≡ numberOf s → valueOf r ≡ valueOf s → r ≡ s
 refusals-tell = numbers-tell refusals refusals-numbered
@@ -86,11 +86,11 @@ numbers-many rows all = ap length (all .ordered)
 pub number-wrong : RowRight (carries 7 QuestionLength) → ⊥
 number-wrong p = let e : _≡_ {A = ℕ} 6 7 = p 300 .0 in omega arith
 
-pub value-wrong : RowRight (carries 21 (λ v. NoWord)) → ⊥
+pub value-wrong : RowRight (carries 20 (λ v. ProbeRange)) → ⊥
 value-wrong p = let e : _≡_ {A = ℕ} 0 1 = p 1 .1 in omega arith
 
-pub zero-number-wrong : RowRight (zeroed 20 NoWord) → ⊥
-zero-number-wrong p = let e : _≡_ {A = ℕ} 21 20 = p .0 in omega arith
+pub zero-number-wrong : RowRight (zeroed 21 ProbeRange) → ⊥
+zero-number-wrong p = let e : _≡_ {A = ℕ} 20 21 = p .0 in omega arith
 
 pub zero-value-wrong : RowRight (zeroed 6 (QuestionLength 300)) → ⊥
 zero-value-wrong p = let e : _≡_ {A = ℕ} 300 0 = p .1 in omega arith

@@ -91,7 +91,7 @@ p6-place = not-answer (row-right table 5 (omega arith) table-right) (λ e. let z
     value (Refused r) = valueOf r
 
 -- a word that no record has, refused
-pub p7-refused : Right (line pier (Refused NoWord) lent) → ⊥
+pub p7-refused : Right (line pier (Refused (NoWord 3)) lent) → ⊥
 p7-refused = not-answer (row-right table 6 (omega arith) table-right) (λ e. true-false (sym (ap answerRefused e)))
 
 -- intervals that touch left apart

@@ -16,9 +16,9 @@ use Rattle.question.specs.Limits.{tokenWords}
 use Rattle.promises.specs.Example.{boats, tide, or′}
 use Rattle.promises.specs.Table.{tallied}
 use Rattle.promises.specs.Wrong.{writtenRefused, answerRefused, checkRefused, lookupRefused, wordRefused, probeRefused, verdictRefused}
-use Rattle.promises.specs.Wrong.{firstEntry, firstWord, firstBuilt, intervalsIn, recordsIn, neededIn, writtenIn, neededBy, belowIn}
+use Rattle.promises.specs.Wrong.{firstEntry, firstWord, firstBuilt, intervalsIn, recordsIn, neededIn, writtenIn, neededBy, placeIn, belowIn}
 use Rattle.promises.specs.Wrong.{overlappingIn}
-use Rattle.promises.specs.Made.{withIntervals, withRecords, withNeeded, withWritten, withNeededBy, withBelow, withOverlapping}
+use Rattle.promises.specs.Made.{withIntervals, withRecords, withNeeded, withWritten, withNeededBy, withPlace, withBelow, withOverlapping}
 use Rattle.promises.proofs.WrongReturns.{counted}
 
 -- nothing written, listed or counted is an answer too, and so is entry 0
@@ -35,8 +35,8 @@ answers-told = (refl, refl, refl, refl, refl, refl, refl)
 pub refusals-told :
     (writtenRefused (written.Refused (Room 0)) ≡ true)
     × (answerRefused (answer.Refused (Room 0)) ≡ true)
-    × (checkRefused (checked.Refused NoWord) ≡ true)
-    × (lookupRefused (NoEntry NoWord) ≡ true)
+    × (checkRefused (checked.Refused ProbeRange) ≡ true)
+    × (lookupRefused (NoEntry (NoWord 0)) ≡ true)
     × (wordRefused [] ≡ true)
     × (probeRefused (NoCount ProbeRange) ≡ true)
     × (verdictRefused (reading.Refused (Grammar 0)) ≡ true)
@@ -79,6 +79,12 @@ pub written-told :
     × (neededBy (written.Refused (Number 7)) ≡ none)
 written-told = (refl, refl, refl, refl, refl)
 
+pub places-told :
+    (placeIn (Entry 5) ≡ none)
+    × (placeIn (NoEntry (NoWord 5)) ≡ some 5)
+    × (placeIn (NoEntry (Room 5)) ≡ none)
+places-told = (refl, refl, refl)
+
 pub probes-told :
     (belowIn (counted 1 2) ≡ some 1)
     × (overlappingIn (counted 1 2) ≡ some 2)
@@ -104,6 +110,12 @@ pub others-written :
     × (withNeededBy 7 (written.Refused (Room 2)) ≡ written.Refused (Room 7))
     × (withNeededBy 7 (written.Refused (Number 2)) ≡ written.Refused (Number 2))
 others-written = (refl, refl, refl, refl, refl)
+
+pub others-placed :
+    (withPlace 7 (Entry 5) ≡ Entry 5)
+    × (withPlace 7 (NoEntry (NoWord 5)) ≡ NoEntry (NoWord 7))
+    × (withPlace 7 (NoEntry (Room 5)) ≡ NoEntry (Room 5))
+others-placed = (refl, refl, refl)
 
 pub others-counted :
     (withBelow 7 (counted 1 2) ≡ counted 7 2)

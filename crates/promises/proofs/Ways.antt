@@ -12,8 +12,8 @@ use Rattle.promises.specs.Wrong.{Meets, Misreporting, toIntervals, toNum
 use Rattle.promises.specs.Wrong.{answerRefused, checkRefused, lookupRefused, partRefused, probeRefused, verdictRefused, firstEntry, firstWord}
 use Rattle.promises.specs.Wrong.{firstBuilt, intervalsIn}
 use Rattle.promises.specs.Made.{rightIntervals, rightNumbers, rightJoin, rightAsk, rightBuild, returning, withIntervals, WrongWays, WrongFirst}
-use Rattle.promises.specs.Made.{WrongCounts, WrongWritten, WrongRefusal, WrongProbe}
-use Rattle.promises.proofs.Made.{misreporting-kind, some-is, wrong-ways, wrong-first, wrong-counts, wrong-written, wrong-refusal, wrong-probe}
+use Rattle.promises.specs.Made.{WrongCounts, WrongWritten, WrongRefusal, WrongPlace, WrongProbe}
+use Rattle.promises.proofs.Made.{misreporting-kind, some-is, wrong-ways, wrong-first, wrong-counts, wrong-written, wrong-refusal, wrong-place, wrong-probe}
 use Rattle.promises.proofs.Table.{table-right}
 use Rattle.promises.proofs.TableLaws.{row-right}
 use Rattle.promises.proofs.FirstLaws.{first-entry-twice, first-word-twice, first-built-twice}
@@ -119,6 +119,9 @@ check-way = wrong-refusal checkOf checkRefused returns.check-refusing
 
 pub lookup-way : WrongRefusal lookup lookupRefused
 lookup-way = wrong-refusal lookup lookupRefused returns.lookup-refusing
+
+pub lookup-place : WrongPlace lookup
+lookup-place = wrong-place lookup returns.lookup-inventing-place
 
 pub entry-way : WrongRefusal entry checkRefused
 entry-way = wrong-refusal entry checkRefused returns.entry-refusing

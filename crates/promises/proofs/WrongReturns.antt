@@ -3,23 +3,28 @@ use Prim.Native.Nat.{ℕ}
 use native.Mathlib.Omega.{arith}
 use mathlib.Core.Path.{_≡_, refl, ap}
 use mathlib.Core.Bool.{true, false}
-use Rattle.word.specs.Word.{isWordByte, same, isAnd, isOr, isNot, operatorOf}
+use mathlib.Core.List.{[]}
+use Rattle.refusal.specs.declared.Refusal.the-variants.{NoWord}
+use Rattle.word.specs.Word.{isWordByte, same, before, isAnd, isOr, isNot, operatorOf}
 use Rattle.refusal.specs.First.{firstFrom, first}
 use Rattle.list.specs.Ginix.{belowCount, overlapCount}
 use Rattle.list.specs.Cell.{numbersIn}
 use Rattle.list.specs.Kept.{walkFrom, walked}
-use Rattle.index.specs.Format.{entryPlace, wordStart, wordLength, listStart, singleCount, pairCount, part, wordOf, singlesOf, lowerOf, upperOf, listOf, wordCount}
+use Rattle.index.specs.Format.{entryPlace, wordStart, wordLength, listStart, singleCount, pairCount, part, wordOf, singlesOf, lowerOf, upperOf, listOf}
 use Rattle.index.specs.Check.{checkOf}
+use Rattle.directory.specs.Standing.{belowWithin, wordPlace, standingOf}
 use Rattle.directory.specs.Entry.{lookupAfter, lookupOf, entryAfter, entryCheck, numberAfter, entryStart, entryLength, badRange, rangeAnswer, probeAfter, probeOf}
 use Rattle.index.specs.declared.Checked.the-variants.{Good}
+use Rattle.directory.specs.declared.Standing.the-variants.{Here, Absent}
+use Rattle.directory.specs.declared.Lookup.the-variants.{NoEntry}
 use Rattle.directory.specs.declared.Probed.{Probed}
 use Rattle.directory.specs.declared.Probed.the-variants.{Counted}
 use Rattle.question.specs.Token.{run, gather, tokensAt, tokens}
 use Rattle.question.specs.Grammar.{fromLeft, question, operand, links, whole}
 use Rattle.question.specs.Reading.{isForeign, refusalOf, parsed, verdictOf}
-use Rattle.promises.specs.Example.{boats, example}
+use Rattle.promises.specs.Example.{boats, pier, example}
 use Rattle.promises.specs.Wrong.{FailsToBe, RefusingAll, InventingAll, lookup, entry, word, probe, checkRefused, lookupRefused, wordRefused}
-use Rattle.promises.specs.Wrong.{partRefused, probeRefused, verdictRefused, belowIn, overlappingIn}
+use Rattle.promises.specs.Wrong.{partRefused, probeRefused, verdictRefused, placeIn, belowIn, overlappingIn}
 use Rattle.promises.proofs.ExampleLaws.{example-good}
 use Rattle.promises.proofs.WrongLaws.{refusing-all-fails, inventing-all-fails}
 
@@ -27,10 +32,23 @@ pub check-refusing : FailsToBe checkOf (RefusingAll checkRefused)
 check-refusing = refusing-all-fails checkOf checkRefused example (ap checkRefused example-good)
 
 pub lookup-refusing : FailsToBe lookup (RefusingAll lookupRefused)
-unfolding same firstFrom first entryPlace wordStart wordLength wordOf lookupOf
-lookup-refusing =
-    refusing-all-fails lookup lookupRefused (example, boats)
-    (ap (λ g. lookupRefused (lookupAfter g (first (λ i. same (wordOf example i) boats) (wordCount example)))) example-good)
+unfolding same firstFrom first entryPlace wordStart wordLength wordOf standingOf lookupOf
+lookup-refusing = refusing-all-fails lookup lookupRefused (example, boats) (ap (λ g. lookupRefused (lookupAfter g (Here 0))) example-good)
+
+-- no bytes stand before all words, and `pier` behind `maps`
+abbrev Places : Type 0
+Places = (lookup (example, []) ≡ NoEntry (NoWord 0)) × (lookup (example, pier) ≡ NoEntry (NoWord 3))
+
+places : Places
+unfolding same before firstFrom first entryPlace wordStart wordLength wordOf belowWithin wordPlace standingOf lookupOf
+places = (
+  ap (λ g. lookupAfter g (Absent 0)) example-good,
+  ap (λ g. lookupAfter g (Absent 3)) example-good,
+)
+
+pub lookup-inventing-place : FailsToBe lookup (InventingAll placeIn)
+lookup-inventing-place =
+    inventing-all-fails lookup placeIn (example, []) (example, pier) 0 3 (ap placeIn (places .0)) (ap placeIn (places .1)) (λ e. omega arith)
 
 abbrev pub counted : ℕ → ℕ → Probed
 counted below overlapping = Counted (record { below = below; overlapping = overlapping })

@@ -7,7 +7,7 @@ use mathlib.Core.Path.{_≡_}
 use lib.Dec.{eqb}
 use lib.ListN.{length}
 use Rattle.refusal.specs.declared.Refusal.{Refusal}
-use Rattle.refusal.specs.declared.Refusal.the-variants.{Number, Interval, Room}
+use Rattle.refusal.specs.declared.Refusal.the-variants.{Number, Interval, Room, NoWord}
 use Rattle.refusal.specs.Refusal.{numberOf}
 use Rattle.list.specs.declared.Written.{Written}
 use Rattle.list.specs.declared.Written.the-variants as written
@@ -15,6 +15,8 @@ use Rattle.list.specs.declared.answer.Answer.{Answer}
 use Rattle.list.specs.declared.answer.Answer.the-variants as answer
 use Rattle.list.specs.Interval.{intervals, records}
 use Rattle.convert.specs.Convert.{answerOf, leftOf, badNumberOf, intervalsOf, badIntervalOf, numbersOf}
+use Rattle.directory.specs.declared.Lookup.{Lookup}
+use Rattle.directory.specs.declared.Lookup.the-variants.{Entry, NoEntry}
 use Rattle.directory.specs.declared.Probed.{Probed}
 use Rattle.directory.specs.declared.Probed.the-variants.{Counted, NoCount}
 use Rattle.index.specs.Check.{checkOf}
@@ -77,12 +79,12 @@ abbrev pub withRecords : ℕ → Answer → Answer
 withRecords n (answer.Listed t) = answer.Listed (record { intervals = t .intervals; records = n })
 withRecords n (answer.Refused r) = answer.Refused r
 
-abbrev pub withRoom : ℕ → Refusal → Refusal
-withRoom n r = cond (eqb (numberOf r) 12) (Room n) r
+abbrev pub withValue : ℕ → (ℕ → Refusal) → ℕ → Refusal → Refusal
+withValue k row n r = cond (eqb (numberOf r) k) (row n) r
 
 abbrev pub withNeeded : ℕ → Answer → Answer
 withNeeded n (answer.Listed t) = answer.Listed t
-withNeeded n (answer.Refused r) = answer.Refused (withRoom n r)
+withNeeded n (answer.Refused r) = answer.Refused (withValue 12 Room n r)
 
 abbrev pub withWritten : ℕ → Written → Written
 withWritten n (written.Wrote m) = written.Wrote n
@@ -90,7 +92,7 @@ withWritten n (written.Refused r) = written.Refused r
 
 abbrev pub withNeededBy : ℕ → Written → Written
 withNeededBy n (written.Wrote m) = written.Wrote m
-withNeededBy n (written.Refused r) = written.Refused (withRoom n r)
+withNeededBy n (written.Refused r) = written.Refused (withValue 12 Room n r)
 
 -- ---- of one that meets the promise, none that is made so meets it: Reference 11
 
@@ -117,6 +119,10 @@ pub record WrongWritten {A : Type 0} (promise : Promise A Written) (f : Writer A
 
 -- ---- the same of the calls that write nothing: Reference 8.1 to 8.4
 
+abbrev pub withPlace : ℕ → Lookup → Lookup
+withPlace n (Entry i) = Entry i
+withPlace n (NoEntry r) = NoEntry (withValue 21 NoWord n r)
+
 abbrev pub withBelow : ℕ → Probed → Probed
 withBelow n (Counted p) = Counted (record { below = n; overlapping = p .overlapping })
 withBelow n (NoCount r) = NoCount r
@@ -127,6 +133,9 @@ withOverlapping n (NoCount r) = NoCount r
 
 abbrev pub WrongRefusal : {A R : Type 0} → (A → R) → (R → Bool) → Type 0
 WrongRefusal {A} {R} value refused = (refusal : A → R) → ((a : A) → refused (refusal a) ≡ true) → Equals value refusal → ⊥
+
+abbrev pub WrongPlace : {A : Type 0} → (A → Lookup) → Type 0
+WrongPlace value = (n : ℕ) → Equals value (λ a. withPlace n (value a)) → ⊥
 
 pub record WrongProbe {A : Type 0} (value : A → Probed) : Type 0 where
   pub below : (n : ℕ) → Equals value (λ a. withBelow n (value a)) → ⊥

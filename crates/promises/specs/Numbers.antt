@@ -36,7 +36,7 @@ refusals =
     ∷ carries 18 BuildCount
     ∷ carries 19 BuildSize
     ∷ zeroed 20 ProbeRange
-    ∷ zeroed 21 NoWord
+    ∷ carries 21 NoWord
     ∷ []
 
 -- Reference 9.1: the numbers that the rows give
@@ -62,4 +62,4 @@ made (zeroed n refusal) value = refusal
 pub record AllNumbered (rows : List Numbered) : Type 0 where
   pub right : RowsRight rows
   pub ordered : rowNumbers rows ≡ 1 ∷ 2 ∷ 3 ∷ 4 ∷ 5 ∷ 6 ∷ 7 ∷ 8 ∷ 9 ∷ 10 ∷ 11 ∷ 12 ∷ 13 ∷ 14 ∷ 15 ∷ 16 ∷ 17 ∷ 18 ∷ 19 ∷ 20 ∷ 21 ∷ []
-  pub complete : (r : Refusal) → made (getD rows (numberOf r - 1) (zeroed 0 NoWord)) (valueOf r) ≡ r
+  pub complete : (r : Refusal) → made (getD rows (numberOf r - 1) (zeroed 0 ProbeRange)) (valueOf r) ≡ r

@@ -189,13 +189,14 @@ abbrev pub recordsIn : Answer → Option ℕ
 recordsIn (answer.Listed t) = some (t .records)
 recordsIn (answer.Refused r) = none
 
--- Reference 9.1, row 12: the room that is needed
-abbrev pub neededOf : Refusal → Option ℕ
-neededOf r = cond (eqb (numberOf r) 12) (some (valueOf r)) none
+-- Reference 9.1: the value of row k
+abbrev pub valueBy : ℕ → Refusal → Option ℕ
+valueBy k r = cond (eqb (numberOf r) k) (some (valueOf r)) none
 
+-- Reference 9.1, row 12: the room that is needed
 abbrev pub neededIn : Answer → Option ℕ
 neededIn (answer.Listed t) = none
-neededIn (answer.Refused r) = neededOf r
+neededIn (answer.Refused r) = valueBy 12 r
 
 -- Reference 7: how many were written, intervals, numbers or bytes
 abbrev pub writtenIn : Written → Option ℕ
@@ -204,7 +205,12 @@ writtenIn (written.Refused r) = none
 
 abbrev pub neededBy : Written → Option ℕ
 neededBy (written.Wrote n) = none
-neededBy (written.Refused r) = neededOf r
+neededBy (written.Refused r) = valueBy 12 r
+
+-- Reference 9.1, row 21: how many words stand before bytes that are no entry's word
+abbrev pub placeIn : Lookup → Option ℕ
+placeIn (Entry i) = none
+placeIn (NoEntry r) = valueBy 21 r
 
 -- Reference 3.3: the intervals that lie below a probed range, and those that overlap it
 abbrev pub belowIn : Probed → Option ℕ

@@ -27,7 +27,7 @@ numberOf (BuildWord i) = 17
 numberOf (BuildCount i) = 18
 numberOf (BuildSize i) = 19
 numberOf ProbeRange = 20
-numberOf NoWord = 21
+numberOf (NoWord i) = 21
 
 -- Reference 9.1: the value, which the refusal carries, or 0 where there is nothing to tell
 abbrev pub valueOf : Refusal → ℕ
@@ -51,4 +51,4 @@ valueOf (BuildWord i) = i
 valueOf (BuildCount i) = i
 valueOf (BuildSize i) = i
 valueOf ProbeRange = 0
-valueOf NoWord = 0
+valueOf (NoWord i) = i

@@ -23,7 +23,7 @@ pub enum Refusal {
     BuildCount(usize),
     BuildSize(usize),
     ProbeRange,
-    NoWord,
+    NoWord(usize),
 }
 
 // What a search for the first place of a fault finds.
@@ -57,7 +57,7 @@ pub fn number_of(refusal: Refusal) -> u64
         Refusal::BuildCount(_) => 18,
         Refusal::BuildSize(_) => 19,
         Refusal::ProbeRange => 20,
-        Refusal::NoWord => 21,
+        Refusal::NoWord(_) => 21,
     }
 }
 
@@ -86,6 +86,6 @@ pub fn value_of(refusal: Refusal) -> u64
         Refusal::BuildCount(count) => count as u64,
         Refusal::BuildSize(which) => which as u64,
         Refusal::ProbeRange => 0,
-        Refusal::NoWord => 0,
+        Refusal::NoWord(place) => place as u64,
     }
 }

@@ -11,12 +11,11 @@ use lib.Seq.{getD-set-same, getD-set-other, take-suc-set}
 use borrow.Author.Tests.{lt-ltb, le-ltb}
 use types.Run.{OneOf, miss}
 use denote.Enum.Declared.{tagOf}
-use Rattle.refusal.specs.declared.Found.the-variants.{At, Nowhere}
-use Rattle.refusal.specs.First.{first}
-use Rattle.word.specs.Word.{same}
-use Rattle.index.specs.Format.{wordCount, wordOf}
+use Rattle.index.specs.Format.{wordCount}
 use Rattle.index.specs.Sound.{Sound}
-use Rattle.directory.proofs.HasLaws.{found-place, found-has, nowhere-has}
+use Rattle.directory.specs.declared.Standing.the-variants.{Here, Absent}
+use Rattle.directory.specs.Standing.{standingOf}
+use Rattle.directory.proofs.StandingLaws.{stands-at, here-has, absent-has}
 use Rattle.question.proofs.token.Token.{the-type}
 use Rattle.question.proofs.ReaderLaws.{end-headed}
 use Rattle.question.specs.declared.token.Token.{Token}
@@ -31,11 +30,11 @@ use Rattle.slots.specs.Compile.{StandsFor, WritesCodes, FillsSlots}
 -- ---- an entry number for a word
 
 module _ (index : List ℕ) (sound : Sound index) (w : List ℕ) where
-  pub entry-at : (i : ℕ) → first (λ j. same (wordOf index j) w) (wordCount index) ≡ At i → StandsFor index w i
-  entry-at i e x = rw (lt-ltb i (wordCount index) (found-place index sound w i e .0)) (sym (found-has index sound w i x e))
+  pub entry-here : (i : ℕ) → standingOf index w ≡ Here i → StandsFor index w i
+  entry-here i e x = rw (lt-ltb i (wordCount index) (stands-at index sound w (Here i) e .1)) (sym (here-has index sound w i x e))
 
-  pub entry-nowhere : (i : ℕ) → first (λ j. same (wordOf index j) w) (wordCount index) ≡ Nowhere → i ≡ wordCount index → StandsFor index w i
-  entry-nowhere i e h x = rw (le-ltb i (wordCount index) (omega arith)) (sym (nowhere-has index w x e))
+  pub entry-absent : (i p : ℕ) → standingOf index w ≡ Absent p → i ≡ wordCount index → StandsFor index w i
+  entry-absent i p e h x = rw (le-ltb i (wordCount index) (omega arith)) (sym (absent-has index sound w p x e))
 
 -- ---- the next token
 

@@ -7,12 +7,12 @@ ghost use Rattle.question.specs.Limits.{tokenWords};
 ghost use Rattle.slots.specs.Compile.{StandsFor, WritesCodes, FillsSlots};
 use codes::code::WORD_CODE;
 use codes::code::token_code;
+use directory::Standing;
 use directory::find::find_word;
 use index::trailer::word_count;
 use question::token::Token;
 use question::token::next_token;
 use question::token::token_end;
-use refusal::Found;
 
 // How many codes were written, and how many slots were filled.
 pub struct Compiled {
@@ -26,8 +26,8 @@ fn entry_for(index: &[u8], word: &[u8]) -> usize
     ensures { λ r. ⌜ StandsFor (now (index .entry)) (now (word .entry)) r ⌝ }
 {
     match find_word(index, word) {
-        Found::At(i) => i,
-        Found::Nowhere => word_count(index),
+        Standing::Here(i) => i,
+        Standing::Absent(_) => word_count(index),
     }
 }
 

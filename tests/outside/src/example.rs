@@ -52,7 +52,8 @@ fn the_example() -> usize {
     let cell = |k: usize| u32::from_le_bytes(index[152 + 4 * k..156 + 4 * k].try_into().unwrap());
     let mut done = expect("length 172", index.len() == 172);
     done += expect("W = 52, D = 72, n = 4, N = 9, edition 1", (0..5).map(cell).eq([52, 72, 4, 9, 1]));
-    done += expect("lookup", lookup(&index, b"maps") == Ok(2) && refused(lookup(&index, b"pier"), 21, 0));
+    done += expect("lookup", lookup(&index, b"maps") == Ok(2) && refused(lookup(&index, b"pier"), 21, 3));
+    done += expect("lookup at the ends", refused(lookup(&index, b""), 21, 0) && refused(lookup(&index, b"tides"), 21, 4));
     for (question, number, value, cells) in QUESTIONS {
         let holds = match ask(&index, question.as_bytes()) {
             Ok(answer) => number == 0 && answer.cells() == cells,

@@ -16,6 +16,7 @@ fn asked(random: &mut Random, catalogue: &Catalogue) -> Vec<u8> {
         2 => word.extend((0..random.below(40)).map(|_| b'a')),
         3 => word = random.pick(&[&b""[..], b"and", b"or", b"not", b" ", b"\0", b"\xff"]).to_vec(),
         4 if !word.is_empty() => *word.last_mut().unwrap() ^= 1 << random.below(8),
+        5 => word = (0..random.below(40)).map(|_| random.cell() as u8).collect(),
         _ => {}
     }
     word

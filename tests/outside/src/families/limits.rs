@@ -16,6 +16,7 @@ pub fn run(caller: &mut Caller, _: &mut Random) -> Outcome {
     borders(caller)?;
     conversions(caller)?;
     few_and_many_words(caller)?;
+    missing_words(caller)?;
     longest_index(caller)
 }
 
@@ -192,6 +193,8 @@ fn few_and_many_words(caller: &mut Caller) -> Outcome {
     for n in [0, RECORD_MAX] {
         caller.check(&encode(n, &[]))?;
         caller.ask(&encode(n, &[]), b"pier", 0)?;
+        caller.lookup(&encode(n, &[]), b"pier")?;
+        caller.lookup(&encode(n, &[]), b"")?;
         caller.build(n, b"", &[], &[], 20)?;
         caller.build(n, b"", &[], &[], 19)?;
     }
@@ -204,6 +207,8 @@ fn few_and_many_words(caller: &mut Caller) -> Outcome {
     caller.check(&encode(9, &many))?;
     for i in [0, 1, 32_767, 65_534, 65_535] {
         caller.lookup(&most, &name(i))?;
+        caller.lookup(&most, &[&name(i)[..], b"0"].concat())?;
+        caller.lookup(&most, &name(i)[..5])?;
         caller.word(&most, i as u32)?;
     }
     joined(caller, &most, &[0, 65_534, 5, 7])?;
@@ -214,6 +219,27 @@ fn few_and_many_words(caller: &mut Caller) -> Outcome {
         caller.build(9, &words, &vec![1; n], &numbers, most.len())?;
         caller.build(9, &words, &vec![1; n], &numbers, most.len() - 1)?;
         caller.build(9, &words[..words.len() - 1], &vec![1; n], &numbers, most.len())?;
+    }
+    Ok(())
+}
+
+/// What stands before all words, between any two, and behind the last: each byte alone, and beside each word its beginnings, longer ones, and the same
+/// with another last byte; no bytes, and more than a word may have.
+fn missing_words(caller: &mut Caller) -> Outcome {
+    let index = example();
+    for byte in 0..=255 {
+        caller.lookup(&index, &[byte])?;
+        for word in [&b"boats"[..], b"harbour", b"maps", b"tide"] {
+            caller.lookup(&index, &[word, &[byte]].concat())?;
+            caller.lookup(&index, &[&word[..word.len() - 1], &[byte]].concat())?;
+            caller.lookup(&index, &word[..usize::from(byte) % word.len()])?;
+        }
+    }
+    for length in [31, 32, 33, 64, 65_536] {
+        for byte in [0, b'a', b'm', b'z', 255] {
+            caller.lookup(&index, &vec![byte; length])?;
+            caller.lookup(&index, &[&b"maps"[..], &vec![byte; length]].concat())?;
+        }
     }
     Ok(())
 }

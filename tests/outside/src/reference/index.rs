@@ -108,12 +108,12 @@ fn read_list(bytes: &[u8], line: &Line, highest: u32) -> Option<Set> {
     Some(Set::of(walked))
 }
 
-/// The number of the entry with these bytes; refusal 21 for all else, whatever the bytes.
+/// The number of the entry with these bytes; for all else, whatever the bytes, refusal 21 with how many words stand before them.
 pub fn lookup(bytes: &[u8], word: &[u8]) -> Answer<u64> {
     let index = read(bytes)?;
     match index.entries.iter().position(|entry| entry.word == word) {
         Some(i) => Ok(i as u64),
-        None => refuse(21, 0),
+        None => refuse(21, index.entries.iter().filter(|entry| entry.word[..] < *word).count() as u64),
     }
 }
 

@@ -6,8 +6,8 @@ use borrow.Author.Needs.{needs}
 use Rattle.limits.specs.Limits.{wordsMax}
 use Rattle.word.specs.Word.{before}
 use Rattle.index.specs.Format.{wordCount}
-use Rattle.directory.specs.Has.{wordPlace}
-use Rattle.directory.proofs.HasLaws.{place-splits, place-behind, place-not-behind}
+use Rattle.directory.specs.Standing.{wordPlace}
+use Rattle.directory.proofs.StandingLaws.{place-splits, place-behind, place-not-behind}
 use Rattle.directory.proofs.find.find_place.Statement.{statement}
 use Rattle.directory.proofs.find.find_place.Tie as tie
 

@@ -3,12 +3,11 @@ use Prim.Native.Nat.{ℕ, _<_}
 use mathlib.Core.Path.{_≡_, sym, _∙_}
 use mathlib.Core.List.{List}
 use native.Mathlib.Omega.{arith}
-use Rattle.refusal.specs.declared.Found.the-variants.{Nowhere}
-use Rattle.refusal.specs.First.{first}
-use Rattle.word.specs.Word.{same}
 use Rattle.word.proofs.WordLaws.{order-is-same, order-before-differ, order-behind-differ}
 use Rattle.index.specs.Format.{wordCount, wordOf}
-use Rattle.directory.proofs.HasLaws.{entry-found, place-nowhere}
+use Rattle.directory.specs.declared.Standing.the-variants.{Absent}
+use Rattle.directory.specs.Standing.{standingOf}
+use Rattle.directory.proofs.StandingLaws.{standing-here, standing-absent}
 use Rattle.directory.proofs.find.find_word.Statement.{statement}
 use Rattle.directory.proofs.find.find_word.Tie as tie
 use borrow.Author.Needs.{needs}
@@ -18,7 +17,7 @@ returns c =
     let found = c .before .before in
     let start = found .before .before .before in
     let n = c .before .word-count .ensures .0 in
-    sym (place-nowhere (start .args .index .now) (start .pre) (start .args .word .now) (found .find-place .result) (found .find-place .ensures)
+    sym (standing-absent (start .args .index .now) (start .pre) (start .args .word .now) (found .find-place .result) (found .find-place .ensures)
     (λ h q. omega (arith, c .if1 .taken)))
 
 -- the word at its place has been compared
@@ -39,12 +38,12 @@ returns-2 c =
     let o = c .before .before in
     let p = placed o .find-place .result in
     let h : p < wordCount (index o) = rw (o .before .before .word-count .ensures .0) at (o .before .if1 .left) in
-    sym (entry-found (index o) (begin o .pre) (word o) p h (order-is-same (wordOf (index o) p) (word o) (sym (o .order-at .ensures) ∙ c .enum-told .given .1)))
+    sym (standing-here (index o) (begin o .pre) (word o) p h (order-is-same (wordOf (index o) p) (word o) (sym (o .order-at .ensures) ∙ c .enum-told .given .1)))
 
 -- another word stands there
 other : (c : tie.After-order-at) → (wordOf (index c) (placed c .find-place .result) ≡ word c → ⊥) →
-    first (λ j. same (wordOf (index c) j) (word c)) (wordCount (index c)) ≡ Nowhere
-other c n = place-nowhere (index c) (begin c .pre) (word c) _ (placed c .find-place .ensures) (λ h. n)
+    standingOf (index c) (word c) ≡ Absent (placed c .find-place .result)
+other c n = standing-absent (index c) (begin c .pre) (word c) _ (placed c .find-place .ensures) (λ h. n)
 
 returns-3 : tie.Need-returns-3
 returns-3 c = let o = c .before .before in sym (other o (order-before-differ _ _ (sym (o .order-at .ensures) ∙ c .enum-told2 .given .1)))
