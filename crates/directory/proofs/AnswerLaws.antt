@@ -10,6 +10,7 @@ use Rattle.laws.proofs.Tests.{or-neither}
 use Rattle.limits.specs.Limits.{recordMax}
 use Rattle.refusal.specs.declared.Refusal.{Refusal}
 use Rattle.refusal.specs.declared.Refusal.the-variants.{EntryNumber, ProbeRange, NoWord}
+use Rattle.refusal.specs.Refusal.{numberOf}
 use Rattle.list.specs.declared.probe.Probe.{Probe}
 use Rattle.index.specs.declared.Checked.{Checked}
 use Rattle.index.specs.declared.Checked.the-variants.{Good, Refused}
@@ -21,11 +22,23 @@ use Rattle.directory.specs.declared.Standing.the-variants.{Here, Absent}
 use Rattle.directory.specs.declared.Lookup.the-variants.{Entry, NoEntry}
 use Rattle.directory.specs.declared.Probed.the-variants.{Counted, NoCount}
 use Rattle.directory.specs.Standing.{standingOf, Stands}
-use Rattle.directory.specs.Entry.{standingAnswer, lookupAfter, lookupOf, entryAfter, entryCheck, entryStart, entryLength, badRange, rangeAnswer, listProbed, probeOf}
+use Rattle.directory.specs.Entry.{standingAnswer, lookupAfter, lookupOf, entryAfter, entryCheck, entryStart, entryLength}
+use Rattle.directory.specs.Entry.{badRange, rangeAnswer, listProbed, probeOf}
 use Rattle.directory.specs.Regions.{EntryIn}
 use Rattle.directory.proofs.StandingLaws.{stands-at}
 
 -- ---- a lookup
+
+-- two places that are answered alike are one, and what a check refuses is answered unlike any
+answers-tell : (a b : Standing) → standingAnswer a ≡ standingAnswer b → a ≡ b
+answers-tell (Here i) (Here j) e = let q : i ≡ j = cc in rw q
+answers-tell (Here i) (Absent p) e = absurd (let z : _≡_ {A = ℕ} 0 1 = cc in omega arith)
+answers-tell (Absent p) (Here j) e = absurd (let z : _≡_ {A = ℕ} 0 1 = cc in omega arith)
+answers-tell (Absent p) (Absent q) e = let d : p ≡ q = cc in rw d
+
+check-unlike : (r : Refusal) (found : Standing) → numberOf r ≤ 5 → NoEntry r ≡ standingAnswer found → ⊥
+check-unlike r (Here i) few e = absurd (let z : _≡_ {A = ℕ} 0 1 = cc in omega arith)
+check-unlike r (Absent p) few e = let q : r ≡ NoWord p = cc in let many : 21 ≤ 5 = rw q at few in omega arith
 
 module _ (index word : List ℕ) where
   pub lookup-refused : (r : Refusal) → checkOf index ≡ Refused r → lookupOf index word ≡ NoEntry r
@@ -36,26 +49,14 @@ module _ (index word : List ℕ) where
   unfolding lookupOf
   lookup-standing found e f = rw (e, f)
 
-  -- Reference 8.2: the words below the number that is answered stand before the bytes, and those from it on do not
-  pub lookup-entry : (i : ℕ) → lookupOf index word ≡ Entry i → Stands index word (Here i)
+  -- Reference 8.2: the words below the number, whether it is answered or carried by 21, stand before the bytes, and those from it on do not
+  pub lookup-stands : (found : Standing) → lookupOf index word ≡ standingAnswer found → Stands index word found
   unfolding lookupOf
-  lookup-entry i = go (checkOf index) refl (standingOf index word) refl
+  lookup-stands found = go (checkOf index) refl
     where
-      go : (k : Checked) → checkOf index ≡ k → (found : Standing) → standingOf index word ≡ found → lookupAfter k found ≡ Entry i → Stands index word (Here i)
-      go (Refused r) e found f h = absurd (let z : _≡_ {A = ℕ} 0 1 = cc in omega arith)
-      go Good e (Here j) f h = let q : j ≡ i = cc in rw q at (stands-at index (good-sound index e) word (Here j) f)
-      go Good e (Absent q) f h = absurd (let z : _≡_ {A = ℕ} 0 1 = cc in omega arith)
-
-  -- Reference 8.2: and so do they of the number that 21 carries, which no check gives
-  pub lookup-missing : (p : ℕ) → lookupOf index word ≡ NoEntry (NoWord p) → Stands index word (Absent p)
-  unfolding lookupOf
-  lookup-missing p = go (checkOf index) refl (standingOf index word) refl
-    where
-      go : (k : Checked) → checkOf index ≡ k → (found : Standing) → standingOf index word ≡ found → lookupAfter k found ≡ NoEntry (NoWord p) →
-          Stands index word (Absent p)
-      go (Refused r) e found f h = let q : r ≡ NoWord p = cc in absurd (let few = check-numbers index (NoWord p) (rw q at e) in omega arith)
-      go Good e (Here j) f h = absurd (let z : _≡_ {A = ℕ} 0 1 = cc in omega arith)
-      go Good e (Absent q) f h = let d : q ≡ p = cc in rw d at (stands-at index (good-sound index e) word (Absent q) f)
+      go : (k : Checked) → checkOf index ≡ k → lookupAfter k (standingOf index word) ≡ standingAnswer found → Stands index word found
+      go (Refused r) e h = absurd (check-unlike r found (check-numbers index r e) h)
+      go Good e h = stands-at index (good-sound index e) word found (answers-tell (standingOf index word) found h)
 
 -- ---- an entry number
 

@@ -11,7 +11,7 @@ use Rattle.directory.specs.declared.Lookup.{Lookup}
 use Rattle.directory.specs.declared.Lookup.the-variants.{Entry, NoEntry}
 use Rattle.directory.specs.Standing.{Stands}
 use Rattle.directory.specs.Entry.{lookupOf}
-use Rattle.directory.proofs.AnswerLaws.{lookup-entry, lookup-missing}
+use Rattle.directory.proofs.AnswerLaws.{lookup-stands}
 use Rattle.naburain.specs.declared.FoundResult.{FoundResult}
 use Rattle.naburain.specs.Result.{lookupResult}
 use Rattle.naburain.proofs.AgreeLaws.{number-above-zero}
@@ -31,7 +31,7 @@ missed (NoEntry r) e = ap NoEntry (refusals-tell r (NoWord (valueOf r)) e refl)
 
 module _ (index word : List ℕ) (r : FoundResult) (is : r ≡ lookupResult (lookupOf index word)) where
   pub lookup-tells-entry : r .refusal ≡ 0 → Stands index word (Here (r .entry))
-  lookup-tells-entry e = rw is (lookup-entry index word _ (answered (lookupOf index word) (rw is at e)))
+  lookup-tells-entry e = rw is (lookup-stands index word (Here _) (answered (lookupOf index word) (rw is at e)))
 
   pub lookup-tells-place : r .refusal ≡ 21 → Stands index word (Absent (r .value))
-  lookup-tells-place e = rw is (lookup-missing index word _ (missed (lookupOf index word) (rw is at e)))
+  lookup-tells-place e = rw is (lookup-stands index word (Absent _) (missed (lookupOf index word) (rw is at e)))
