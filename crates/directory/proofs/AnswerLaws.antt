@@ -19,7 +19,7 @@ use Rattle.index.specs.Check.{checkOf}
 use Rattle.index.proofs.CheckLaws.{not-good, good-sound, check-numbers}
 use Rattle.directory.specs.declared.Standing.{Standing}
 use Rattle.directory.specs.declared.Standing.the-variants.{Here, Absent}
-use Rattle.directory.specs.declared.Lookup.the-variants.{Entry, NoEntry}
+use Rattle.directory.specs.declared.Lookup.the-variants.{NoEntry}
 use Rattle.directory.specs.declared.Probed.the-variants.{Counted, NoCount}
 use Rattle.directory.specs.Standing.{standingOf, Stands}
 use Rattle.directory.specs.Entry.{standingAnswer, lookupAfter, lookupOf, entryAfter, entryCheck, entryStart, entryLength}

@@ -1,6 +1,6 @@
 -- Reference 8.2: what a C program learns from a lookup of the words of an index: below the number that it is told they stand before the bytes, and from
 -- it on they do not.
-use mathlib.Core.Path.{_≡_, refl, ap, _∙_}
+use mathlib.Core.Path.{_≡_, refl, ap}
 use Prim.Native.Nat.{ℕ}
 use native.Mathlib.Omega.{arith}
 use mathlib.Core.List.{List}

@@ -38,7 +38,8 @@ returns-2 c =
     let o = c .before .before in
     let p = placed o .find-place .result in
     let h : p < wordCount (index o) = rw (o .before .before .word-count .ensures .0) at (o .before .if1 .left) in
-    sym (standing-here (index o) (begin o .pre) (word o) p h (order-is-same (wordOf (index o) p) (word o) (sym (o .order-at .ensures) ∙ c .enum-told .given .1)))
+    let e = order-is-same (wordOf (index o) p) (word o) (sym (o .order-at .ensures) ∙ c .enum-told .given .1) in
+    sym (standing-here (index o) (begin o .pre) (word o) p h e)
 
 -- another word stands there
 other : (c : tie.After-order-at) → (wordOf (index c) (placed c .find-place .result) ≡ word c → ⊥) →
