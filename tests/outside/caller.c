@@ -78,7 +78,7 @@ static void ask_example(const uint8_t *index)
 
 static void small_calls(const uint8_t *index)
 {
-    uint8_t *maps = copy("maps", 4), *pier = copy("pier", 4);
+    uint8_t *maps = copy("maps", 4), *pier = copy("pier", 4), *last = copy("\xff", 1);
     uint32_t *numbers = malloc(3 * sizeof *numbers), *cells = malloc(4 * sizeof *cells);
     expect(naburain_check(index, LENGTH).refusal == 0, "check");
     expect(naburain_lookup(index, LENGTH, maps, 4).entry == 2, "lookup");
@@ -86,6 +86,7 @@ static void small_calls(const uint8_t *index)
     expect(missing.refusal == NABURAIN_NO_WORD && missing.value == 3 && missing.entry == 0, "lookup of a word that is not there");
     missing = naburain_lookup(index, LENGTH, NULL, 0);
     expect(missing.refusal == NABURAIN_NO_WORD && missing.value == 0 && missing.entry == 0, "lookup of no bytes");
+    expect(naburain_lookup(index, LENGTH, last, 1).value == 4, "how many words there are");
     struct naburain_part part = naburain_word(index, LENGTH, 2);
     expect(part.refusal == 0 && part.length == 4 && memcmp(index + part.start, "maps", 4) == 0, "an entry's word");
     expect(naburain_word(index, LENGTH, 4).refusal == NABURAIN_ENTRY, "a fifth entry");
@@ -94,7 +95,7 @@ static void small_calls(const uint8_t *index)
     numbers[0] = 1, numbers[1] = 2, numbers[2] = 5;
     expect(naburain_to_intervals(numbers, 3, cells, 4).written == 2 && cells[1] == 2 && cells[2] == 5, "numbers to intervals");
     expect(naburain_to_numbers(cells, 4, numbers, 3).written == 3 && numbers[2] == 5, "intervals to numbers");
-    free(maps), free(pier), free(numbers), free(cells);
+    free(maps), free(pier), free(last), free(numbers), free(cells);
 }
 
 typedef struct naburain_answered join(const uint8_t *, size_t, const uint32_t *, size_t, uint32_t *, size_t);
