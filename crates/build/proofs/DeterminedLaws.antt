@@ -10,13 +10,12 @@ use Rattle.word.proofs.WordLaws.{before-irreflexive}
 use Rattle.list.specs.declared.Written.the-variants.{Wrote}
 use Rattle.list.specs.Interval.{isProper, names}
 use Rattle.list.specs.Among.{among}
-use Rattle.list.specs.Cell.{numbersIn}
 use Rattle.list.proofs.ProperLaws.{ProperFrom, proper-facts}
 use Rattle.list.proofs.NamesLaws.{names-in}
 use Rattle.list.proofs.CellLaws.{numbersIn-length}
 use Rattle.list.proofs.WalkLaws.{walked-length}
 use Rattle.list.proofs.KeptLaws.{kept-facts}
-use Rattle.index.specs.Format.{wordCount, highest, wordOf, singlesOf, lowerOf, upperOf, listOf}
+use Rattle.index.specs.Format.{wordCount, highest, wordOf, singlesOf, lowerOf, listOf, entrySingles, entryLowers, entryUppers}
 use Rattle.index.specs.Sound.{Sound}
 use Rattle.directory.specs.declared.Standing.{Standing}
 use Rattle.directory.specs.declared.Standing.the-variants.{Here, Absent}
@@ -45,9 +44,9 @@ first-named n c e h = named-from n 1 c (proper-facts n 1 c e) h
 list-some : (index : List ℕ) → Sound index → (i : ℕ) → i < wordCount index → 1 ≤ length (listOf index i)
 unfolding listOf
 list-some index s i h =
-    let S = numbersIn (singlesOf index i) in
-    let L = numbersIn (lowerOf index i) in
-    let U = numbersIn (upperOf index i) in
+    let S = entrySingles index i in
+    let L = entryLowers index i in
+    let U = entryUppers index i in
     omega (
       arith,
       walked-length S L U (kept-facts (highest index) S L U (sound-list index s i h) .long),

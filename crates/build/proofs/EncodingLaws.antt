@@ -17,7 +17,7 @@ use Rattle.list.proofs.StretchLaws.{cells-same, proper-cells}
 use Rattle.list.proofs.RecordLaws.{records-same, records-among, records-ascend, proper-count}
 use Rattle.convert.proofs.NumberLaws.{ascends-good}
 use Rattle.list.proofs.KeptCountLaws.{kept-count}
-use Rattle.index.specs.Format.{wordsStart, directoryStart, wordCount, highest, entryPlace, wordStart, wordLength, listStart, singleCount, pairCount, listLength, wordsEnd, listsEnd, part, wordOf, singlesOf, lowerOf, upperOf, listOf}
+use Rattle.index.specs.Format.{wordsStart, directoryStart, wordCount, highest, entryPlace, wordStart, wordLength, listStart, singleCount, pairCount, listLength, wordsEnd, listsEnd, part, wordOf, singlesOf, lowerOf, upperOf, listOf, entrySingles, entryLowers, entryUppers}
 use Rattle.index.specs.Sound.{Sound}
 use Rattle.index.proofs.SoundLaws.{sound-length, sound-edition, sound-word, words-step, sound-trailer, sound-entry, sound-list, sound-ends, wordsEnd-next, listsEnd-next, word-length, singles-length, lower-length, upper-length}
 use Rattle.directory.proofs.HasLaws.{list-proper}
@@ -105,10 +105,10 @@ module _ (index : List ℕ) (s : Sound index) (b : Below 256 index) where
       ∙ sym (proper-cells N (listOf index i) (list-proper index s i h))
 
   apart : (i : ℕ) → i < wordCount index →
-      (cellSingles (listOf index i) ≡ numbersIn (singlesOf index i)) × (cellLowers (listOf index i) ≡ numbersIn (lowerOf index i))
-      × (cellUppers (listOf index i) ≡ numbersIn (upperOf index i))
+      (cellSingles (listOf index i) ≡ entrySingles index i) × (cellLowers (listOf index i) ≡ entryLowers index i)
+      × (cellUppers (listOf index i) ≡ entryUppers index i)
   unfolding listOf
-  apart i h = kept-apart N (numbersIn (singlesOf index i)) (numbersIn (lowerOf index i)) (numbersIn (upperOf index i)) (sound-list index s i h)
+  apart i h = kept-apart N (entrySingles index i) (entryLowers index i) (entryUppers index i) (sound-list index s i h)
 
   region-bytes : (start k : ℕ) → length (part start (4 * k) index) ≡ 4 * k → cellsBytes (numbersIn (part start (4 * k) index)) ≡ part start (4 * k) index
   region-bytes start k e =
@@ -302,9 +302,9 @@ module _ (index : List ℕ) (s : Sound index) (b : Below 256 index) where
   records-some : (i : ℕ) → i < wordCount index → 1 ≤ length (recordsAt index i)
   unfolding listOf
   records-some i h =
-      let S = numbersIn (singlesOf index i) in
-      let L = numbersIn (lowerOf index i) in
-      let U = numbersIn (upperOf index i) in
+      let S = entrySingles index i in
+      let L = entryLowers index i in
+      let U = entryUppers index i in
       omega (
         arith,
         kept-count N S L U (sound-list index s i h),

@@ -16,7 +16,7 @@ use Rattle.list.proofs.StretchLaws.{cells-proper, cells-proper-from, cells-name
 use Rattle.list.proofs.RecordLaws.{Ascends}
 use Rattle.convert.proofs.NumberLaws.{good-ascends}
 use Rattle.index.specs.Format.{wordsStart, directoryStart, wordCount, highest, edition, entryPlace, wordStart, wordLength, listStart, singleCount, pairCount}
-use Rattle.index.specs.Format.{listLength, wordsEnd, listsEnd, part, wordOf, singlesOf, lowerOf, upperOf, listOf}
+use Rattle.index.specs.Format.{listLength, wordsEnd, listsEnd, part, wordOf, singlesOf, lowerOf, upperOf, listOf, entrySingles, entryLowers, entryUppers}
 use Rattle.index.specs.Sound.{badTrailer, badDirectory, badWord, badEntry, badEnd, badList, wordBefore, Sound}
 use Rattle.index.specs.declared.Checked.the-variants.{Good}
 use Rattle.index.specs.Check.{checkOf}
@@ -269,13 +269,13 @@ module _ {n : ℕ} {ws xss : List (List ℕ)} (is : Indexable n ws xss) where
   below : (i : ℕ) → Below cellLimit (cellSingles (listAt i)) × Below cellLimit (cellLowers (listAt i)) × Below cellLimit (cellUppers (listAt i))
   below i = parts-below n cellLimit (omega (arith, is .limit)) 1 (listAt i) (cells-proper-from (among (getD xss i [])) n n (omega arith))
 
-  built-single-numbers : (i : ℕ) → i < length ws → numbersIn (singlesOf index i) ≡ cellSingles (listAt i)
+  built-single-numbers : (i : ℕ) → i < length ws → entrySingles index i ≡ cellSingles (listAt i)
   built-single-numbers i h = ap numbersIn (built-singles i h) ∙ cells-numbers (cellSingles (listAt i)) (below i .0)
 
-  built-lower-numbers : (i : ℕ) → i < length ws → numbersIn (lowerOf index i) ≡ cellLowers (listAt i)
+  built-lower-numbers : (i : ℕ) → i < length ws → entryLowers index i ≡ cellLowers (listAt i)
   built-lower-numbers i h = ap numbersIn (built-lowers i h) ∙ cells-numbers (cellLowers (listAt i)) (below i .1)
 
-  built-upper-numbers : (i : ℕ) → i < length ws → numbersIn (upperOf index i) ≡ cellUppers (listAt i)
+  built-upper-numbers : (i : ℕ) → i < length ws → entryUppers index i ≡ cellUppers (listAt i)
   built-upper-numbers i h = ap numbersIn (built-uppers i h) ∙ cells-numbers (cellUppers (listAt i)) (below i .2)
 
   pub built-list : (i : ℕ) → i < length ws → listOf index i ≡ cellsIn n (getD xss i [])

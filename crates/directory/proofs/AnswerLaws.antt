@@ -14,7 +14,7 @@ use Rattle.refusal.specs.Refusal.{numberOf}
 use Rattle.list.specs.declared.probe.Probe.{Probe}
 use Rattle.index.specs.declared.Checked.{Checked}
 use Rattle.index.specs.declared.Checked.the-variants.{Good, Refused}
-use Rattle.index.specs.Format.{wordCount, wordStart, wordLength, listOf}
+use Rattle.index.specs.Format.{wordCount, listOf}
 use Rattle.index.specs.Check.{checkOf}
 use Rattle.index.proofs.CheckLaws.{not-good, good-sound, check-numbers}
 use Rattle.directory.specs.declared.Standing.{Standing}
@@ -22,7 +22,7 @@ use Rattle.directory.specs.declared.Standing.the-variants.{Here, Absent}
 use Rattle.directory.specs.declared.Lookup.the-variants.{NoEntry}
 use Rattle.directory.specs.declared.Probed.the-variants.{Counted, NoCount}
 use Rattle.directory.specs.Standing.{standingOf, Stands}
-use Rattle.directory.specs.Entry.{standingAnswer, lookupAfter, lookupOf, entryAfter, entryCheck, entryStart, entryLength}
+use Rattle.directory.specs.Entry.{standingAnswer, lookupAfter, lookupOf, entryAfter, entryCheck}
 use Rattle.directory.specs.Entry.{badRange, rangeAnswer, listProbed, probeOf}
 use Rattle.directory.specs.Regions.{EntryIn}
 use Rattle.directory.proofs.StandingLaws.{stands-at}
@@ -84,23 +84,6 @@ unfolding entryCheck
 entry-good index i e =
     let w = after-good (checkOf index) (ltb i (wordCount index)) e in
     record { sound = good-sound index (w .0); below = ltb-true i (wordCount index) (w .1) }
-
-module _ (index : List ℕ) (i : ℕ) where
-  pub start-answered : entryCheck index i ≡ Good → entryStart index i ≡ wordStart index i
-  unfolding entryStart
-  start-answered e = rw e
-
-  pub start-refused : (r : Refusal) → entryCheck index i ≡ Refused r → entryStart index i ≡ 0
-  unfolding entryStart
-  start-refused r e = rw e
-
-  pub length-answered : entryCheck index i ≡ Good → entryLength index i ≡ wordLength index i
-  unfolding entryLength
-  length-answered e = rw e
-
-  pub length-refused : (r : Refusal) → entryCheck index i ≡ Refused r → entryLength index i ≡ 0
-  unfolding entryLength
-  length-refused r e = rw e
 
 -- ---- a probe
 

@@ -6,13 +6,12 @@ use mathlib.Core.List.{List}
 use lib.ListN.{length}
 use Rattle.limits.specs.Limits.{recordMax}
 use Rattle.list.specs.Interval.{intervals}
-use Rattle.list.specs.Cell.{numbersIn}
 use Rattle.list.specs.Reading.{KeptIn, listIn}
 use Rattle.list.proofs.CellLaws.{numbersIn-length}
 use Rattle.list.proofs.WalkLaws.{walked-length}
 use Rattle.list.proofs.KeptLaws.{kept-facts, kept-weaker}
 use Rattle.index.specs.declared.entry.Entry.{Entry}
-use Rattle.index.specs.Format.{highest, listStart, part, singleCount, pairCount, singlesOf, lowerOf, upperOf, listOf}
+use Rattle.index.specs.Format.{highest, listStart, part, singleCount, pairCount, singlesOf, lowerOf, upperOf, listOf, entrySingles, entryLowers, entryUppers}
 use Rattle.index.specs.Read.{EntryCells}
 use Rattle.index.proofs.SoundLaws.{sound-trailer, sound-length, sound-list, sound-list-room, singles-length, lower-length, upper-length}
 use Rattle.directory.specs.declared.parts.Regions.{Regions}
@@ -22,16 +21,16 @@ module _ {index : List ℕ} {i : ℕ} (e : EntryIn index i) where
   -- each list of a sound index is kept within the largest record
   pub list-kept : KeptIn recordMax (singlesOf index i) (lowerOf index i) (upperOf index i)
   list-kept =
-      kept-weaker (highest index) recordMax (numbersIn (singlesOf index i)) (numbersIn (lowerOf index i)) (numbersIn (upperOf index i))
+      kept-weaker (highest index) recordMax (entrySingles index i) (entryLowers index i) (entryUppers index i)
       (sound-trailer index (e .sound) .highest-bound) (sound-list index (e .sound) i (e .below))
 
   -- one interval for each single and for each pair
-  pub entry-walked : intervals (listOf index i) ≡ length (numbersIn (singlesOf index i)) + length (numbersIn (lowerOf index i))
+  pub entry-walked : intervals (listOf index i) ≡ length (entrySingles index i) + length (entryLowers index i)
   unfolding listOf
   entry-walked =
-      let S = numbersIn (singlesOf index i) in
-      let L = numbersIn (lowerOf index i) in
-      let U = numbersIn (upperOf index i) in
+      let S = entrySingles index i in
+      let L = entryLowers index i in
+      let U = entryUppers index i in
       let w = walked-length S L U (kept-facts recordMax S L U list-kept .long) in
       omega arith
 
@@ -62,7 +61,7 @@ marks-regions {index} {i} r {c} e is s l u n =
     let k = 4 * singleCount index i in
     let m = 4 * pairCount index i in
     let room = sound-list-room index (e .sound) i (e .below) in
-    let kept = kept-facts recordMax (numbersIn (singlesOf index i)) (numbersIn (lowerOf index i)) (numbersIn (upperOf index i)) (list-kept e) in
+    let kept = kept-facts recordMax (entrySingles index i) (entryLowers index i) (entryUppers index i) (list-kept e) in
     let S : singlesIn index r ≡ singlesOf index i = between index (r .s) (r .l) a k (omega arith) (omega arith) in
     let L : lowerIn index r ≡ lowerOf index i = between index (r .l) (r .u) (a + k) m (omega arith) (omega arith) in
     let U : upperIn index r ≡ upperOf index i = between index (r .u) (r .end) (a + k + m) m (omega arith) (omega arith) in

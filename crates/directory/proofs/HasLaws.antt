@@ -9,10 +9,9 @@ use Rattle.laws.proofs.Tests.{and-both, by-test, leb-cases}
 use Rattle.word.specs.Word.{same}
 use Rattle.word.proofs.WordLaws.{same-equal, equal-same}
 use Rattle.list.specs.Interval.{isProper, names}
-use Rattle.list.specs.Cell.{numbersIn}
 use Rattle.list.specs.Kept.{areLonger, walked, isKept}
 use Rattle.list.proofs.NamesLaws.{proper-names-zero, proper-names-above}
-use Rattle.index.specs.Format.{wordCount, highest, wordOf, singlesOf, lowerOf, upperOf, listOf}
+use Rattle.index.specs.Format.{wordCount, highest, wordOf, listOf, entrySingles, entryLowers, entryUppers}
 use Rattle.index.specs.Sound.{Sound}
 use Rattle.index.proofs.SoundLaws.{word-injective, sound-list}
 use Rattle.directory.specs.Has.{hasWithin, has}
@@ -51,9 +50,9 @@ module _ (index word : List ℕ) (x : ℕ) where
 pub list-proper : (index : List ℕ) → Sound index → (i : ℕ) → i < wordCount index → isProper (highest index) (listOf index i) ≡ true
 unfolding listOf isKept
 list-proper index s i h =
-    let S = numbersIn (singlesOf index i) in
-    let L = numbersIn (lowerOf index i) in
-    let U = numbersIn (upperOf index i) in
+    let S = entrySingles index i in
+    let L = entryLowers index i in
+    let U = entryUppers index i in
     and-both (areLonger L U) (isProper (highest index) (walked S L U)) (sound-list index s i h) .1
 
 module _ (index : List ℕ) (s : Sound index) (word : List ℕ) where

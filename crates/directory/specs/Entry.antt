@@ -46,10 +46,10 @@ abbrev pub numberAfter : Checked → ℕ → ℕ
 numberAfter Good n = n
 numberAfter (Refused r) n = 0
 
-unfoldable pub entryStart : List ℕ → ℕ → ℕ
+abbrev pub entryStart : List ℕ → ℕ → ℕ
 entryStart index i = numberAfter (entryCheck index i) (wordStart index i)
 
-unfoldable pub entryLength : List ℕ → ℕ → ℕ
+abbrev pub entryLength : List ℕ → ℕ → ℕ
 entryLength index i = numberAfter (entryCheck index i) (wordLength index i)
 
 -- Reference 8.3: the part itself, of the index's own memory

@@ -8,7 +8,7 @@ use Rattle.list.specs.declared.Place.{Place}
 use Rattle.list.specs.Cell.{numbersIn}
 use Rattle.list.specs.Seek.{Ascends}
 use Rattle.list.specs.Reading.{KeptIn, readingPlace}
-use Rattle.index.specs.Format.{wordCount, part, singlesOf, lowerOf, upperOf}
+use Rattle.index.specs.Format.{wordCount, part, singlesOf, lowerOf, upperOf, entrySingles, entryUppers}
 use Rattle.index.specs.Sound.{Sound}
 use Rattle.directory.specs.declared.parts.Regions.{Regions}
 
@@ -42,5 +42,5 @@ pub record RegionsOf (index : List ℕ) (i : ℕ) (r : Regions) : Type 0 where
   pub upper-ascend : Ascends (numbersIn (upperIn index r))
 
 -- where the list of entry i is read on for x: behind all that ends before x
-abbrev pub entryPlace : List ℕ → ℕ → ℕ → Place
-entryPlace index i x = readingPlace x (numbersIn (singlesOf index i)) (numbersIn (upperOf index i))
+abbrev pub listPlace : List ℕ → ℕ → ℕ → Place
+listPlace index i x = readingPlace x (entrySingles index i) (entryUppers index i)

@@ -7,7 +7,7 @@ ghost use Rattle.list.specs.Hints.{withHint};
 ghost use Rattle.list.specs.Interval.{names};
 ghost use Rattle.list.specs.Sense.{Steady};
 ghost use Rattle.index.specs.Format.{listOf};
-ghost use Rattle.directory.specs.Regions.{EntryIn, entryPlace};
+ghost use Rattle.directory.specs.Regions.{EntryIn, listPlace};
 use crate::parts::Regions;
 use crate::parts::regions_of;
 use list::hints::hint_of;
@@ -22,7 +22,7 @@ pub fn sense_in(index: &[u8], entry: usize, x: u32, k: usize, hints: &mut [usize
     requires high { ⌜ x ≤ recordMax ⌝ }
     requires hint { ⌜ 2 * k + 1 < length (now hints) ⌝ }
     ensures keeps { λ r. ⌜ length (now (hints .exit)) ≡ length (now (hints .entry)) ⌝ }
-    ensures place { λ r. ⌜ now (hints .exit) ≡ withHint (now (hints .entry)) k (entryPlace (now (index .entry)) entry x) ⌝ }
+    ensures place { λ r. ⌜ now (hints .exit) ≡ withHint (now (hints .entry)) k (listPlace (now (index .entry)) entry x) ⌝ }
     ensures steady { λ r. ⌜ Steady (names (listOf (now (index .entry)) entry)) x (r .inside) (r .until) ⌝ }
 {
     let Regions { s, l, u, end } = regions_of(index, entry);

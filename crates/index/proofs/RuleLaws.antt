@@ -13,7 +13,7 @@ use Rattle.list.specs.Cell.{numbersIn}
 use Rattle.list.specs.Kept.{isKept}
 use Rattle.index.specs.declared.trailer.Trailer.{Trailer}
 use Rattle.index.specs.declared.entry.Entry.{Entry}
-use Rattle.index.specs.Format.{wordStart, listStart, singleCount, pairCount, wordLength, listLength, wordsEnd, listsEnd, wordsStart, directoryStart, highest, wordOf, singlesOf, lowerOf, upperOf}
+use Rattle.index.specs.Format.{wordStart, listStart, singleCount, pairCount, wordLength, listLength, wordsEnd, listsEnd, wordsStart, directoryStart, highest, wordOf, singlesOf, lowerOf, upperOf, entrySingles, entryLowers, entryUppers}
 use Rattle.index.specs.Read.{TrailerOf, Framed, EntryCells}
 use Rattle.index.specs.Sound.{badDirectory, badWord, badEntry, badList, wordBefore}
 use Rattle.index.proofs.SoundLaws.{wordsEnd-next, listsEnd-next, directory-facts}
@@ -83,7 +83,7 @@ list-rule index i e limit of l =
     let b : x + 4 * e .singles + 4 * e .pairs - (x + 4 * e .singles) ≡ 4 * e .pairs = omega arith in
     let c : x + 4 * e .singles + 4 * e .pairs + 4 * e .pairs - (x + 4 * e .singles + 4 * e .pairs) ≡ 4 * e .pairs = omega arith in
     rw (a, b, c, of .list-start, of .singles, of .pairs, l)
-    (sym (Bool·not-not (isKept (highest index) (numbersIn (singlesOf index i)) (numbersIn (lowerOf index i)) (numbersIn (upperOf index i)))))
+    (sym (Bool·not-not (isKept (highest index) (entrySingles index i) (entryLowers index i) (entryUppers index i))))
 
 pub list-room : (index : List ℕ) (t : Trailer) (i : ℕ) (e : Entry) → Framed index t → EntryCells index i e → badEntry index i ≡ false →
     e .«list_start» + 4 * e .singles + 8 * e .pairs ≤ length index

@@ -12,9 +12,8 @@ use Rattle.laws.proofs.Tests.{true-false, or-neither, leb-cases}
 use Rattle.limits.specs.Limits.{indexMax, indexMin, recordMax, wordsMax}
 use Rattle.word.specs.Word.{before, isWord}
 use Rattle.word.proofs.WordLaws.{before-irreflexive, before-transitive}
-use Rattle.list.specs.Cell.{numbersIn}
 use Rattle.list.specs.Kept.{isKept}
-use Rattle.index.specs.Format.{wordsStart, directoryStart, wordCount, highest, edition, entryPlace, wordStart, wordLength, listStart, singleCount, pairCount, listLength, wordsEnd, listsEnd, part, wordOf, singlesOf, lowerOf, upperOf}
+use Rattle.index.specs.Format.{wordsStart, directoryStart, wordCount, highest, edition, entryPlace, wordStart, wordLength, listStart, singleCount, pairCount, listLength, wordsEnd, listsEnd, part, wordOf, singlesOf, lowerOf, upperOf, entrySingles, entryLowers, entryUppers}
 use Rattle.index.specs.Part.{Slice, partOf}
 use Rattle.index.specs.Sound.{badLength, badEdition, badTrailer, badDirectory, badWord, badEntry, badEnd, badList, wordBefore, Sound}
 
@@ -141,8 +140,8 @@ pub slice-part : (s : Slice) (place a n start size : ℕ) → place ≡ s .place
 slice-part s place a n start size p e f = rw (p, part-is (s .bytes) a n start size e f, e)
 
 -- the empty part at the start
-pub slice-none : (s : Slice) (start size : ℕ) → start ≡ 0 → size ≡ 0 → record { memory = s .memory; place = s .place; bytes = [] } ≡ partOf start size s
-slice-none s start size e f = let z : s .place + 0 ≡ s .place = omega arith in rw (e, f, z)
+pub slice-none : (s : Slice) → record { memory = s .memory; place = s .place; bytes = [] } ≡ partOf 0 0 s
+slice-none s = let z : s .place + 0 ≡ s .place = omega arith in rw z
 
 -- the word and the list stand below the directory, and so in the index
 pub sound-word-room : (index : List ℕ) → Sound index → (i : ℕ) → i < wordCount index → wordStart index i + wordLength index i ≤ length index
@@ -223,10 +222,10 @@ word-injective index s i j h k e =
 -- ---- the lists
 
 pub sound-list : (index : List ℕ) → Sound index → (i : ℕ) → i < wordCount index →
-    isKept (highest index) (numbersIn (singlesOf index i)) (numbersIn (lowerOf index i)) (numbersIn (upperOf index i)) ≡ true
+    isKept (highest index) (entrySingles index i) (entryLowers index i) (entryUppers index i) ≡ true
 unfolding badList
 sound-list index s i h =
-    not-false (isKept (highest index) (numbersIn (singlesOf index i)) (numbersIn (lowerOf index i)) (numbersIn (upperOf index i))) (s .lists i h)
+    not-false (isKept (highest index) (entrySingles index i) (entryLowers index i) (entryUppers index i)) (s .lists i h)
 
 -- ---- the ends
 

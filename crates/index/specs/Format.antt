@@ -75,6 +75,16 @@ lowerOf index i = part (listStart index i + 4 * singleCount index i) (4 * pairCo
 unfoldable pub upperOf : List ℕ → ℕ → List ℕ
 upperOf index i = part (listStart index i + 4 * singleCount index i + 4 * pairCount index i) (4 * pairCount index i) index
 
+-- Reference 3.4: their numbers
+abbrev pub entrySingles : List ℕ → ℕ → List ℕ
+entrySingles index i = numbersIn (singlesOf index i)
+
+abbrev pub entryLowers : List ℕ → ℕ → List ℕ
+entryLowers index i = numbersIn (lowerOf index i)
+
+abbrev pub entryUppers : List ℕ → ℕ → List ℕ
+entryUppers index i = numbersIn (upperOf index i)
+
 -- Reference 3.4: the list of entry i, as cells
 unfoldable pub listOf : List ℕ → ℕ → List ℕ
-listOf index i = walked (numbersIn (singlesOf index i)) (numbersIn (lowerOf index i)) (numbersIn (upperOf index i))
+listOf index i = walked (entrySingles index i) (entryLowers index i) (entryUppers index i)

@@ -7,10 +7,9 @@ use lib.Dec.{eqb, ltb}
 use lib.ListN.{length}
 use Rattle.limits.specs.Limits.{indexMax, indexMin, recordMax, wordsMax}
 use Rattle.word.specs.Word.{before, isWord}
-use Rattle.list.specs.Cell.{numbersIn}
 use Rattle.list.specs.Kept.{isKept}
 use Rattle.index.specs.Format.{wordsStart, directoryStart, wordCount, highest, edition, entrySize, wordStart, listStart, singleCount, pairCount}
-use Rattle.index.specs.Format.{wordsEnd, listsEnd, wordOf, singlesOf, lowerOf, upperOf}
+use Rattle.index.specs.Format.{wordsEnd, listsEnd, wordOf, entrySingles, entryLowers, entryUppers}
 
 -- Reference 5.1, rule 1
 unfoldable pub badLength : List ℕ → Bool
@@ -59,7 +58,7 @@ badEnd index =
 -- Reference 5.1, rule 5
 unfoldable pub badList : List ℕ → ℕ → Bool
 badList index i =
-    not (isKept (highest index) (numbersIn (singlesOf index i)) (numbersIn (lowerOf index i)) (numbersIn (upperOf index i)))
+    not (isKept (highest index) (entrySingles index i) (entryLowers index i) (entryUppers index i))
 
 -- Reference 5.1: no rule is broken
 pub record Sound (index : List ℕ) : Type 0 where

@@ -16,11 +16,11 @@ use Rattle.list.specs.Kept.{start, singleNext}
 use Rattle.list.proofs.WalkLaws.{single-next-left, pair-next-left}
 use Rattle.list.proofs.ReadingLaws.{next-fits}
 use Rattle.list.proofs.LeftLaws.{ReadTo, read-start, read-end, read-bounds, read-before, read-inside, read-behind, read-next}
-use Rattle.index.specs.Format.{highest, listOf}
+use Rattle.index.specs.Format.{highest, listOf, entrySingles, entryLowers, entryUppers}
 use Rattle.index.proofs.SoundLaws.{sound-trailer}
 use Rattle.directory.specs.Regions.{EntryIn}
 use Rattle.merge.specs.Request.{SoundRequest}
-use Rattle.merge.specs.Places.{entrySingles, entryLowers, entryUppers, PlaceIn, GoesIn, nextLowerIn, nextUpperIn, placeBehind, usedUp}
+use Rattle.merge.specs.Places.{PlaceIn, GoesIn, nextLowerIn, nextUpperIn, placeBehind, usedUp}
 use Rattle.merge.specs.Keys.{sumOf, lowerMark, lowerDue, dueAt}
 use Rattle.merge.proofs.ListsLaws.{entry-kept, entry-some, asked-entry}
 use Rattle.merge.proofs.KeysLaws.{sum-change}

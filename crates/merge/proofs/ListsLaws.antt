@@ -11,14 +11,13 @@ use Rattle.list.specs.Interval.{isProper}
 use Rattle.list.proofs.ProperLaws.{proper-facts, facts-proper, proper-weaker}
 use Rattle.list.proofs.KeptLaws.{Kept, kept-facts}
 use Rattle.list.proofs.JoinLaws.{AllProper}
-use Rattle.index.specs.Format.{wordCount, highest, listOf}
+use Rattle.index.specs.Format.{wordCount, highest, listOf, entrySingles, entryLowers, entryUppers}
 use Rattle.index.specs.Sound.{Sound}
 use Rattle.index.proofs.SoundLaws.{sound-trailer, sound-entry, sound-list}
 use Rattle.directory.specs.Regions.{EntryIn}
 use Rattle.directory.proofs.EntryLaws.{entry-walked, entry-counted}
 use Rattle.directory.proofs.HasLaws.{list-proper}
 use Rattle.merge.specs.Request.{SoundRequest, listsOf}
-use Rattle.merge.specs.Places.{entrySingles, entryLowers, entryUppers}
 
 -- ---- one entry
 

@@ -5,20 +5,9 @@ use mathlib.Core.List.{List}
 use lib.Dec.{leb}
 use lib.ListN.{length, getD, set}
 use Rattle.list.specs.declared.Place.{Place}
-use Rattle.list.specs.Cell.{numbersIn}
 use Rattle.list.specs.Kept.{start, nextPlace, lowerAt, upperAt}
 use Rattle.list.specs.Reading.{Goes}
-use Rattle.index.specs.Format.{singlesOf, lowerOf, upperOf}
-
--- the numbers of the three regions of entry i
-abbrev pub entrySingles : List ℕ → ℕ → List ℕ
-entrySingles index i = numbersIn (singlesOf index i)
-
-abbrev pub entryLowers : List ℕ → ℕ → List ℕ
-entryLowers index i = numbersIn (lowerOf index i)
-
-abbrev pub entryUppers : List ℕ → ℕ → List ℕ
-entryUppers index i = numbersIn (upperOf index i)
+use Rattle.index.specs.Format.{entrySingles, entryLowers, entryUppers}
 
 -- a place of the list of entry i
 pub record PlaceIn (index : List ℕ) (i : ℕ) (at : Place) : Type 0 where

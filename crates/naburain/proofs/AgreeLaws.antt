@@ -11,7 +11,7 @@ use Rattle.index.specs.Format.{wordStart, wordLength, wordOf}
 use Rattle.index.specs.Part.{Slice}
 use Rattle.directory.specs.Entry.{entryCheck, entryWord}
 use Rattle.index.proofs.SoundLaws.{part-length, sound-word-room}
-use Rattle.directory.proofs.AnswerLaws.{entry-good, start-answered, start-refused, length-answered, length-refused}
+use Rattle.directory.proofs.AnswerLaws.{entry-good}
 use Rattle.naburain.specs.declared.PartResult.{PartResult}
 use Rattle.naburain.specs.Result.{wordResult, partResult}
 use Rattle.naburain.specs.Agree.{Reported}
@@ -45,27 +45,23 @@ agree-at : (index : Slice) (i : ℕ) (k : Checked) → entryCheck (index .bytes)
     Reported index i (entryWord index i) (wordResult k (wordStart (index .bytes) i) (wordLength (index .bytes) i))
 unfolding wordOf
 agree-at index i Good e =
-    let s = start-answered (index .bytes) i e in
-    let n = length-answered (index .bytes) i e in
     let g = entry-good (index .bytes) i e in
     let room = sound-word-room (index .bytes) (g .sound) i (g .below) in
     record {
-      part = rw (s, n);
+      part = rw e;
       within = room;
-      long = rw (s, n) (part-length (wordStart (index .bytes) i) (wordLength (index .bytes) i) (index .bytes) room);
-      word = λ z. rw (s, n);
+      long = rw e (part-length (wordStart (index .bytes) i) (wordLength (index .bytes) i) (index .bytes) room);
+      word = λ z. rw e;
       empty = λ z. absurd (z refl);
     }
 agree-at index i (Refused x) e =
-    let s = start-refused (index .bytes) i x e in
-    let n = length-refused (index .bytes) i x e in
     let above = number-above-zero x in
     record {
-      part = rw (s, n);
+      part = rw e;
       within = omega arith;
-      long = rw (s, n);
+      long = rw e;
       word = λ (z : numberOf x ≡ 0). absurd (omega arith);
-      empty = λ z. rw (s, n);
+      empty = λ z. rw e;
     }
 
 -- any return that the contract of the one call allows, and any that the other's does

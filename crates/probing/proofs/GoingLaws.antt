@@ -14,10 +14,9 @@ use Rattle.list.specs.Kept.{start, nextPlace, lowerAt, upperAt}
 use Rattle.list.specs.Reading.{Goes}
 use Rattle.list.proofs.LeftLaws.{ReadTo, read-start, read-goes, read-end, read-bounds, read-before, read-inside, read-behind, read-next}
 use Rattle.list.proofs.ReadingLaws.{next-fits}
-use Rattle.index.specs.Format.{highest, listOf}
+use Rattle.index.specs.Format.{highest, listOf, entrySingles, entryLowers, entryUppers}
 use Rattle.index.proofs.SoundLaws.{sound-trailer}
 use Rattle.merge.specs.Request.{SoundRequest, listsOf}
-use Rattle.merge.specs.Places.{entrySingles, entryLowers, entryUppers}
 use Rattle.list.specs.Answer.{HasRoom, Sweeps}
 use Rattle.merge.proofs.ListsLaws.{entry-kept, asked-entry}
 use Rattle.merge.proofs.TallyLaws.{Tallied, tallied-start, tallied-skip, tallied-end}

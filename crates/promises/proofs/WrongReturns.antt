@@ -13,7 +13,7 @@ use Rattle.list.specs.Kept.{walkFrom, walked}
 use Rattle.index.specs.Format.{entryPlace, wordStart, wordLength, listStart, singleCount, pairCount, part, wordOf, singlesOf, lowerOf, upperOf, listOf}
 use Rattle.index.specs.Check.{checkOf}
 use Rattle.directory.specs.Standing.{belowWithin, wordPlace, standingOf}
-use Rattle.directory.specs.Entry.{lookupAfter, lookupOf, entryAfter, entryCheck, numberAfter, entryStart, entryLength, badRange, rangeAnswer, probeAfter, probeOf}
+use Rattle.directory.specs.Entry.{lookupAfter, lookupOf, entryAfter, entryCheck, numberAfter, badRange, rangeAnswer, probeAfter, probeOf}
 use Rattle.index.specs.declared.Checked.the-variants.{Good}
 use Rattle.directory.specs.declared.Standing.the-variants.{Here, Absent}
 use Rattle.directory.specs.declared.Lookup.the-variants.{NoEntry}
@@ -61,7 +61,7 @@ pub entry-refusing : FailsToBe entry (RefusingAll checkRefused)
 entry-refusing = refusing-all-fails entry checkRefused (example, 0) (ap checkRefused entry-good)
 
 pub word-refusing : FailsToBe word (RefusingAll partRefused)
-unfolding entryPlace wordStart wordLength entryStart entryLength
+unfolding entryPlace wordStart wordLength
 word-refusing =
     refusing-all-fails word partRefused (record { memory = 0; place = 0; bytes = example }, 0)
     (ap (λ g. wordRefused (part (numberAfter g (wordStart example 0)) (numberAfter g (wordLength example 0)) example)) entry-good)

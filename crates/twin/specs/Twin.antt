@@ -7,8 +7,8 @@ use Rattle.limits.specs.Limits.{joinMax, recordMax}
 use Rattle.list.specs.declared.Place.{Place}
 use Rattle.list.specs.Kept.{start, nextPlace, lowerAt, upperAt}
 use Rattle.list.specs.Reading.{Goes}
+use Rattle.index.specs.Format.{entrySingles, entryLowers, entryUppers}
 use Rattle.heap.specs.Heap.{countOf, IsHeap}
-use Rattle.merge.specs.Places.{entrySingles, entryLowers, entryUppers}
 
 -- the place behind the interval that is next in list i of a request at a reading place, and the bounds of that interval
 abbrev pub nextOf : List ℕ → List ℕ → ℕ → Place → Place

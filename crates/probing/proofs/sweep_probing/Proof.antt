@@ -6,9 +6,9 @@ use denote.Ref.{now}
 use lib.ListN.{length, getD}
 use borrow.Author.Needs.{needs}
 use Rattle.list.specs.Reading.{Goes}
+use Rattle.index.specs.Format.{entrySingles, entryLowers}
 use Rattle.directory.specs.Regions.{EntryIn}
 use Rattle.directory.proofs.EntryLaws.{entry-walked, entry-intervals, entry-few}
-use Rattle.merge.specs.Places.{entrySingles, entryLowers}
 use Rattle.merge.proofs.ListsLaws.{asked-entry}
 use Rattle.merge.proofs.TallyLaws.{tallied-length}
 use Rattle.probing.proofs.GoingLaws.{Going, going-start, going-goes, going-end, going-within, going-ordered, going-fits, going-next}

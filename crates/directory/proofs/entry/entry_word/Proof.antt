@@ -2,7 +2,7 @@
 use mathlib.Core.Path.{sym, _∙_}
 use Rattle.index.specs.Part.{sliceOf}
 use Rattle.index.proofs.SoundLaws.{slice-none}
-use Rattle.directory.proofs.AnswerLaws.{entry-good, start-answered, start-refused, length-answered, length-refused}
+use Rattle.directory.proofs.AnswerLaws.{entry-good}
 use Rattle.directory.proofs.entry.entry_word.Statement.{statement}
 use Rattle.directory.proofs.entry.entry_word.Tie as tie
 use borrow.Author.Needs.{needs}
@@ -17,14 +17,13 @@ returns : tie.Need-returns
 returns c =
     let a = c .before .before .before .before .before .args in
     let good = sym (c .before .before .before .entry-refusal .ensures) ∙ c .before .enum-told .given .1 in
-    rw (start-answered (a .index .now) (a .entry) good, length-answered (a .index .now) (a .entry) good) (c .word-of .ensures)
+    rw good (c .word-of .ensures)
 
 returns-2 : tie.Need-returns-2
 returns-2 c =
     let a = c .before .before .before .before .before .args in
-    let r = c .before .enum-told2 .given .0 .0 in
     let bad = sym (c .before .before .before .entry-refusal .ensures) ∙ c .before .enum-told2 .given .1 in
-    slice-none (sliceOf (a .index)) _ _ (start-refused (a .index .now) (a .entry) r bad) (length-refused (a .index .now) (a .entry) r bad)
+    rw bad (slice-none (sliceOf (a .index)))
 
 pub entry-word-spec : {M : Type 1} → statement M
 entry-word-spec =
