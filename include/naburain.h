@@ -51,7 +51,7 @@ extern "C" {
 #define NABURAIN_ENTRY 14          /* the index has no such entry: its place among the entries of a join, else 0 */
 #define NABURAIN_NUMBER 15         /* a number that is 0, too large, or no larger than its predecessor: its place */
 #define NABURAIN_INTERVAL 16       /* the cells are no proper list: the first bad interval */
-#define NABURAIN_BUILD_WORD 17     /* a word to build is none, out of order, without its byte 10, or one too many: its number */
+#define NABURAIN_BUILD_WORD 17     /* a word to build is none (`AND` is none), out of order, without its byte 10, or one too many: its number */
 #define NABURAIN_BUILD_COUNT 18    /* counts to build: the first bad one; the word count where counts or numbers are left */
 #define NABURAIN_BUILD_SIZE 19     /* N is too large: 0; the index would be too long: 1 */
 #define NABURAIN_PROBE 20          /* no range to probe: 0 */
@@ -129,8 +129,8 @@ struct naburain_answered naburain_intersection_probing(const uint8_t *index, siz
                                                        size_t entries_length, uint32_t *cells, size_t cells_length);
 
 /* Reference 8.6. The records that satisfy a question, written and reported as a union is. A question has words, round brackets, and the
- * operators `and`, `or` and `not`, which stand between two sides (`a not b` leaves b out of a) and are grouped from the left. A word
- * without an entry is in no record. What is found on the way to the answer needs no room.
+ * operators `and`, `or` and `not`, in any mixture of small and capital letters; they stand between two sides (`a not b` leaves b out of
+ * a) and are grouped from the left. A word without an entry is in no record. What is found on the way to the answer needs no room.
  * Refusals 1 to 5, then 6, 7, 8, each over the whole question, then that of 9, 10 and 11 which comes first from the left, then 12. */
 struct naburain_answered naburain_ask(const uint8_t *index, size_t index_length, const uint8_t *question, size_t question_length,
                                       uint32_t *cells, size_t cells_length);

@@ -68,7 +68,7 @@ module _ {n : ℕ} {words counts numbers : List ℕ} {size : ℕ} (is : Accepted
   pub lent-list : (i : ℕ) → i < length (lentWords words) → getD (listsFrom counts numbers) i [] ≡ part (sumTo counts i) (getD counts i 0) numbers
   lent-list i h = lists-at counts numbers i (omega (arith, is .lent .as-many))
 
-  pub accepted-indexable : Indexable n (lentWords words) (listsFrom counts numbers)
+  pub accepted-indexable : Indexable true n (lentWords words) (listsFrom counts numbers)
   accepted-indexable =
       let good : EachGood n words counts numbers = each-good (is .lent .good) in
       let m = good .as-many in
@@ -91,7 +91,7 @@ module _ {n : ℕ} {words counts numbers out out′ : List ℕ} {size : ℕ} (do
   build-accepted : Accepted n words counts numbers size
   build-accepted = accepted n words counts numbers (length out) size (sym (done .answer))
 
-  indexable : Indexable n (lentWords words) (listsFrom counts numbers)
+  indexable : Indexable true n (lentWords words) (listsFrom counts numbers)
   indexable = accepted-indexable build-accepted
 
   -- the index that was asked for, and behind it what was there

@@ -1,9 +1,9 @@
--- A sound index has one encoding: it is the index of its own N, words and lists.
+-- A sound index has one encoding: it is the index of its own N, words and lists, and has of each word what its lists have.
 use mathlib.Core.Path.{_≡_, refl, sym, ap, _∙_}
 use Prim.Native.Nat.{ℕ, zero, suc, _+_, _-_, _*_, _≤_, _<_}
 use native.Mathlib.Omega.{arith}
 use mathlib.Core.List.{List, [], _∷_, _++_, append-nil, append-assoc}
-use mathlib.Core.Bool.{true}
+use mathlib.Core.Bool.{true, false}
 use lib.ListN.{length, getD, drop, length-append, length-drop, take-append-drop, drop-of-length-le}
 use lib.Seq.{drop-drop}
 use Rattle.laws.proofs.Tests.{true-false}
@@ -20,13 +20,15 @@ use Rattle.list.proofs.KeptCountLaws.{kept-count}
 use Rattle.index.specs.Format.{wordsStart, directoryStart, wordCount, highest, entryPlace, wordStart, wordLength, listStart, singleCount, pairCount, listLength, wordsEnd, listsEnd, part, wordOf, singlesOf, lowerOf, upperOf, listOf, entrySingles, entryLowers, entryUppers}
 use Rattle.index.specs.Sound.{Sound}
 use Rattle.index.proofs.SoundLaws.{sound-length, sound-edition, sound-word, words-step, sound-trailer, sound-entry, sound-list, sound-ends, wordsEnd-next, listsEnd-next, word-length, singles-length, lower-length, upper-length}
+use Rattle.directory.specs.Has.{has}
 use Rattle.directory.proofs.HasLaws.{list-proper}
 use Rattle.build.specs.Lent.{lentBefore}
 use Rattle.layout.specs.Layout.{cellsBytes, cellSingles, cellLowers, cellUppers, keptBytes, cellsIn, listsBytes, wordsBytes, entryBytes, directoryBytes, trailerBytes, indexOf}
 use Rattle.layout.specs.Layout.{Below}
-use Rattle.build.specs.ReadsBack.{Indexable, listed, indexWords, recordsAt, listsIn}
+use Rattle.build.specs.ReadsBack.{Indexable, recordsFor, listed, indexWords, recordsAt, listsIn}
 use Rattle.layout.proofs.BytesLaws.{below-take, below-drop, numbers-cells, cell-split}
 use Rattle.layout.proofs.KeptBytesLaws.{kept-length, kept-apart}
+use Rattle.build.proofs.ReadsBackLaws.{reads-back}
 
 -- ---- an index's words and lists, in order
 
@@ -50,7 +52,7 @@ listed-at f i (suc k) zero h = ap f (omega arith)
 listed-at f i (suc k) (suc j) h = listed-at f (i + 1) k j (omega arith) ∙ ap f (omega arith)
 
 -- nothing stands before a word
-word-first : (w : List ℕ) → isWord w ≡ true → before [] w ≡ true
+word-first : (w : List ℕ) → isWord false w ≡ true → before [] w ≡ true
 unfolding before isWord
 word-first [] e = true-false (sym e)
 word-first (b ∷ w) e = refl
@@ -285,7 +287,7 @@ module _ (index : List ℕ) (s : Sound index) (b : Below 256 index) where
       ∙ ap (λ (r : List ℕ). listsBytes N (listsIn index) ++ r) (words-whole ∙ ap (λ (r : List ℕ). wordsBytes (indexWords index) ++ r) directory-whole)
       )
 
-  -- ---- and no rule of building refuses them
+  -- ---- and of these an index is made
 
   word-at : (i : ℕ) → i < wordCount index → getD (indexWords index) i [] ≡ wordOf index i
   unfolding indexWords
@@ -318,8 +320,8 @@ module _ (index : List ℕ) (s : Sound index) (b : Below 256 index) where
   unfolding listsIn
   lists-count = listed-length (recordsAt index) 0 (wordCount index)
 
-  -- so what is read of a sound index can be built again
-  pub sound-indexable : Indexable (highest index) (indexWords index) (listsIn index)
+  -- so what is read of a sound index makes it again; a build refuses it where a word is an operator with capital letters
+  pub sound-indexable : Indexable false (highest index) (indexWords index) (listsIn index)
   sound-indexable =
       let t = sound-trailer index s in
       let c = words-count in
@@ -335,6 +337,10 @@ module _ (index : List ℕ) (s : Sound index) (b : Below 256 index) where
             rw (list-at i k) (ascends-good (highest index) (recordsAt index i) (records-ascend (names (listOf index i)) (highest index)));
         size = rw (← sound-encoded) (sound-length index s .1);
       }
+
+  -- and it has of each word just the records that its lists have, of no other any
+  pub sound-reads-back : (w : List ℕ) (x : ℕ) → has index w x ≡ among (recordsFor (indexWords index) (listsIn index) w) x
+  sound-reads-back w x = ap (λ (i : List ℕ). has i w x) sound-encoded ∙ reads-back sound-indexable w x
 
 -- ---- so two sound indexes with the same N, words and lists are the same bytes
 

@@ -2,13 +2,14 @@
 use mathlib.Core.Path.{_≡_, refl, sym, ap, _∙_}
 use Prim.Native.Nat.{ℕ, zero, suc, _+_, _-_, _*_, _≤_, _<_}
 use native.Mathlib.Omega.{arith}
-use mathlib.Core.Bool.{true, false}
+use mathlib.Core.Bool.{Bool, true, false}
 use mathlib.Core.List.{List, [], _∷_, _++_, append-nil, append-assoc}
 use lib.ListN.{length, getD, take, drop, length-append, List·getD-append}
 use lib.Seq.{getD-append-add}
 use borrow.Author.Tests.{eq-eqb, ne-eqb, le-ltb}
 use Rattle.laws.proofs.Tests.{true-false}
 use Rattle.limits.specs.Limits.{recordMax, wordsMax}
+use Rattle.word.proofs.SpellingLaws.{word-small}
 use Rattle.list.specs.Interval.{isProper, names}
 use Rattle.list.specs.Cell.{cellAt, numbersIn}
 use Rattle.list.specs.Among.{among}
@@ -31,8 +32,8 @@ use Rattle.layout.proofs.LayoutLaws.{wordsTo, words-split, words-to-next, words
 use Rattle.layout.proofs.LayoutLaws.{listsTo, lists-split, lists-to-next, lists-to-bound, lists-to-end, lists-below}
 use Rattle.layout.proofs.LayoutLaws.{entryCells, directoryCells, directory-bytes, directory-length, directory-at, directory-below}
 
-pub indexable-ascends : {n : ℕ} {ws xss : List (List ℕ)} → Indexable n ws xss → (i : ℕ) → i < length ws → Ascends n 0 (getD xss i [])
-indexable-ascends {n} {xss = xss} is i h = good-ascends n (getD xss i []) (is .records i h)
+pub indexable-ascends : {every : Bool} {n : ℕ} {ws xss : List (List ℕ)} → Indexable every n ws xss → (i : ℕ) → i < length ws → Ascends n 0 (getD xss i [])
+indexable-ascends {n = n} {xss = xss} is i h = good-ascends n (getD xss i []) (is .records i h)
 
 -- ---- records that are some have a list that is not empty
 
@@ -87,7 +88,7 @@ module _ (n : ℕ) (ws xss : List (List ℕ)) where
   index-length e =
       rw index-cells (omega (arith, length-append (listsBytes n xss ++ wordsBytes ws) (cellsBytes endCells), front-length, cells-length endCells, end-length e))
 
-module _ {n : ℕ} {ws xss : List (List ℕ)} (is : Indexable n ws xss) where
+module _ {every : Bool} {n : ℕ} {ws xss : List (List ℕ)} (is : Indexable every n ws xss) where
   abbrev index : List ℕ
   index = indexOf n ws xss
 
@@ -331,7 +332,7 @@ module _ {n : ℕ} {ws xss : List (List ℕ)} (is : Indexable n ws xss) where
 
   good-word : (i : ℕ) → i < length ws → badWord index i ≡ false
   unfolding badWord
-  good-word i h = rw (same-before i h, built-word i h, is .word i h, is .order i h)
+  good-word i h = rw (same-before i h, built-word i h, word-small every (getD ws i []) (is .word i h), is .order i h)
 
   good-entry : (i : ℕ) → i < length ws → badEntry index i ≡ false
   unfolding badEntry
@@ -377,6 +378,6 @@ module _ {n : ℕ} {ws xss : List (List ℕ)} (is : Indexable n ws xss) where
       rw (index-cells n ws xss)
       (
       below-append 256 (listsBytes n xss ++ wordsBytes ws) (cellsBytes (endCells n ws xss))
-      (below-append 256 (listsBytes n xss) (wordsBytes ws) (lists-below n xss) (words-below ws (λ i h. word-below (getD ws i []) (is .word i h))))
+      (below-append 256 (listsBytes n xss) (wordsBytes ws) (lists-below n xss) (words-below ws (λ i h. word-below every (getD ws i []) (is .word i h))))
       (cells-below (endCells n ws xss))
       )

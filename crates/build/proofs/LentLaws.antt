@@ -20,7 +20,7 @@ use Rattle.build.specs.Lent.{lentBefore, badLent, sumTo, badCount, badRe
 pub record LentWord (ws : List (List ℕ)) (i : ℕ) : Type 0 where
   pub few : i < wordsMax
   pub within : i < length ws
-  pub word : isWord (getD ws i []) ≡ true
+  pub word : isWord true (getD ws i []) ≡ true
   pub order : before (lentBefore ws i) (getD ws i []) ≡ true
 
 pub lent-word : (ws : List (List ℕ)) (i : ℕ) → badLent ws i ≡ false → LentWord ws i
@@ -28,7 +28,7 @@ unfolding badLent
 lent-word ws i e =
     let a = leb wordsMax i in
     let b = leb (length ws) i in
-    let c = isWord (getD ws i []) in
+    let c = isWord true (getD ws i []) in
     let d = before (lentBefore ws i) (getD ws i []) in
     let p = or-neither (a || b || not c) (not d) e in
     let q = or-neither (a || b) (not c) (p .0) in

@@ -4,7 +4,7 @@ use Prim.Native.Nat.{ℕ, zero, suc, _≤_, _<_}
 use native.Mathlib.Omega.{arith}
 use native.Mathlib.Nat.{lt-of-not-le}
 use native.Mathlib.Decide.{decLe}
-use mathlib.Core.Bool.{true, false}
+use mathlib.Core.Bool.{Bool, true, false}
 use mathlib.Core.List.{List, [], _∷_}
 use lib.ListN.{length, getD}
 use Rattle.refusal.specs.declared.Found.{Found}
@@ -50,7 +50,7 @@ cells-among n xs x a = go (decLe 1 x) (decLe x n)
         let z : x ≡ 0 = omega arith in
         rw z (cells-names-zero (among xs) n ∙ sym (among-below n 0 0 xs a (omega arith)))
 
-module _ {n : ℕ} {ws xss : List (List ℕ)} (is : Indexable n ws xss) where
+module _ {every : Bool} {n : ℕ} {ws xss : List (List ℕ)} (is : Indexable every n ws xss) where
   pub built-has : (i x : ℕ) → i < length ws → has (indexOf n ws xss) (getD ws i []) x ≡ among (getD xss i []) x
   built-has i x h =
       has-entry (indexOf n ws xss) (built-sound is) (getD ws i []) i x (omega (arith, built-word-count is)) (built-word is i h)

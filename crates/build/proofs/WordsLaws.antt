@@ -8,9 +8,9 @@ use mathlib.Core.List.{List, [], _∷_, _++_, append-nil, append-assoc}
 use lib.Dec.{eqb, leb}
 use lib.ListN.{length, getD, take, drop, length-append, length-drop}
 use lib.Seq.{drop-cons, drop-drop}
-use borrow.Author.Tests.{eq-eqb, ne-eqb, le-leb, lt-leb}
+use borrow.Author.Tests.{le-leb, lt-leb}
 use Rattle.laws.proofs.Tests.{and-both, leb-cases, true-false}
-use Rattle.laws.proofs.Lists.{drop-next, drop-none}
+use Rattle.laws.proofs.Lists.{drop-none}
 use Rattle.limits.specs.Limits.{wordsMax}
 use Rattle.refusal.specs.declared.Found.the-variants.{At, Nowhere}
 use Rattle.refusal.specs.First.{first}
@@ -170,7 +170,7 @@ module _ {bytes : List ℕ} {prior priorEnd start count : ℕ} (at : Passing byt
         first-is (badLent ws) count (wordTotal bytes) (record { below = omega arith; holds = bad (leb wordsMax count) n; before = at .good })
       where
         bad : (t : Bool) → length ws ≤ count →
-            t || leb (length ws) count || not (isWord (getD ws count [])) || not (before (lentBefore ws count) (getD ws count [])) ≡ true
+            t || leb (length ws) count || not (isWord true (getD ws count [])) || not (before (lentBefore ws count) (getD ws count [])) ≡ true
         bad true n = refl
         bad false n = rw (le-leb (length ws) count n)
 
@@ -186,10 +186,10 @@ module _ {bytes : List ℕ} {prior priorEnd start count : ℕ} (at : Passing byt
       unfolding badLent
       pass-full e = at-bad (rw (le-leb wordsMax count (omega arith)))
 
-      pub pass-bad : (isWord word && before (take (priorEnd - prior) (drop prior bytes)) word) ≡ false → first (badLent ws) (wordTotal bytes) ≡ At count
+      pub pass-bad : (isWord true word && before (take (priorEnd - prior) (drop prior bytes)) word) ≡ false → first (badLent ws) (wordTotal bytes) ≡ At count
       unfolding badLent
       pass-bad e = at-bad (rw (here .is, ← at .last)
-          (bad (leb wordsMax count) (leb (length ws) count) (isWord word) (before (take (priorEnd - prior) (drop prior bytes)) word) e))
+          (bad (leb wordsMax count) (leb (length ws) count) (isWord true word) (before (take (priorEnd - prior) (drop prior bytes)) word) e))
         where
           bad : (a b c d : Bool) → c && d ≡ false → a || b || not c || not d ≡ true
           bad true b c d e = refl
@@ -198,11 +198,11 @@ module _ {bytes : List ℕ} {prior priorEnd start count : ℕ} (at : Passing byt
           bad false false true false e = refl
           bad false false false d e = refl
 
-      pub pass-next : (count ≡ wordsMax → ⊥) → (isWord word && before (take (priorEnd - prior) (drop prior bytes)) word) ≡ true →
+      pub pass-next : (count ≡ wordsMax → ⊥) → (isWord true word && before (take (priorEnd - prior) (drop prior bytes)) word) ≡ true →
           Passing bytes start end (end + 1) (count + 1)
       unfolding badLent
       pass-next f e =
-          let b = and-both (isWord word) (before (take (priorEnd - prior) (drop prior bytes)) word) e in
+          let b = and-both (isWord true word) (before (take (priorEnd - prior) (drop prior bytes)) word) e in
           let l : count < wordsMax = leb-cases wordsMax count (λ g. absurd (f (omega (arith, at .limit)))) (λ g. g) in
           let n = here in
           record {

@@ -1,6 +1,6 @@
 -- Reference 8.9: what is lent to a build, and when it is refused.
 use Prim.Native.Nat.{ℕ, zero, suc, _+_}
-use mathlib.Core.Bool.{Bool, false, cond, not, _||_}
+use mathlib.Core.Bool.{Bool, true, false, cond, not, _||_}
 use mathlib.Core.List.{List, [], _∷_, _++_}
 use lib.Dec.{eqb, leb, ltb}
 use lib.ListN.{length, getD, take, drop}
@@ -36,9 +36,9 @@ abbrev pub lentBefore : List (List ℕ) → ℕ → List ℕ
 lentBefore ws zero = []
 lentBefore ws (suc i) = getD ws i []
 
--- Reference 9.1, row 17: whether word i is bad; a word that has no byte 10 is not among ws
+-- Reference 9.1, row 17: whether word i is bad, where every spelling of the operators is barred; a word that has no byte 10 is not among ws
 unfoldable pub badLent : List (List ℕ) → ℕ → Bool
-badLent ws i = leb wordsMax i || leb (length ws) i || not (isWord (getD ws i [])) || not (before (lentBefore ws i) (getD ws i []))
+badLent ws i = leb wordsMax i || leb (length ws) i || not (isWord true (getD ws i [])) || not (before (lentBefore ws i) (getD ws i []))
 
 -- Reference 9.1, row 18: what the first i counts add up to
 unfoldable pub sumTo : List ℕ → ℕ → ℕ

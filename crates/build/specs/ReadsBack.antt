@@ -1,7 +1,7 @@
 -- The words in which it is said that a built index reads back (Reference 8.9), and that a sound one has one encoding (Reference 5.5).
 use Prim.Native.Nat.{ℕ, zero, suc, _+_, _≤_, _<_}
 use mathlib.Core.Path.{_≡_}
-use mathlib.Core.Bool.{true, cond}
+use mathlib.Core.Bool.{Bool, true, cond}
 use mathlib.Core.List.{List, [], _∷_}
 use lib.ListN.{length, getD}
 use Rattle.limits.specs.Limits.{indexMax, recordMax, wordsMax}
@@ -15,12 +15,13 @@ use Rattle.index.specs.Format.{wordCount, highest, wordOf, listOf}
 use Rattle.build.specs.Lent.{lentBefore}
 use Rattle.layout.specs.Layout.{indexOf}
 
--- Reference 8.9: N, words and lists that no rule of building refuses, 12 apart
-pub record Indexable (n : ℕ) (ws xss : List (List ℕ)) : Type 0 where
+-- Reference 8.9: N, words and lists of which an index is made. Where every spelling of the operators is barred, they are those that no rule of building
+-- refuses, 12 apart; where the small letters' alone are, those that a sound index can have
+pub record Indexable (every : Bool) (n : ℕ) (ws xss : List (List ℕ)) : Type 0 where
   pub limit : n ≤ recordMax
   pub few : length ws ≤ wordsMax
   pub as-many : length xss ≡ length ws
-  pub word : (i : ℕ) → i < length ws → isWord (getD ws i []) ≡ true
+  pub word : (i : ℕ) → i < length ws → isWord every (getD ws i []) ≡ true
   pub order : (i : ℕ) → i < length ws → before (lentBefore ws i) (getD ws i []) ≡ true
   pub some : (i : ℕ) → i < length ws → 1 ≤ length (getD xss i [])
   pub records : (i : ℕ) → i < length ws → first (badNumber n (getD xss i [])) (length (getD xss i [])) ≡ Nowhere

@@ -1,7 +1,6 @@
 // Reference 9.1, row 17: the words that are lent.
 ghost use mathlib.Core.Path.{_≡_};
-ghost use Prim.Native.Nat.{_+_, _≤_};
-ghost use lib.ListN.{length, drop};
+ghost use lib.ListN.{length};
 ghost use Rattle.build.specs.Lent.{lentWords};
 ghost use Rattle.build.specs.Build.{badWords};
 ghost use Rattle.build.specs.Passes.{wordsAnswer};
@@ -30,7 +29,7 @@ pub fn check_words(words: &[u8]) -> Words
         if count == WORDS_MAX {
             return Words::Bad(count);
         }
-        if !index::check::word_good(&words[prior..prior_end], &words[start..end]) {
+        if !index::check::word_good(&words[prior..prior_end], &words[start..end], true) {
             return Words::Bad(count);
         }
         prior = start;

@@ -75,13 +75,13 @@ module _ {index : List ℕ} {prior words lists i : ℕ} (g : Going index prior w
 
   -- what the code asks of the two parts is the word rule
   pub going-word : {e : Entry} → EntryCells index i e → badDirectory index i ≡ false →
-      isWord (take (words + e .«word_length» - words) (drop words index))
+      isWord false (take (words + e .«word_length» - words) (drop words index))
       && before (take (words - prior) (drop prior index)) (take (words + e .«word_length» - words) (drop words index))
       ≡ not (badWord index i)
   going-word {e} of d =
       let f = directory-facts index i d in
       let p = word-part index i words (words + e .«word_length») (g .words-sum ∙ sym (f .0)) (ap (λ n. words + n) (of .word-length)) in
-      rw (p, g .prior-word, word-rule index i) (sym (Bool·not-not (isWord (wordOf index i) && before (wordBefore index i) (wordOf index i))))
+      rw (p, g .prior-word, word-rule index i) (sym (Bool·not-not (isWord false (wordOf index i) && before (wordBefore index i) (wordOf index i))))
 
   pub going-step : {e : Entry} → EntryCells index i e → badDirectory index i ≡ false → badWord index i ≡ false →
       Going index words (words + e .«word_length») (lists + 4 * (e .singles + 2 * e .pairs)) (i + 1)

@@ -59,9 +59,9 @@ directory-rule index i t e words lists is of w l =
     )
     )
 
-pub word-rule : (index : List ℕ) (i : ℕ) → badWord index i ≡ not (isWord (wordOf index i) && before (wordBefore index i) (wordOf index i))
+pub word-rule : (index : List ℕ) (i : ℕ) → badWord index i ≡ not (isWord false (wordOf index i) && before (wordBefore index i) (wordOf index i))
 unfolding badWord
-word-rule index i = go (isWord (wordOf index i)) (before (wordBefore index i) (wordOf index i))
+word-rule index i = go (isWord false (wordOf index i)) (before (wordBefore index i) (wordOf index i))
   where
     go : (a b : Bool) → not a || not b ≡ not (a && b)
     go true b = refl

@@ -188,15 +188,15 @@ upper-length index s i h =
 -- ---- the words
 
 word-facts : (index : List ℕ) → Sound index → (i : ℕ) → i < wordCount index →
-    (isWord (wordOf index i) ≡ true) × (before (wordBefore index i) (wordOf index i) ≡ true)
+    (isWord false (wordOf index i) ≡ true) × (before (wordBefore index i) (wordOf index i) ≡ true)
 unfolding badEntry badWord
 word-facts index s i h =
-    let a = isWord (wordOf index i) in
+    let a = isWord false (wordOf index i) in
     let b = before (wordBefore index i) (wordOf index i) in
     let w = or-neither (not a) (not b) (or-neither (badDirectory index i) (badWord index i) (s .entries i h) .1) in
     (not-false a (w .0), not-false b (w .1))
 
-pub sound-word : (index : List ℕ) → Sound index → (i : ℕ) → i < wordCount index → isWord (wordOf index i) ≡ true
+pub sound-word : (index : List ℕ) → Sound index → (i : ℕ) → i < wordCount index → isWord false (wordOf index i) ≡ true
 sound-word index s i h = word-facts index s i h .0
 
 -- words ascend: from one to the next, and so from each to every later one

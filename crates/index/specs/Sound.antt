@@ -41,9 +41,9 @@ abbrev pub wordBefore : List ℕ → ℕ → List ℕ
 wordBefore index zero = []
 wordBefore index (suc i) = wordOf index i
 
--- Reference 5.3: whether entry i breaks the word rule
+-- Reference 5.3: whether entry i breaks the word rule, which bars the operators in small letters alone
 unfoldable pub badWord : List ℕ → ℕ → Bool
-badWord index i = not (isWord (wordOf index i)) || not (before (wordBefore index i) (wordOf index i))
+badWord index i = not (isWord false (wordOf index i)) || not (before (wordBefore index i) (wordOf index i))
 
 -- Reference 5.1, rule 4: an entry is bad by either rule
 unfoldable pub badEntry : List ℕ → ℕ → Bool

@@ -62,11 +62,11 @@ fn directory_good(trailer: Trailer, entry: Entry, words: usize, lists: usize) ->
         & (lists + list_length(entry) <= trailer.words)
 }
 
-// Reference 5.3: whether a word keeps the word rule behind the word before it.
-pub fn word_good(prior: &[u8], word: &[u8]) -> bool
-    ensures { λ r. ⌜ r ≡ (isWord (now (word .entry)) && before (now (prior .entry)) (now (word .entry))) ⌝ }
+// Reference 5.3: whether a word keeps the word rule behind the word before it, where `every` spelling of the operators is barred or the small letters' alone.
+pub fn word_good(prior: &[u8], word: &[u8], every: bool) -> bool
+    ensures { λ r. ⌜ r ≡ (isWord every (now (word .entry)) && before (now (prior .entry)) (now (word .entry))) ⌝ }
 {
-    if !word::is_word(word) {
+    if !word::is_word(word, every) {
         return false;
     }
     match word::compare(prior, word) {
@@ -91,7 +91,7 @@ fn first_bad_entry(index: &[u8], trailer: Trailer) -> Found
             return Found::At(i);
         }
         let next = words + entry.word_length;
-        if !word_good(&index[prior..words], &index[words..next]) {
+        if !word_good(&index[prior..words], &index[words..next], false) {
             return Found::At(i);
         }
         prior = words;

@@ -4,13 +4,13 @@ use Prim.Native.Nat.{ℕ, zero, suc, _+_, _*_, _≤_, _<_}
 use native.Mathlib.Omega.{arith}
 use mathlib.Core.List.{List, [], _∷_, _++_, append-assoc}
 use mathlib.Core.Logic.{⊎-elim}
-use mathlib.Core.Bool.{true, not, _&&_, _||_}
+use mathlib.Core.Bool.{Bool, true, not, _&&_, _||_}
 use lib.Dec.{leb}
 use lib.ListN.{length, getD, take, drop, length-append, List·getD-append}
 use lib.Seq.{take-length, getD-append-add}
 use borrow.Author.Tests.{leb-true}
 use Rattle.laws.proofs.Tests.{and-both, or-either}
-use Rattle.word.specs.Word.{between, isWordByte, allWordBytes, isOperator, isWord}
+use Rattle.word.specs.Word.{between, isWordByte, allWordBytes, isBarred, isWord}
 use Rattle.layout.specs.Layout.{cellsBytes, cellSingles, cellLowers, keptBytes, cellsIn, listsBytes, wordsBytes, entryBytes, directoryBytes}
 use Rattle.layout.specs.Layout.{Below}
 use Rattle.layout.proofs.BytesLaws.{cellLimit, below-append, cells-append}
@@ -174,10 +174,10 @@ unfolding allWordBytes
 bytes-below [] e = tt
 bytes-below (b ∷ w) e = let p = and-both (isWordByte b) (allWordBytes w) e in (byte-below b (p .0), bytes-below w (p .1))
 
-pub word-below : (w : List ℕ) → isWord w ≡ true → Below 256 w
+pub word-below : (every : Bool) (w : List ℕ) → isWord every w ≡ true → Below 256 w
 unfolding isWord
-word-below w e =
-    let p = and-both (between 1 32 (length w) && allWordBytes w) (not (isOperator w)) e in
+word-below every w e =
+    let p = and-both (between 1 32 (length w) && allWordBytes w) (not (isBarred every w)) e in
     bytes-below w (and-both (between 1 32 (length w)) (allWordBytes w) (p .0) .1)
 
 pub words-below : (ws : List (List ℕ)) → ((i : ℕ) → i < length ws → Below 256 (getD ws i [])) → Below 256 (wordsBytes ws)

@@ -1,17 +1,16 @@
 -- The first of the first alone is the first alone: of entries, of a question's words and of what is lent to a build.
 use Prim.Native.Nat.{ℕ, zero, suc, _+_}
 use native.Mathlib.Numerals.{add-one}
-use mathlib.Core.Path.{_≡_, refl, sym, ap, _∙_}
+use mathlib.Core.Path.{_≡_, refl, sym, ap, _∙_, subst}
 use mathlib.Core.Bool.{Bool, true, false}
 use mathlib.Core.List.{List, [], _∷_, _++_, append-nil, append-assoc}
-use lib.Dec.{eqb}
 use lib.ListN.{getD, take}
-use Rattle.laws.proofs.Tests.{and-both, both-and}
+use Rattle.laws.proofs.Tests.{and-both}
 use Rattle.word.specs.Word.{isWordByte, allWordBytes, operatorOf}
-use Rattle.word.specs.declared.Operator.{Operator}
-use Rattle.word.specs.declared.Operator.the-variants.{And, Or, Not, Neither}
-use Rattle.question.specs.Token.{choose, Tok, openT, closeT, otherT, runTok, flush, mark, run, gather, tokensAt, tokens}
+use Rattle.word.specs.declared.Operator.the-variants.{Neither}
+use Rattle.question.specs.Token.{runTok, flush, run, gather, tokensAt, tokens}
 use Rattle.question.specs.Limits.{tokenWords}
+use Rattle.question.proofs.OperatorLaws.{tokens-hold}
 use Rattle.promises.specs.Wrong.{firstEntry, firstOf, firstWord, firstBuilt}
 
 take-twice : (n : ℕ) (xs : List ℕ) → take n (take n xs) ≡ take n xs
@@ -44,49 +43,10 @@ none-alone : Alone []
 unfolding tokens tokensAt gather tokenWords
 none-alone = refl
 
-flush-alone : (start : ℕ) (acc : List ℕ) (ts : List Tok) → allWordBytes acc ≡ true → Alone (firstOf (tokenWords ts)) →
-    Alone (firstOf (tokenWords (flush start acc ts)))
-unfolding tokenWords
-flush-alone start [] ts e h = h
-flush-alone start (a ∷ az) ts e h = go (operatorOf (a ∷ az)) refl
-  where
-    go : (o : Operator) → operatorOf (a ∷ az) ≡ o → Alone (firstOf (tokenWords (runTok o (a ∷ az) start ∷ ts)))
-    go And p = h
-    go Or p = h
-    go Not p = h
-    go Neither p = word-alone (a ∷ az) e p
-
-mark-alone : (n : ℕ) (ts : List Tok) (s t u : Bool) → Alone (firstOf (tokenWords ts)) →
-    Alone (firstOf (tokenWords (choose s (λ _. ts) (λ _. choose t (λ _. openT n ∷ ts) (λ _. choose u (λ _. closeT n ∷ ts) (λ _. otherT n ∷ ts))))))
-unfolding tokenWords
-mark-alone n ts true t u h = h
-mark-alone n ts false true u h = h
-mark-alone n ts false false true h = h
-mark-alone n ts false false false h = h
-
-all-and : (acc : List ℕ) (b : ℕ) → allWordBytes acc ≡ true → isWordByte b ≡ true → allWordBytes (acc ++ b ∷ []) ≡ true
-unfolding allWordBytes
-all-and [] b e p = both-and (isWordByte b) true p refl
-all-and (a ∷ az) b e p =
-    let both = and-both (isWordByte a) (allWordBytes az) e in
-    both-and (isWordByte a) (allWordBytes (az ++ b ∷ [])) (both .0) (all-and az b (both .1) p)
-
-first-alone : (n start : ℕ) (acc bs : List ℕ) → allWordBytes acc ≡ true → Alone (firstOf (tokenWords (gather n start acc bs)))
-unfolding gather tokenWords allWordBytes
-first-alone n start acc [] e = flush-alone start acc [] e none-alone
-first-alone n start acc (b ∷ bs) e = go (isWordByte b) refl (first-alone (n + 1) start (acc ++ b ∷ []) bs) (first-alone (n + 1) (n + 1) [] bs refl)
-  where
-    go : (t : Bool) → isWordByte b ≡ t → (allWordBytes (acc ++ b ∷ []) ≡ true → Alone (firstOf (tokenWords (gather (n + 1) start (acc ++ b ∷ []) bs)))) →
-        Alone (firstOf (tokenWords (gather (n + 1) (n + 1) [] bs))) →
-        Alone (firstOf (tokenWords (choose t (λ _. gather (n + 1) start (acc ++ (b ∷ [])) bs)
-        (λ _. flush start acc (mark n b (gather (n + 1) (n + 1) [] bs))))))
-    go true p more rest = more (all-and acc b e p)
-    go false p more rest =
-        flush-alone start acc (mark n b (gather (n + 1) (n + 1) [] bs)) e (mark-alone n (gather (n + 1) (n + 1) [] bs) (eqb b 32) (eqb b 40) (eqb b 41) rest)
-
 first-of-tokens : (s : List ℕ) → Alone (firstOf (tokenWords (tokens s)))
-unfolding tokens tokensAt allWordBytes
-first-of-tokens s = first-alone 0 0 [] s refl
+unfolding tokenWords
+first-of-tokens =
+    tokens-hold (λ ts. Alone (firstOf (tokenWords ts))) none-alone (λ w p ts b e h. word-alone w b e) (λ t ts e h. subst (λ ws. Alone (firstOf ws)) (sym e) h)
 
 pub first-word-twice : (a : List ℕ × List ℕ) → firstWord (firstWord a) ≡ firstWord a
 first-word-twice a = ap (λ q. (a .0, q)) (first-of-tokens (a .1))

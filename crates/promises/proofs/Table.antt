@@ -6,7 +6,7 @@ use mathlib.Core.Bool.{true}
 use mathlib.Core.List.{List, _∷_}
 use lib.ListN.{length}
 use Rattle.refusal.specs.First.{firstFrom, first}
-use Rattle.word.specs.Word.{isWordByte, same, isAnd, isOr, isNot, operatorOf}
+use Rattle.word.specs.Word.{isWordByte, same, smallLetter, smallOperatorOf, operatorOf}
 use Rattle.list.specs.Interval.{properFrom, isProper, names, records}
 use Rattle.list.specs.Stretches.{stretches, cellsOf}
 use Rattle.list.specs.Ginix.{inSome, inEvery, unionOf, intersectionOf, belowCount, overlapCount}
@@ -44,7 +44,7 @@ pub intersection-is : (l : List ℕ) (lists : List (List ℕ)) (c : List ℕ) �
 intersection-is l lists c p e = sym (intersection-limit 9 l lists (omega arith) p) ∙ e
 
 pub table-right : AllRight table
-unfolding firstFrom first isWordByte same isAnd isOr isNot operatorOf properFrom isProper names records stretches cellsOf inSome inEvery belowCount overlapCount numbersIn walkFrom walked entryPlace wordStart wordLength listStart singleCount pairCount wordOf singlesOf lowerOf upperOf listOf hasWithin has run gather tokensAt tokens fromLeft question operand links whole satisfies isForeign refusalOf parsed satisfying
+unfolding firstFrom first isWordByte same smallLetter smallOperatorOf operatorOf properFrom isProper names records stretches cellsOf inSome inEvery belowCount overlapCount numbersIn walkFrom walked entryPlace wordStart wordLength listStart singleCount pairCount wordOf singlesOf lowerOf upperOf listOf hasWithin has run gather tokensAt tokens fromLeft question operand links whole satisfies isForeign refusalOf parsed satisfying
 table-right =
     asks-example _ _ _ _ refl refl
     & asks-example _ _ _ _ refl refl

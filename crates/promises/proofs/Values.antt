@@ -4,7 +4,7 @@ use mathlib.Core.Bool.{true, false}
 use mathlib.Core.List.{[], _∷_, _++_}
 use mathlib.Core.Option.{none, some}
 use Rattle.refusal.specs.declared.Refusal.the-variants.{Grammar, Room, Number, ProbeRange, NoWord}
-use Rattle.word.specs.Word.{isWordByte, same, isAnd, isOr, isNot, operatorOf}
+use Rattle.word.specs.Word.{isWordByte, same, smallLetter, smallOperatorOf, operatorOf}
 use Rattle.list.specs.declared.Written.the-variants as written
 use Rattle.list.specs.declared.answer.Answer.the-variants as answer
 use Rattle.index.specs.declared.Checked.the-variants as checked
@@ -50,7 +50,7 @@ pub first-words :
     × (firstWord ([], 40 ∷ 40 ∷ boats ++ or′ ++ tide ++ 41 ∷ 41 ∷ []) ≡ ([], boats))
     × (firstWord ([], or′ ++ boats) ≡ ([], boats))
     × (firstWord (boats, 40 ∷ 41 ∷ []) ≡ (boats, []))
-unfolding isWordByte same isAnd isOr isNot operatorOf gather tokensAt tokens tokenWords
+unfolding isWordByte same smallLetter smallOperatorOf operatorOf gather tokensAt tokens tokenWords
 first-words = (refl, refl, refl, refl, refl, refl)
 
 pub first-entries : (firstEntry (boats, 3 ∷ 0 ∷ 1 ∷ []) ≡ (boats, 3 ∷ [])) × (firstEntry (boats, []) ≡ (boats, []))

@@ -6,7 +6,7 @@ use mathlib.Core.List.{List, [], _∷_, _++_}
 use mathlib.Core.Option.{Option}
 use Rattle.refusal.specs.First.{firstFrom, first}
 use Rattle.refusal.specs.declared.Refusal.the-variants.{Room}
-use Rattle.word.specs.Word.{isWordByte, same, isAnd, isOr, isNot, operatorOf}
+use Rattle.word.specs.Word.{isWordByte, same, smallLetter, smallOperatorOf, operatorOf}
 use Rattle.list.specs.Interval.{names, records}
 use Rattle.list.specs.Stretches.{stretches, cellsOf}
 use Rattle.list.specs.Cell.{numbersIn}
@@ -46,7 +46,7 @@ Outcomes =
     × Asks fromLeft example boats-or-maps [] [] (Refused (Room 1))
 
 outcomes : Outcomes
-unfolding firstFrom first isWordByte same isAnd isOr isNot operatorOf names records stretches cellsOf numbersIn walkFrom walked entryPlace wordStart wordLength listStart singleCount pairCount wordOf singlesOf lowerOf upperOf listOf hasWithin has run gather tokensAt tokens fromLeft question operand links whole satisfies isForeign refusalOf parsed satisfying
+unfolding firstFrom first isWordByte same smallLetter smallOperatorOf operatorOf names records stretches cellsOf numbersIn walkFrom walked entryPlace wordStart wordLength listStart singleCount pairCount wordOf singlesOf lowerOf upperOf listOf hasWithin has run gather tokensAt tokens fromLeft question operand links whole satisfies isForeign refusalOf parsed satisfying
 outcomes = (
   asks-example _ _ _ _ refl refl,
   asks-example _ _ _ _ refl refl,
@@ -75,7 +75,7 @@ pub ask-silent : Fails asks (Silent answerRefused)
 ask-silent = silent-fails one answerRefused tide-asked lent (outcomes .0) refl (differ-at 0 (2 ∷ 4 ∷ 8 ∷ 9 ∷ []) lent (λ e. omega arith))
 
 pub ask-first : Fails asks (FirstOnly answerRefused firstWord)
-unfolding isWordByte same isAnd isOr isNot operatorOf gather tokensAt tokens tokenWords
+unfolding isWordByte same smallLetter smallOperatorOf operatorOf gather tokensAt tokens tokenWords
 ask-first =
     first-fails one answerRefused firstWord tide-asked lent (outcomes .0) (outcomes .2) refl refl
     (differ-at 3 (2 ∷ 4 ∷ 8 ∷ 9 ∷ []) (2 ∷ 4 ∷ 8 ∷ 8 ∷ []) (λ e. omega arith))

@@ -7,7 +7,7 @@ use mathlib.Core.List.{List, [], _∷_}
 use mathlib.Core.Option.{Option}
 use lib.ListN.{length, getD, replicate}
 use Rattle.refusal.specs.First.{firstFrom, first}
-use Rattle.word.specs.Word.{isWordByte, allWordBytes, same, before, isAnd, isOr, isNot, isOperator, isWord}
+use Rattle.word.specs.Word.{isWordByte, allWordBytes, same, before, smallLetter, smallOperatorOf, operatorOf, isOperator, isWord}
 use Rattle.list.specs.Stretches.{stretches, cellsOf}
 use Rattle.list.specs.Among.{among}
 use Rattle.question.specs.Token.{run}
@@ -61,7 +61,7 @@ Outcomes =
     × (getD (after one zeros) 4 0 ≡ 97)
 
 outcomes : Outcomes
-unfolding firstFrom first isWordByte allWordBytes same before isAnd isOr isNot isOperator isWord stretches cellsOf among wordsFrom lentWords restFrom restOf wordTotal badLent sumTo badCount badRest beginsList badListed listsFrom cellsBytes cellSingles cellLowers cellUppers keptBytes listsBytes wordsBytes directoryBytes indexOf lentOf buildOf
+unfolding firstFrom first isWordByte allWordBytes same before smallLetter smallOperatorOf operatorOf isOperator isWord stretches cellsOf among wordsFrom lentWords restFrom restOf wordTotal badLent sumTo badCount badRest beginsList badListed listsFrom cellsBytes cellSingles cellLowers cellUppers keptBytes listsBytes wordsBytes directoryBytes indexOf lentOf buildOf
 outcomes = (refl, refl, refl, refl, refl, refl, refl)
 
 differ : after two zeros ≡ after one zeros → ⊥

@@ -5,7 +5,7 @@ use mathlib.Core.Path.{_≡_, refl, ap}
 use mathlib.Core.Bool.{true, false}
 use mathlib.Core.List.{[]}
 use Rattle.refusal.specs.declared.Refusal.the-variants.{NoWord}
-use Rattle.word.specs.Word.{isWordByte, same, before, isAnd, isOr, isNot, operatorOf}
+use Rattle.word.specs.Word.{isWordByte, same, before, smallLetter, smallOperatorOf, operatorOf}
 use Rattle.refusal.specs.First.{firstFrom, first}
 use Rattle.list.specs.Ginix.{belowCount, overlapCount}
 use Rattle.list.specs.Cell.{numbersIn}
@@ -93,5 +93,5 @@ probe-inventing-overlapping =
     (λ e. omega arith)
 
 pub reading-refusing : FailsToBe verdictOf (RefusingAll verdictRefused)
-unfolding isWordByte same isAnd isOr isNot operatorOf firstFrom first run gather tokensAt tokens fromLeft question operand links whole isForeign refusalOf parsed verdictOf
+unfolding isWordByte same smallLetter smallOperatorOf operatorOf firstFrom first run gather tokensAt tokens fromLeft question operand links whole isForeign refusalOf parsed verdictOf
 reading-refusing = refusing-all-fails verdictOf verdictRefused boats refl

@@ -47,3 +47,10 @@ example =
     64 ∷ 4 ∷ 28 ∷ 1 ∷ 1 ∷
     68 ∷ 4 ∷ 40 ∷ 1 ∷ 1 ∷
     52 ∷ 72 ∷ 4 ∷ 9 ∷ 1 ∷ [])))))
+
+-- Reference 2: `AND`, and a sound index of 76 bytes that holds it: `AND` in record 1, `b` in 2 and 3
+abbrev pub capitals : List ℕ
+capitals = 65 ∷ 78 ∷ 68 ∷ []
+
+abbrev pub holding : List ℕ
+holding = small (1 ∷ 2 ∷ 3 ∷ []) ++ (capitals ++ (98 ∷ small (12 ∷ 3 ∷ 0 ∷ 1 ∷ 0 ∷ 15 ∷ 1 ∷ 4 ∷ 0 ∷ 1 ∷ 12 ∷ 16 ∷ 2 ∷ 3 ∷ 1 ∷ [])))

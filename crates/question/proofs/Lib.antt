@@ -15,4 +15,5 @@ pub mod Exchange
 pub mod TreeWords
 pub mod MeaningLaws
 pub mod LevelLaws
+pub mod OperatorLaws
 pub mod ResultLaws

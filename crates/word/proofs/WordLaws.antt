@@ -3,19 +3,17 @@ use Prim.Native.Nat.{ℕ, _+_, _≤_, _<_}
 use native.Mathlib.Omega.{arith}
 use mathlib.Core.Path.{_≡_, refl, sym, ap, ap₂, _∙_}
 use mathlib.Core.Logic.{_⊎_, inl, inr, ⊎-elim}
-use mathlib.Core.List.{List, [], _∷_}
-use mathlib.Core.Bool.{Bool, true, false, not, cond, _&&_, _||_, and-true}
+use mathlib.Core.List.{List, [], _∷_, _++_}
+use mathlib.Core.Bool.{Bool, true, false, not, cond, _&&_, _||_}
 use lib.Dec.{eqb, ltb}
 use lib.ListN.{length, getD, drop}
 use borrow.Author.Tests.{eqb-true, eqb-false, ltb-true, ltb-false, lt-ltb, le-ltb, eq-eqb, ne-eqb, le-leb, lt-leb}
 use Rattle.laws.proofs.Tests.{true-false, and-both, both-and, or-either, by-test}
 use Rattle.laws.proofs.Lists.{drop-next, drop-none}
 use Rattle.limits.specs.Limits.{wordMax}
-use Rattle.word.specs.declared.Operator.{Operator}
-use Rattle.word.specs.declared.Operator.the-variants.{And, Or, Not, Neither}
 use Rattle.word.specs.declared.Order.{Order}
 use Rattle.word.specs.declared.Order.the-variants.{Before, Same, Behind}
-use Rattle.word.specs.Word.{isWordByte, allWordBytes, same, before, isAnd, isOr, isNot, isOperator, isWord, operatorOf, orderOf}
+use Rattle.word.specs.Word.{isWordByte, allWordBytes, same, before, isBarred, isWord, orderOf}
 
 -- ---- sameness is equality
 
@@ -119,58 +117,17 @@ unfolding allWordBytes
 bytes-end s true i h = rw (drop-none s i h)
 bytes-end s false i h = refl
 
--- ---- the operators, by length and bytes
+-- bytes that are gathered one by one
+pub bytes-none : allWordBytes [] ≡ true
+unfolding allWordBytes
+bytes-none = refl
 
-and-three : (a b c : Bool) → a && (b && (c && true)) ≡ a && b && c
-and-three true true c = and-true c
-and-three true false c = refl
-and-three false b c = refl
-
-same-two : (w : List ℕ) (a b : ℕ) → length w ≡ 2 → same w (a ∷ b ∷ []) ≡ eqb (getD w 0 0) a && eqb (getD w 1 0) b
-unfolding same
-same-two [] a b h = absurd (omega arith)
-same-two (x ∷ []) a b h = absurd (omega arith)
-same-two (x ∷ y ∷ []) a b h = ap (λ (t : Bool). eqb x a && t) (and-true (eqb y b))
-same-two (x ∷ y ∷ z ∷ r) a b h = absurd (omega arith)
-
-same-three : (w : List ℕ) (a b c : ℕ) → length w ≡ 3 → same w (a ∷ b ∷ c ∷ []) ≡ eqb (getD w 0 0) a && eqb (getD w 1 0) b && eqb (getD w 2 0) c
-unfolding same
-same-three [] a b c h = absurd (omega arith)
-same-three (x ∷ []) a b c h = absurd (omega arith)
-same-three (x ∷ y ∷ []) a b c h = absurd (omega arith)
-same-three (x ∷ y ∷ z ∷ []) a b c h = and-three (eqb x a) (eqb y b) (eqb z c)
-same-three (x ∷ y ∷ z ∷ u ∷ r) a b c h = absurd (omega arith)
-
-pub operator-two : (w : List ℕ) → length w ≡ 2 → (t : Bool) → eqb (getD w 0 0) 111 && eqb (getD w 1 0) 114 ≡ t → operatorOf w ≡ cond t Or Neither
-unfolding operatorOf isAnd isOr isNot
-operator-two w h t e =
-    rw (differ-length w (97 ∷ 110 ∷ 100 ∷ []) (λ e. omega arith), differ-length w (110 ∷ 111 ∷ 116 ∷ []) (λ e. omega arith), same-two w 111 114 h, e)
-
-pub operator-three : (w : List ℕ) → length w ≡ 3 → (s t : Bool) → eqb (getD w 0 0) 97 && eqb (getD w 1 0) 110 && eqb (getD w 2 0) 100 ≡ s →
-    eqb (getD w 0 0) 110 && eqb (getD w 1 0) 111 && eqb (getD w 2 0) 116 ≡ t → operatorOf w ≡ cond s And (cond t Not Neither)
-unfolding operatorOf isAnd isOr isNot
-operator-three w h s t d e = rw (differ-length w (111 ∷ 114 ∷ []) (λ e. omega arith), same-three w 97 110 100 h, same-three w 110 111 116 h, d, e)
-
-pub operator-other : (w : List ℕ) → (length w ≡ 2 → ⊥) → (length w ≡ 3 → ⊥) → operatorOf w ≡ Neither
-unfolding operatorOf isAnd isOr isNot
-operator-other w n m = rw (differ-length w (97 ∷ 110 ∷ 100 ∷ []) m, differ-length w (111 ∷ 114 ∷ []) n, differ-length w (110 ∷ 111 ∷ 116 ∷ []) m)
-
--- whether it is one at all
-abbrev pub some : Operator → Bool
-some And = true
-some Or = true
-some Not = true
-some Neither = false
-
-pub operator-some : (w : List ℕ) → isOperator w ≡ some (operatorOf w)
-unfolding isOperator operatorOf
-operator-some w = go (isAnd w) (isOr w) (isNot w)
-  where
-    go : (a b c : Bool) → a || b || c ≡ some (cond a And (cond b Or (cond c Not Neither)))
-    go true b c = refl
-    go false true c = refl
-    go false false true = refl
-    go false false false = refl
+pub bytes-next : (w : List ℕ) (b : ℕ) → allWordBytes w ≡ true → isWordByte b ≡ true → allWordBytes (w ++ b ∷ []) ≡ true
+unfolding allWordBytes
+bytes-next [] b e p = both-and (isWordByte b) true p refl
+bytes-next (a ∷ w) b e p =
+    let both = and-both (isWordByte a) (allWordBytes w) e in
+    both-and (isWordByte a) (allWordBytes (w ++ b ∷ [])) (both .0) (bytes-next w b (both .1) p)
 
 -- ---- the order, place by place
 
@@ -253,18 +210,20 @@ before-ascends a b = go (same a b) (before a b) refl refl
 
 -- ---- what may stand as a word, test by test
 
-pub word-short : (w : List ℕ) → length w < 1 → isWord w ≡ false
-unfolding isWord
-word-short w h = rw (lt-leb 1 (length w) h)
+module _ (every : Bool) (w : List ℕ) where
+  pub word-short : length w < 1 → isWord every w ≡ false
+  unfolding isWord
+  word-short h = rw (lt-leb 1 (length w) h)
 
-pub word-long : (w : List ℕ) → wordMax < length w → isWord w ≡ false
-unfolding isWord
-word-long w h = rw (le-leb 1 (length w) (omega arith), lt-leb (length w) wordMax h)
+  pub word-long : wordMax < length w → isWord every w ≡ false
+  unfolding isWord
+  word-long h = rw (le-leb 1 (length w) (omega arith), lt-leb (length w) wordMax h)
 
-pub word-bytes-fail : (w : List ℕ) → 1 ≤ length w → length w ≤ wordMax → allWordBytes w ≡ false → isWord w ≡ false
-unfolding isWord
-word-bytes-fail w h k e = rw (le-leb 1 (length w) h, le-leb (length w) wordMax k, e)
+  module _ (h : 1 ≤ length w) (k : length w ≤ wordMax) where
+    pub word-bytes-fail : allWordBytes w ≡ false → isWord every w ≡ false
+    unfolding isWord
+    word-bytes-fail e = rw (le-leb 1 (length w) h, le-leb (length w) wordMax k, e)
 
-pub word-else : (w : List ℕ) → 1 ≤ length w → length w ≤ wordMax → allWordBytes w ≡ true → isWord w ≡ not (isOperator w)
-unfolding isWord
-word-else w h k e = rw (le-leb 1 (length w) h, le-leb (length w) wordMax k, e)
+    pub word-else : allWordBytes w ≡ true → isWord every w ≡ not (isBarred every w)
+    unfolding isWord
+    word-else e = rw (le-leb 1 (length w) h, le-leb (length w) wordMax k, e)

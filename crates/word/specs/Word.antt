@@ -1,7 +1,7 @@
 -- Words: their bytes, their order, and the three that are operators. Reference 2.
-use Prim.Native.Nat.{ℕ}
+use Prim.Native.Nat.{ℕ, _+_}
 use mathlib.Core.Bool.{Bool, true, false, not, cond, _&&_, _||_}
-use mathlib.Core.List.{List, [], _∷_}
+use mathlib.Core.List.{List, [], _∷_, map}
 use lib.Dec.{eqb, leb, ltb}
 use lib.ListN.{length}
 use Rattle.limits.specs.Limits.{wordMax}
@@ -35,26 +35,42 @@ before [] (y ∷ ys) = true
 before (x ∷ xs) [] = false
 before (x ∷ xs) (y ∷ ys) = ltb x y || (eqb x y && before xs ys)
 
--- Reference 2: the three operators, by the bytes of their small letters
-unfoldable pub isAnd : List ℕ → Bool
-isAnd w = same w (97 ∷ 110 ∷ 100 ∷ [])
+-- Reference 2: a capital letter as the small one, any other byte as it is
+unfoldable pub smallLetter : ℕ → ℕ
+smallLetter b = cond (between 65 90 b) (b + 32) b
 
-unfoldable pub isOr : List ℕ → Bool
-isOr w = same w (111 ∷ 114 ∷ [])
+-- Reference 2: which operator the bytes are in small letters, if any
+unfoldable pub smallOperatorOf : List ℕ → Operator
+smallOperatorOf w =
+    cond (same w (97 ∷ 110 ∷ 100 ∷ [])) And
+    (cond (same w (111 ∷ 114 ∷ [])) Or
+    (cond (same w (110 ∷ 111 ∷ 116 ∷ [])) Not Neither))
 
-unfoldable pub isNot : List ℕ → Bool
-isNot w = same w (110 ∷ 111 ∷ 116 ∷ [])
+-- Reference 2: which operator they are in any mixture of small and capital letters
+unfoldable pub operatorOf : List ℕ → Operator
+operatorOf w = smallOperatorOf (map smallLetter w)
+
+-- whether it is one at all
+abbrev pub some : Operator → Bool
+some And = true
+some Or = true
+some Not = true
+some Neither = false
+
+-- Reference 2: an operator in small letters, and one in any spelling
+unfoldable pub isSmallOperator : List ℕ → Bool
+isSmallOperator w = some (smallOperatorOf w)
 
 unfoldable pub isOperator : List ℕ → Bool
-isOperator w = isAnd w || isOr w || isNot w
+isOperator w = some (operatorOf w)
 
--- Reference 2: whether the bytes are a word; how it stands to others is no part of that
-unfoldable pub isWord : List ℕ → Bool
-isWord w = between 1 wordMax (length w) && allWordBytes w && not (isOperator w)
+-- Reference 2: what is barred from being a word: the operators in every spelling, or those in small letters
+abbrev pub isBarred : Bool → List ℕ → Bool
+isBarred every w = cond every (isOperator w) (isSmallOperator w)
 
--- Reference 6.1: which operator a run is, if any
-unfoldable pub operatorOf : List ℕ → Operator
-operatorOf w = cond (isAnd w) And (cond (isOr w) Or (cond (isNot w) Not Neither))
+-- Reference 2: whether the bytes are a word by what is barred; how it stands to others is no part of that
+unfoldable pub isWord : Bool → List ℕ → Bool
+isWord every w = between 1 wordMax (length w) && allWordBytes w && not (isBarred every w)
 
 -- Reference 2: how the first stands to the second
 unfoldable pub orderOf : List ℕ → List ℕ → Order

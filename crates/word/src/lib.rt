@@ -6,9 +6,10 @@ ghost use lib.Dec.{ltb};
 ghost use Rattle.word.specs.Word.{
   isWordByte,
   allWordBytes,
-  isOperator,
-  isWord,
+  smallOperatorOf,
   operatorOf,
+  isBarred,
+  isWord,
   orderOf,
 };
 ghost use Rattle.word.specs.declared.Order.the-variants.{Before, Behind};
@@ -49,11 +50,20 @@ pub fn word_bytes(s: &[u8]) -> bool
     all
 }
 
-pub fn operator_of(s: &[u8]) -> Operator
-    ensures { λ r. ⌜ r ≡ operatorOf (now (s .entry)) ⌝ }
+// What is set in a letter before it is compared: where `every` spelling counts, the bit that makes a capital letter the small one.
+fn case_bit(every: bool) -> u8
+    ensures { λ r. ⌜ r ≡ cond every 32 0 ⌝ }
 {
+    if every { 32 } else { 0 }
+}
+
+// Which operator the bytes are: in small letters or, where `every` spelling counts, in any mixture of small and capital ones.
+fn operator_by(s: &[u8], every: bool) -> Operator
+    ensures { λ r. ⌜ r ≡ cond every (operatorOf (now (s .entry))) (smallOperatorOf (now (s .entry))) ⌝ }
+{
+    let bit = case_bit(every);
     if s.len() == 2 {
-        if (s[0] == 111) & (s[1] == 114) {
+        if ((s[0] | bit) == b'o') & ((s[1] | bit) == b'r') {
             return Operator::Or;
         }
         return Operator::Neither;
@@ -61,19 +71,29 @@ pub fn operator_of(s: &[u8]) -> Operator
     if s.len() != 3 {
         return Operator::Neither;
     }
-    if (s[0] == 97) & (s[1] == 110) & (s[2] == 100) {
+    let x = s[0] | bit;
+    let y = s[1] | bit;
+    let z = s[2] | bit;
+    if (x == b'a') & (y == b'n') & (z == b'd') {
         return Operator::And;
     }
-    if (s[0] == 110) & (s[1] == 111) & (s[2] == 116) {
+    if (x == b'n') & (y == b'o') & (z == b't') {
         return Operator::Not;
     }
     Operator::Neither
 }
 
-fn is_operator(s: &[u8]) -> bool
-    ensures { λ r. ⌜ r ≡ isOperator (now (s .entry)) ⌝ }
+// Which operator a run of a question is: every spelling is one.
+pub fn operator_of(s: &[u8]) -> Operator
+    ensures { λ r. ⌜ r ≡ operatorOf (now (s .entry)) ⌝ }
 {
-    match operator_of(s) {
+    operator_by(s, true)
+}
+
+fn is_barred(s: &[u8], every: bool) -> bool
+    ensures { λ r. ⌜ r ≡ isBarred every (now (s .entry)) ⌝ }
+{
+    match operator_by(s, every) {
         Operator::And => true,
         Operator::Or => true,
         Operator::Not => true,
@@ -81,9 +101,9 @@ fn is_operator(s: &[u8]) -> bool
     }
 }
 
-// Whether the bytes may stand as a word in an index.
-pub fn is_word(s: &[u8]) -> bool
-    ensures { λ r. ⌜ r ≡ isWord (now (s .entry)) ⌝ }
+// Whether the bytes may stand as a word in an index, from which `every` spelling of the operators is barred or those in small letters alone.
+pub fn is_word(s: &[u8], every: bool) -> bool
+    ensures { λ r. ⌜ r ≡ isWord every (now (s .entry)) ⌝ }
 {
     if s.len() < 1 {
         return false;
@@ -94,7 +114,7 @@ pub fn is_word(s: &[u8]) -> bool
     if !word_bytes(s) {
         return false;
     }
-    !is_operator(s)
+    !is_barred(s, every)
 }
 
 fn smaller(a: usize, b: usize) -> usize

@@ -3,7 +3,7 @@
 use crate::random::Random;
 use crate::reference::build::{encode, encode_kept, Kept};
 use crate::reference::set::Set;
-use crate::reference::{is_word, RECORD_MAX};
+use crate::reference::{is_small_operator, is_word, OPERATORS, RECORD_MAX};
 
 const NO_WORDS: [&[u8]; 7] = [b"and", b"or", b"not", b"", b"a b", b"a\n", b"abcdefghijklmnopqrstuvwxyz0123456"];
 
@@ -20,17 +20,37 @@ impl Catalogue {
 }
 
 const LETTERS: &[u8] = b"abABzZ09nort";
-const NEAR_OPERATORS: [&[u8]; 9] = [b"AND", b"Or", b"NOT", b"an", b"ands", b"o", b"nots", b"andor", b"orr"];
+const NEAR_OPERATORS: [&[u8]; 6] = [b"an", b"ands", b"o", b"nots", b"andor", b"orr"];
 
-/// A word: short over few letters, so that prefixes and equal words occur; at times 32 bytes, at times nearly an operator.
+/// The same letters, each small or capital.
+fn spelt(random: &mut Random, word: &[u8]) -> Vec<u8> {
+    word.iter().map(|b| if random.one_in(2) { b.to_ascii_uppercase() } else { *b }).collect()
+}
+
+/// An operator, in small letters or in any mixture.
+pub fn operator(random: &mut Random) -> Vec<u8> {
+    let operator = *random.pick(&OPERATORS);
+    if random.one_in(2) {
+        return operator.to_vec();
+    }
+    spelt(random, operator)
+}
+
+/// A word of an index: short over few letters, so that prefixes and equal words occur; at times 32 bytes, at times an operator with a capital letter, or
+/// nearly an operator.
 pub fn word(random: &mut Random) -> Vec<u8> {
     loop {
         let length = if random.one_in(12) { 30 + random.below(3) } else { 1 + random.below(5) };
         let mut word: Vec<u8> = (0..length).map(|_| *random.pick(LETTERS)).collect();
-        if random.one_in(10) {
-            word = random.pick(&NEAR_OPERATORS).to_vec();
+        match random.below(20) {
+            0 => word = operator(random),
+            1 => {
+                let near = *random.pick(&NEAR_OPERATORS);
+                word = spelt(random, near);
+            }
+            _ => {}
         }
-        if is_word(&word) {
+        if is_word(&word, is_small_operator) {
             return word;
         }
     }

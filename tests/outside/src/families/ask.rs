@@ -8,8 +8,6 @@ use crate::reference::question;
 
 type Tokens = Vec<Vec<u8>>;
 
-const OPERATORS: [&[u8]; 3] = [b"and", b"or", b"not"];
-
 fn operand(random: &mut Random, catalogue: &Catalogue) -> Vec<u8> {
     if catalogue.words.is_empty() || random.one_in(8) {
         return make::word(random);
@@ -22,7 +20,7 @@ fn sound(random: &mut Random, catalogue: &Catalogue, words: &mut usize, brackets
     let operands = 1 + random.below(5).min(words.saturating_sub(1));
     for i in 0..operands {
         if i > 0 {
-            tokens.push(random.pick(&OPERATORS).to_vec());
+            tokens.push(make::operator(random));
         }
         if brackets > 0 && *words > 0 && random.one_in(3) {
             tokens.push(b"(".to_vec());
@@ -40,7 +38,7 @@ fn soup(random: &mut Random, catalogue: &Catalogue) -> Tokens {
     let token = |random: &mut Random| match random.below(6) {
         0 => b"(".to_vec(),
         1 => b")".to_vec(),
-        2 | 3 => random.pick(&OPERATORS).to_vec(),
+        2 | 3 => make::operator(random),
         _ => operand(random, catalogue),
     };
     (0..random.below(12)).map(|_| token(random)).collect()
@@ -53,7 +51,7 @@ fn crowded(random: &mut Random, catalogue: &Catalogue) -> Tokens {
     let mut open = 0;
     for i in 0..words {
         if i > 0 {
-            tokens.push(random.pick(&OPERATORS).to_vec());
+            tokens.push(make::operator(random));
         }
         while open < brackets && random.one_in(2) {
             tokens.push(b"(".to_vec());
@@ -75,7 +73,8 @@ fn disturb(random: &mut Random, catalogue: &Catalogue, tokens: &mut Tokens) {
     match random.below(5) {
         0 if !tokens.is_empty() => drop(tokens.remove(at)),
         1 if !tokens.is_empty() => tokens.insert(at, tokens[at].clone()),
-        2 => tokens.insert(at, random.pick(&[&b"("[..], b")", b"and", b"or", b"not", b"AND"]).to_vec()),
+        2 if random.one_in(2) => tokens.insert(at, make::operator(random)),
+        2 => tokens.insert(at, random.pick(&[&b"("[..], b")"]).to_vec()),
         3 => tokens.insert(at, vec![b'w'; 31 + random.below(4)]),
         _ => tokens.push(operand(random, catalogue)),
     }

@@ -37,7 +37,8 @@ fn disturb_words(random: &mut Random, words: &mut Vec<Vec<u8>>) {
         0 if !words.is_empty() => drop(words[at].pop()),
         1 if !words.is_empty() => words.insert(at, words[at].clone()),
         2 if words.len() > 1 => words.swap(0, at),
-        3 => words.insert(at, random.pick(&[&b"and\n"[..], b"or\n", b"not\n", b"\n", b"AND\n"]).to_vec()),
+        3 if random.one_in(4) => words.insert(at, b"\n".to_vec()),
+        3 => words.insert(at, [make::operator(random), b"\n".to_vec()].concat()),
         4 => words.insert(at, [vec![b'b'; 31 + random.below(4)], b"\n".to_vec()].concat()),
         5 if !words.is_empty() && !words[at].is_empty() => {
             let place = random.below(words[at].len());

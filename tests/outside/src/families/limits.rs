@@ -7,10 +7,11 @@ use crate::reference::build::encode;
 use crate::reference::join::{join, Join};
 use crate::reference::question::ask;
 use crate::reference::set::{Interval, Set};
-use crate::reference::{INDEX_MAX, RECORD_MAX};
+use crate::reference::{is_small_operator, INDEX_MAX, OPERATORS, RECORD_MAX};
 
 pub fn run(caller: &mut Caller, _: &mut Random) -> Outcome {
     questions(caller)?;
+    operators(caller)?;
     twice(caller)?;
     last_record(caller)?;
     borders(caller)?;
@@ -78,6 +79,80 @@ fn questions(caller: &mut Caller) -> Outcome {
     ];
     for question in table {
         asked(caller, &index, question.as_bytes())?;
+    }
+    Ok(())
+}
+
+/// Each mixture of small and capital letters.
+fn spellings(operator: &[u8]) -> Vec<String> {
+    let letter = |capitals: usize, i: usize| char::from(if capitals >> i & 1 == 1 { operator[i].to_ascii_uppercase() } else { operator[i] });
+    (0..1 << operator.len()).map(|capitals| (0..operator.len()).map(|i| letter(capitals, i)).collect()).collect()
+}
+
+/// Where an operator can come, where it cannot, and where its letters are a part of a word: `?` stands for each spelling.
+const PLACES: [&str; 21] = [
+    "?",
+    "? boats",
+    "boats ?",
+    "boats ? tide",
+    " boats  ?  tide ",
+    "(boats ? tide)",
+    "(boats)?(tide)",
+    "boats ? tide ? maps",
+    "boats ? (tide ? maps)",
+    "boats ? ? tide",
+    "boats ? ?",
+    "(?)",
+    "(? boats)",
+    "boats(?)",
+    "boats or ?",
+    "boats ?s",
+    "?s ? x?",
+    "boats?tide",
+    "?1 or boats",
+    "((((((((?",
+    "(((((((((?",
+];
+
+/// Every spelling of the operators: in a question, as a word to build, and as a word of an index, which may hold those with a capital letter.
+fn operators(caller: &mut Caller) -> Outcome {
+    let all: Vec<String> = OPERATORS.iter().flat_map(|operator| spellings(operator)).collect();
+    let capital = all.iter().map(|word| word.clone().into_bytes()).filter(|word| !is_small_operator(word));
+    let mut words: Vec<Vec<u8>> = capital.chain([b"boats".to_vec(), b"maps".to_vec(), b"tide".to_vec()]).collect();
+    words.sort();
+    let holding: Vec<(Vec<u8>, Set)> = words.into_iter().zip(1..).map(|(word, i)| (word, set(&[(i, i + 2)]))).collect();
+    let indexes = [example(), encode(30, &holding)];
+    let many = |n: usize| vec!["boats"; n].join(" or ");
+    let crowded = [(15, "? tide"), (16, "?"), (16, "? tide"), (16, "or ?"), (16, "? ?")].map(|(n, end)| format!("{} {end}", many(n)));
+    for index in &indexes {
+        caller.check(index)?;
+        for spelling in &all {
+            caller.lookup(index, spelling.as_bytes())?;
+            for place in PLACES.iter().copied().chain(crowded.iter().map(String::as_str)) {
+                asked(caller, index, place.replace('?', spelling).as_bytes())?;
+            }
+        }
+    }
+    all.iter().try_for_each(|spelling| one_operator(caller, spelling.as_bytes()))
+}
+
+/// One spelling as a word: alone and between two others, held and to be built, and with a letter more.
+fn one_operator(caller: &mut Caller, spelling: &[u8]) -> Outcome {
+    let longer = [spelling, b"b"].concat();
+    for word in [spelling, &longer] {
+        let others = [(b"Zz".to_vec(), set(&[(1, 1)])), (word.to_vec(), set(&[(2, 2)])), (b"tide".to_vec(), set(&[(1, 2)]))];
+        let mut three = others.clone();
+        three.sort_by(|a, b| a.0.cmp(&b.0));
+        for words in [&others[1..2], &three] {
+            let index = encode(2, words);
+            caller.check(&index)?;
+            caller.lookup(&index, word)?;
+            asked(caller, &index, word)?;
+            let lent: Vec<u8> = words.iter().flat_map(|(word, _)| [&word[..], b"\n"].concat()).collect();
+            let counts: Vec<u32> = words.iter().map(|(_, list)| list.records() as u32).collect();
+            let numbers: Vec<u32> = words.iter().flat_map(|(_, list)| list.numbers()).collect();
+            caller.build(2, &lent, &counts, &numbers, index.len())?;
+        }
     }
     Ok(())
 }

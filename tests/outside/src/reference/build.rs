@@ -2,7 +2,7 @@
 
 use super::convert::bad_number;
 use super::set::{Interval, Set};
-use super::{is_word, refuse, Answer, INDEX_MAX, RECORD_MAX, WORDS_MAX};
+use super::{is_operator, is_word, refuse, Answer, INDEX_MAX, RECORD_MAX, WORDS_MAX};
 
 /// A word with its list as an index keeps it: singles, lower bounds, upper bounds.
 pub struct Kept {
@@ -64,7 +64,7 @@ fn split(words: &[u8]) -> Answer<Vec<Vec<u8>>> {
             return bad;
         };
         let word = rest[..end].to_vec();
-        if !is_word(&word) || found.last().is_some_and(|before| *before >= word) {
+        if !is_word(&word, is_operator) || found.last().is_some_and(|before| *before >= word) {
             return bad;
         }
         found.push(word);

@@ -1,7 +1,7 @@
 //! The index (Reference 4, 5): the check, lookup, an entry's word, and probing.
 
 use super::set::{Interval, Set};
-use super::{is_word, refuse, Answer, INDEX_MAX, INDEX_MIN, RECORD_MAX, WORDS_MAX};
+use super::{is_small_operator, is_word, refuse, Answer, INDEX_MAX, INDEX_MIN, RECORD_MAX, WORDS_MAX};
 
 pub struct Entry {
     pub word: Vec<u8>,
@@ -70,7 +70,7 @@ fn read_words(bytes: &[u8], words: u64, directory: u64, lines: &[Line]) -> Answe
             return refuse(4, i as u64);
         }
         let word = bytes[line.word_start as usize..word_end as usize].to_vec();
-        if !is_word(&word) || found.last().is_some_and(|before| *before >= word) {
+        if !is_word(&word, is_small_operator) || found.last().is_some_and(|before| *before >= word) {
             return refuse(4, i as u64);
         }
         found.push(word);

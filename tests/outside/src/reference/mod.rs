@@ -36,12 +36,20 @@ pub fn is_word_byte(byte: u8) -> bool {
     byte.is_ascii_alphanumeric()
 }
 
-/// The three operators; in capitals they are words.
-pub fn is_operator(word: &[u8]) -> bool {
-    matches!(word, b"and" | b"or" | b"not")
+/// The three operators, in small letters.
+pub const OPERATORS: [&[u8]; 3] = [b"and", b"or", b"not"];
+
+/// An operator in small letters: no word of an index.
+pub fn is_small_operator(word: &[u8]) -> bool {
+    OPERATORS.contains(&word)
 }
 
-/// Length, bytes and no operator: what makes a word, its neighbours apart.
-pub fn is_word(bytes: &[u8]) -> bool {
-    (1..=WORD_MAX).contains(&bytes.len()) && bytes.iter().all(|&b| is_word_byte(b)) && !is_operator(bytes)
+/// An operator in any mixture of small and capital letters: what a question reads as one, and what cannot be built.
+pub fn is_operator(word: &[u8]) -> bool {
+    OPERATORS.iter().any(|operator| word.eq_ignore_ascii_case(operator))
+}
+
+/// Length, bytes and nothing that is barred: what makes a word, its neighbours apart.
+pub fn is_word(bytes: &[u8], is_barred: fn(&[u8]) -> bool) -> bool {
+    (1..=WORD_MAX).contains(&bytes.len()) && bytes.iter().all(|&b| is_word_byte(b)) && !is_barred(bytes)
 }

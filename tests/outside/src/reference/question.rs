@@ -69,10 +69,11 @@ fn tokens(question: &[u8]) -> Vec<(usize, &[u8])> {
     found
 }
 
+/// Of the operators each has its own first letter.
 fn operator(token: &[u8]) -> Operator {
-    match token {
-        b"and" => Operator::And,
-        b"or" => Operator::Or,
+    match token[0] {
+        b'a' | b'A' => Operator::And,
+        b'o' | b'O' => Operator::Or,
         _ => Operator::Not,
     }
 }

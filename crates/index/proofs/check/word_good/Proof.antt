@@ -14,7 +14,7 @@ begin c = c .before .before .before .before .before
 
 -- of a word, the comparison decides
 said : (c : tie.After-compare) →
-    isWord (now (begin c .args .word)) && before (now (begin c .args .prior)) (now (begin c .args .word)) ≡ ascends (c .compare .result)
+    isWord (begin c .args .every) (now (begin c .args .word)) && before (now (begin c .args .prior)) (now (begin c .args .word)) ≡ ascends (c .compare .result)
 said c =
     let a = begin c .args in
     rw (sym (c .before .before .is-word .ensures) ∙ not-false _ (c .before .if1 .left))

@@ -1,16 +1,16 @@
 -- By what the operator's test found.
 use mathlib.Core.Path.{_≡_, sym, ap, _∙_}
-use Rattle.word.specs.Word.{isOperator}
-use Rattle.word.proofs.WordLaws.{some, operator-some}
+use Rattle.word.specs.Word.{some, isBarred}
+use Rattle.word.proofs.SpellingLaws.{barred-some}
 use borrow.Author.Needs.{needs}
-use Rattle.word.proofs.is_operator.Statement.{statement}
-use Rattle.word.proofs.is_operator.Tie as tie
+use Rattle.word.proofs.is_barred.Statement.{statement}
+use Rattle.word.proofs.is_barred.Tie as tie
 
-said : (c : tie.After-operator-of) → isOperator (c .before .before .args .s .now) ≡ some (c .operator-of .result)
-said c = operator-some (c .before .before .args .s .now) ∙ ap some (sym (c .operator-of .ensures))
+said : (c : tie.After-operator-by) → isBarred (c .before .before .args .every) (c .before .before .args .s .now) ≡ some (c .operator-by .result)
+said c = let a = c .before .before .args in barred-some (a .every) (a .s .now) ∙ ap some (sym (c .operator-by .ensures))
 
-pub is-operator-spec : {M : Type 1} → statement M
-is-operator-spec =
+pub is-barred-spec : {M : Type 1} → statement M
+is-barred-spec =
     tie.close
     (tie.spec
     (λ c κs. search needs) (λ c. search needs) (λ c. search needs) (λ c. search needs) (λ c. search needs)
