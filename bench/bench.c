@@ -7,6 +7,7 @@
 #include "others.h"
 #include "probing.h"
 #include "reference.h"
+#include "words.h"
 
 #include <stdio.h>
 #include <stdlib.h>
@@ -380,12 +381,18 @@ static void table_build(const struct bench *b)
     bench_build();
 }
 
+static void table_words(const struct bench *b)
+{
+    (void)b;
+    bench_words();
+}
+
 static const struct {
     const char *name;
     void (*print)(const struct bench *b);
 } TABLES[] = {{"check", table_check},     {"questions", table_questions}, {"joins", table_joins}, {"methods", table_methods},
               {"growth", table_growth},   {"probing", table_probing},     {"rust", table_rust},   {"others", table_others},
-              {"beside", table_beside},   {"build", table_build}};
+              {"beside", table_beside},   {"build", table_build},         {"words", table_words}};
 
 /* Prints all tables, or those whose name is given. */
 static int print_tables(const struct bench *b, const char *name)

@@ -10,6 +10,7 @@ our_join_call old_naburain_union_scan_line, old_naburain_union_active_interval, 
     old_naburain_intersection_probing;
 struct naburain_checked old_naburain_check(const uint8_t *, size_t);
 struct naburain_answered old_naburain_ask(const uint8_t *, size_t, const uint8_t *, size_t, uint32_t *, size_t);
+struct naburain_written old_naburain_build(uint32_t, const uint8_t *, size_t, const uint32_t *, size_t, const uint32_t *, size_t, uint8_t *, size_t);
 #else
 #define OLD(call) NULL
 #endif

@@ -46,15 +46,17 @@ static void add_slot(struct program *program, const struct sound *index, size_t 
     program->codes[program->code_count++] = (uint8_t)program->slot_count++;
 }
 
+/* In any mixture of small and capital letters: of the bytes that a run has, | 32 changes the capitals alone. */
 static enum code operator_of(const uint8_t *word, size_t length)
 {
-    if (length == 3 && memcmp(word, "and", 3) == 0) {
-        return AND;
+    if (length == 2) {
+        return (word[0] | 32) == 'o' && (word[1] | 32) == 'r' ? OR : 0;
     }
-    if (length == 3 && memcmp(word, "not", 3) == 0) {
-        return NOT;
+    if (length != 3) {
+        return 0;
     }
-    return length == 2 && memcmp(word, "or", 2) == 0 ? OR : 0;
+    uint8_t a = word[0] | 32, b = word[1] | 32, c = word[2] | 32;
+    return a == 'a' && b == 'n' && c == 'd' ? AND : a == 'n' && b == 'o' && c == 't' ? NOT : 0;
 }
 
 /* Rows 6, 7, 8. */
