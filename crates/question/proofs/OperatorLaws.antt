@@ -73,13 +73,14 @@ none-at [] i f h = absurd (omega arith)
 none-at (w ∷ ws) zero f h = f .0
 none-at (w ∷ ws) (suc i) f h = none-at ws i (f .1) (omega arith)
 
+no-operators : (s : List ℕ) → NoOperators (tokenWords (tokens s))
+unfolding tokenWords
+no-operators =
+    tokens-hold (λ ts. NoOperators (tokenWords ts)) tt (λ w p ts b e h. (neither-none w e, h)) (λ t ts e h. subst NoOperators (sym e) h)
+
 -- Reference 6.1: no word of a question is an operator, in any spelling
 pub words-no-operators : (s : List ℕ) (i : ℕ) → i < length (tokenWords (tokens s)) → isOperator (getD (tokenWords (tokens s)) i []) ≡ false
-unfolding tokenWords
-words-no-operators s i h = none-at (tokenWords (tokens s)) i (all s) h
-  where
-    all : (s : List ℕ) → NoOperators (tokenWords (tokens s))
-    all = tokens-hold (λ ts. NoOperators (tokenWords ts)) tt (λ w p ts b e h. (neither-none w e, h)) (λ t ts e h. subst NoOperators (sym e) h)
+words-no-operators s i h = none-at (tokenWords (tokens s)) i (no-operators s) h
 
 -- so what is said of an operator is no part of what satisfies an accepted question
 pub operators-unasked : (rule : Rule) → Keeps rule → (has had : List ℕ → ℕ → Bool) (x : ℕ) →

@@ -122,22 +122,28 @@ unfolding operatorOf
 by-spelt true w = refl
 by-spelt false w = refl
 
--- by the letters with that bit
+-- what is asked of two letters and of three, each with a bit set
+abbrev letterAt : List ℕ → ℕ → ℕ → ℕ
+letterAt w bit i = bitOr (getD w i 0) bit
+
+abbrev pub areTwo : List ℕ → ℕ → ℕ → ℕ → Bool
+areTwo w bit a b = eqb (letterAt w bit 0) a && eqb (letterAt w bit 1) b
+
+abbrev pub areThree : List ℕ → ℕ → ℕ → ℕ → ℕ → Bool
+areThree w bit a b c = eqb (letterAt w bit 0) a && eqb (letterAt w bit 1) b && eqb (letterAt w bit 2) c
+
 module _ (every : Bool) (w : List ℕ) where
   module _ (bit : ℕ) (is : bit ≡ cond every 32 0) where
-    abbrev letterAt : ℕ → ℕ
-    letterAt i = bitOr (getD w i 0) bit
-
-    letter-is : (i l : ℕ) → between 97 122 l ≡ true → eqb (getD (spelt every w) i 0) l ≡ eqb (letterAt i) l
+    letter-is : (i l : ℕ) → between 97 122 l ≡ true → eqb (getD (spelt every w) i 0) l ≡ eqb (letterAt w bit i) l
     letter-is i l e = rw (spelt-at every w i, is) (sym (letter-by every (getD w i 0) l e))
 
-    pub operator-two : length w ≡ 2 → (t : Bool) → eqb (letterAt 0) 111 && eqb (letterAt 1) 114 ≡ t → operatorBy every w ≡ cond t Or Neither
+    pub operator-two : length w ≡ 2 → (t : Bool) → areTwo w bit 111 114 ≡ t → operatorBy every w ≡ cond t Or Neither
     operator-two h t e =
         by-spelt every w ∙ small-two (spelt every w) (spelt-length every w ∙ h)
         ∙ rw (letter-is 0 111 refl, letter-is 1 114 refl, e)
 
-    pub operator-three : length w ≡ 3 → (s t : Bool) → eqb (letterAt 0) 97 && eqb (letterAt 1) 110 && eqb (letterAt 2) 100 ≡ s →
-        eqb (letterAt 0) 110 && eqb (letterAt 1) 111 && eqb (letterAt 2) 116 ≡ t → operatorBy every w ≡ cond s And (cond t Not Neither)
+    pub operator-three : length w ≡ 3 → (s t : Bool) → areThree w bit 97 110 100 ≡ s → areThree w bit 110 111 116 ≡ t →
+        operatorBy every w ≡ cond s And (cond t Not Neither)
     operator-three h s t d e =
         by-spelt every w ∙ small-three (spelt every w) (spelt-length every w ∙ h)
         ∙ rw (letter-is 0 97 refl, letter-is 1 110 refl, letter-is 2 100 refl, letter-is 0 110 refl, letter-is 1 111 refl, letter-is 2 116 refl, d, e)
