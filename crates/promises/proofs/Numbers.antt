@@ -7,7 +7,7 @@ use lib.ListN.{length, getD}
 use Rattle.refusal.specs.declared.Refusal.{Refusal}
 use Rattle.refusal.specs.declared.Refusal.the-variants.{IndexLength, IndexEdition, IndexTrailer, IndexEntry, IndexList, QuestionLength, QuestionByte}
 use Rattle.refusal.specs.declared.Refusal.the-variants.{QuestionWord, Grammar, Words, Brackets, Room, Lists, EntryNumber, Number, Interval, BuildWord}
-use Rattle.refusal.specs.declared.Refusal.the-variants.{BuildCount, BuildSize, ProbeRange, NoWord}
+use Rattle.refusal.specs.declared.Refusal.the-variants.{BuildCount, BuildSize, ProbeRange, NoWord, RuleNumber}
 use Rattle.refusal.specs.Refusal.{numberOf, valueOf}
 use Rattle.promises.proofs.Rows.{_&_}
 use Rattle.promises.specs.Numbers.{Numbered, carries, zeroed, refusals, rowNumbers, RowRight, RowsRight, made, AllNumbered}
@@ -34,6 +34,7 @@ given-back (BuildCount v) = refl
 given-back (BuildSize v) = refl
 given-back ProbeRange = refl
 given-back (NoWord v) = refl
+given-back (RuleNumber v) = refl
 
 rows-right : RowsRight refusals
 rows-right =
@@ -58,6 +59,7 @@ rows-right =
     & (λ v. (refl, refl))
     & (refl, refl)
     & (λ v. (refl, refl))
+    & (λ v. (refl, refl))
     & tt
 
 pub refusals-numbered : AllNumbered refusals
@@ -78,7 +80,7 @@ numbers-tell rows all r s e f =
 pub refusals-tell : (r s : Refusal) → numberOf r ≡ numberOf s → valueOf r ≡ valueOf s → r ≡ s
 refusals-tell = numbers-tell refusals refusals-numbered
 
-pub numbers-many : (rows : List Numbered) → AllNumbered rows → length (rowNumbers rows) ≡ 21
+pub numbers-many : (rows : List Numbered) → AllNumbered rows → length (rowNumbers rows) ≡ 22
 numbers-many rows all = ap length (all .ordered)
 
 -- ---- a row with another number or another value is wrong, and so are rows with one such

@@ -6,7 +6,7 @@ use lib.ListN.{getD}
 use Rattle.refusal.specs.declared.Refusal.{Refusal}
 use Rattle.refusal.specs.declared.Refusal.the-variants.{IndexLength, IndexEdition, IndexTrailer, IndexEntry, IndexList, QuestionLength, QuestionByte}
 use Rattle.refusal.specs.declared.Refusal.the-variants.{QuestionWord, Grammar, Words, Brackets, Room, Lists, EntryNumber, Number, Interval, BuildWord}
-use Rattle.refusal.specs.declared.Refusal.the-variants.{BuildCount, BuildSize, ProbeRange, NoWord}
+use Rattle.refusal.specs.declared.Refusal.the-variants.{BuildCount, BuildSize, ProbeRange, NoWord, RuleNumber}
 use Rattle.refusal.specs.Refusal.{numberOf, valueOf}
 
 -- Reference 9.1: a row, a number with a refusal that carries any value, or with one whose value is 0
@@ -37,6 +37,7 @@ refusals =
     ∷ carries 19 BuildSize
     ∷ zeroed 20 ProbeRange
     ∷ carries 21 NoWord
+    ∷ carries 22 RuleNumber
     ∷ []
 
 -- Reference 9.1: the numbers that the rows give
@@ -58,8 +59,8 @@ abbrev pub made : Numbered → ℕ → Refusal
 made (carries n refusal) value = refusal value
 made (zeroed n refusal) value = refusal
 
--- Reference 9.1: each row is right, the numbers are 1 to 21 in their order, and the row that a refusal's number names gives it back from its value
+-- Reference 9.1: each row is right, the numbers are 1 to 22 in their order, and the row that a refusal's number names gives it back from its value
 pub record AllNumbered (rows : List Numbered) : Type 0 where
   pub right : RowsRight rows
-  pub ordered : rowNumbers rows ≡ 1 ∷ 2 ∷ 3 ∷ 4 ∷ 5 ∷ 6 ∷ 7 ∷ 8 ∷ 9 ∷ 10 ∷ 11 ∷ 12 ∷ 13 ∷ 14 ∷ 15 ∷ 16 ∷ 17 ∷ 18 ∷ 19 ∷ 20 ∷ 21 ∷ []
+  pub ordered : rowNumbers rows ≡ 1 ∷ 2 ∷ 3 ∷ 4 ∷ 5 ∷ 6 ∷ 7 ∷ 8 ∷ 9 ∷ 10 ∷ 11 ∷ 12 ∷ 13 ∷ 14 ∷ 15 ∷ 16 ∷ 17 ∷ 18 ∷ 19 ∷ 20 ∷ 21 ∷ 22 ∷ []
   pub complete : (r : Refusal) → made (getD rows (numberOf r - 1) (zeroed 0 ProbeRange)) (valueOf r) ≡ r

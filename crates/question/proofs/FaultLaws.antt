@@ -14,8 +14,8 @@ use Rattle.refusal.specs.declared.Refusal.the-variants.{QuestionLength, Questio
 use Rattle.refusal.proofs.FirstLaws.{first-hit, first-miss, first-end}
 use Rattle.question.specs.declared.reader.Verdict.the-variants.{Refused}
 use Rattle.question.specs.Token.{choose, run}
-use Rattle.question.specs.Grammar.{fromLeft, whole}
-use Rattle.question.specs.Reading.{foreignAt, longAt, outcome, parsed, answer, verdictOf}
+use Rattle.question.specs.Grammar.{Rule, whole}
+use Rattle.question.specs.Reading.{foreignAt, longAt, outcome, parsed, answer}
 
 -- ---- places at which the test fails are passed at once
 
@@ -65,23 +65,23 @@ module _ (s : List ℕ) (i end : ℕ) (is : end ≡ i + run (drop i s)) where
   long-none h k = first-skip (longAt s) i (length s) (length s) (omega arith) (omega arith) (λ j l u. short-run h j l (omega arith))
       ∙ first-end (longAt s) (length s) (length s) (omega arith)
 
--- ---- the refusals in their order
+-- ---- the refusals in their order, whatever the rule
 
-module _ (s : List ℕ) where
-  pub reading-length : 256 < length s → verdictOf s ≡ Refused (QuestionLength (length s))
-  unfolding verdictOf parsed
+module _ (rule : Rule) (s : List ℕ) where
+  pub reading-length : 256 < length s → answer (parsed rule s) ≡ Refused (QuestionLength (length s))
+  unfolding parsed
   reading-length h = rw (lt-ltb 256 (length s) h)
 
   module _ (short : length s ≤ 256) where
-    pub reading-foreign : (i : ℕ) → first (foreignAt s) (length s) ≡ At i → verdictOf s ≡ Refused (QuestionByte i)
-    unfolding verdictOf parsed
+    pub reading-foreign : (i : ℕ) → first (foreignAt s) (length s) ≡ At i → answer (parsed rule s) ≡ Refused (QuestionByte i)
+    unfolding parsed
     reading-foreign i e = rw (le-ltb 256 (length s) short, e)
 
     module _ (proper : first (foreignAt s) (length s) ≡ Nowhere) where
-      pub reading-long : (i : ℕ) → first (longAt s) (length s) ≡ At i → verdictOf s ≡ Refused (QuestionWord i)
-      unfolding verdictOf parsed
+      pub reading-long : (i : ℕ) → first (longAt s) (length s) ≡ At i → answer (parsed rule s) ≡ Refused (QuestionWord i)
+      unfolding parsed
       reading-long i e = rw (le-ltb 256 (length s) short, proper, e)
 
-      pub reading-else : first (longAt s) (length s) ≡ Nowhere → verdictOf s ≡ answer (outcome (length s) (whole fromLeft s))
-      unfolding verdictOf parsed
+      pub reading-else : first (longAt s) (length s) ≡ Nowhere → answer (parsed rule s) ≡ answer (outcome (length s) (whole rule s))
+      unfolding parsed
       reading-else e = rw (le-ltb 256 (length s) short, proper, e)

@@ -4,7 +4,8 @@
 --   accepted-within               an accepted question is within the limits;
 --   grammar-asked, word-limit-asked, bracket-limit-asked
 --                                 the call refuses by 9, 10 or 11, with the place, exactly where 6, 7 and 8 do not hold and the walk stops so;
---   answer-any-rule               no rule of grouping changes what is accepted, with how many words, or refused.
+--   answer-any-rule               no rule of grouping changes what is accepted, with how many words, or refused;
+--   asked-reads, asked-else       by the number of a rule the question is read, and by any other it is refused by 22.
 use Prim.Native.Nat.{ℕ, _+_, _*_, _≤_, _<_}
 use native.Mathlib.Omega.{arith}
 use mathlib.Core.Path.{_≡_, refl, sym, ap, _∙_}
@@ -14,18 +15,20 @@ use mathlib.Core.Logic.{inl, inr}
 use lib.ListN.{length}
 use lib.Dec.{ltb}
 use borrow.Author.Tests.{ltb-false, le-ltb}
+use Rattle.laws.proofs.Tests.{by-test}
 use Rattle.refusal.specs.First.{first}
 use Rattle.refusal.specs.Refusal.{numberOf, valueOf}
 use Rattle.refusal.specs.declared.Found.{Found}
 use Rattle.refusal.specs.declared.Found.the-variants.{At, Nowhere}
 use Rattle.refusal.specs.declared.Refusal.{Refusal}
-use Rattle.refusal.specs.declared.Refusal.the-variants.{QuestionLength, QuestionByte, QuestionWord, Grammar, Words, Brackets}
+use Rattle.refusal.specs.declared.Refusal.the-variants.{QuestionLength, QuestionByte, QuestionWord, Grammar, Words, Brackets, RuleNumber}
 use Rattle.question.specs.declared.reader.Verdict.{Verdict}
 use Rattle.question.specs.declared.reader.Verdict.the-variants.{Accepted, Refused}
 use Rattle.question.specs.Token.{choose, Tok, tokens}
-use Rattle.question.specs.Grammar.{Tree, Rule, fromLeft, Out, good, bad, bind, question, ended, whole}
+use Rattle.question.specs.Grammar.{Tree, Rule, Out, good, bad, bind, question, ended, whole}
+use Rattle.question.specs.Rules.{isRule, ruleOf}
 use Rattle.question.specs.Limits.{WithinLimits}
-use Rattle.question.specs.Reading.{Parsed, parses, refuses, foreignAt, longAt, tokenPlace, refusalOf, outcome, unless, parsed, answer, verdictOf}
+use Rattle.question.specs.Reading.{Parsed, parses, refuses, foreignAt, longAt, tokenPlace, refusalOf, outcome, unless, parsed, asked, answer, verdictOf}
 use Rattle.question.specs.Walk.{operatorNext, Walked, reached, stopped, walk, walkAll, fresh, verdict}
 use Rattle.question.specs.Stops.{StopNumber, Misplaced, WordTooMany, BracketTooMany, Faultless, StopsAt, Exactly}
 use Rattle.question.specs.Exchange.{AcceptedBy}
@@ -193,20 +196,37 @@ answer-any-rule rule rule′ s = go (ltb 256 (length s)) (first (foreignAt s) (l
 
 -- ---- from what the call answers
 
-accepted-step : (rule : Rule) (s : List ℕ) (n : ℕ) (a : Parsed) → parsed rule s ≡ a → answer a ≡ Accepted n → AcceptedBy rule s n
-accepted-step rule s n (parses t k) e h = let q : k ≡ n = cc in record { tree = t; accepted = e ∙ rw q }
-accepted-step rule s n (refuses r) e h = zero-one (cc)
+pub answer-accepted : (a : Parsed) (n : ℕ) → answer a ≡ Accepted n → (t : Tree) × (a ≡ parses t n)
+answer-accepted (parses t k) n h = let q : k ≡ n = cc in (t, rw q)
+answer-accepted (refuses r) n h = zero-one (cc)
 
-refused-step : (rule : Rule) (s : List ℕ) (r : Refusal) (a : Parsed) → parsed rule s ≡ a → answer a ≡ Refused r → parsed rule s ≡ refuses r
-refused-step rule s r (parses t k) e h = zero-one (cc)
-refused-step rule s r (refuses q) e h = let w : q ≡ r = cc in e ∙ rw w
+pub answer-refused : (a : Parsed) (r : Refusal) → answer a ≡ Refused r → a ≡ refuses r
+answer-refused (parses t k) r h = zero-one (cc)
+answer-refused (refuses q) r h = let w : q ≡ r = cc in rw w
 
--- accepted, by every rule
-pub reading-accepted : (rule : Rule) (s : List ℕ) (n : ℕ) → verdictOf s ≡ Accepted n → AcceptedBy rule s n
-unfolding verdictOf
-reading-accepted rule s n h = accepted-step rule s n (parsed rule s) refl (answer-any-rule rule fromLeft s ∙ h)
+-- ---- by the number of a rule
 
--- refused, by every rule
-pub reading-refused : (rule : Rule) (s : List ℕ) (r : Refusal) → verdictOf s ≡ Refused r → parsed rule s ≡ refuses r
-unfolding verdictOf
-reading-refused rule s r h = refused-step rule s r (parsed rule s) refl (answer-any-rule rule fromLeft s ∙ h)
+module _ (rule : ℕ) (s : List ℕ) where
+  pub asked-reads : isRule rule ≡ true → asked rule s ≡ parsed (ruleOf rule) s
+  unfolding asked
+  asked-reads h = rw h
+
+  pub asked-else : isRule rule ≡ false → asked rule s ≡ refuses (RuleNumber rule)
+  unfolding asked
+  asked-else h = rw h
+
+  -- by a number of a rule the verdict is the reading's, and by any other it is 22
+  pub verdict-reads : isRule rule ≡ true → verdictOf rule s ≡ answer (parsed (ruleOf rule) s)
+  unfolding verdictOf
+  verdict-reads h = ap answer (asked-reads h)
+
+  pub verdict-else : isRule rule ≡ false → verdictOf rule s ≡ Refused (RuleNumber rule)
+  unfolding verdictOf
+  verdict-else h = ap answer (asked-else h)
+
+  pub asked-parsed : (t : Tree) (n : ℕ) → asked rule s ≡ parses t n → (isRule rule ≡ true) × (parsed (ruleOf rule) s ≡ parses t n)
+  asked-parsed t n h = by-test (isRule rule) (λ e. (e, sym (asked-reads e) ∙ h)) (λ e. let z = sym (asked-else e) ∙ h in zero-one (cc))
+
+-- Reference 9.2: by either rule what is accepted, with how many words, or refused is the same
+pub verdict-any-rule : (rule rule′ : ℕ) (s : List ℕ) → isRule rule ≡ true → isRule rule′ ≡ true → verdictOf rule s ≡ verdictOf rule′ s
+verdict-any-rule rule rule′ s h h′ = verdict-reads rule s h ∙ answer-any-rule (ruleOf rule) (ruleOf rule′) s ∙ sym (verdict-reads rule′ s h′)

@@ -6,14 +6,14 @@ use Rattle.word.specs.Word.{isWordByte, same, smallLetter, smallOperatorOf, ope
 use Rattle.refusal.specs.First.{firstFrom, first}
 use Rattle.question.specs.Token.{run, gather, tokensAt, tokens}
 use Rattle.question.specs.Grammar.{fromLeft, question, operand, links, whole}
-use Rattle.question.specs.Reading.{isForeign, refusalOf, parsed, verdictOf, verdictResult}
+use Rattle.question.specs.Reading.{isForeign, refusalOf, parsed, asked, verdictOf, verdictResult}
 
 pub results-pinned :
-    (verdictResult (verdictOf (97 ∷ [])) ≡ (0, 1))
-    × (verdictResult (verdictOf []) ≡ (9, 0))
-    × (verdictResult (verdictOf (97 ∷ 32 ∷ 98 ∷ [])) ≡ (9, 2))
-    × (verdictResult (verdictOf (97 ∷ 32 ∷ 65 ∷ 78 ∷ 68 ∷ 32 ∷ 98 ∷ [])) ≡ (0, 2))
-    × (verdictResult (verdictOf (79 ∷ 82 ∷ [])) ≡ (9, 0))
-    × (verdictResult (verdictOf (79 ∷ 82 ∷ 98 ∷ [])) ≡ (0, 1))
-unfolding isWordByte same smallLetter smallOperatorOf operatorOf firstFrom first run gather tokensAt tokens fromLeft question operand links whole isForeign refusalOf parsed verdictOf
+    (verdictResult (verdictOf 1 (97 ∷ [])) ≡ (0, 1))
+    × (verdictResult (verdictOf 1 []) ≡ (9, 0))
+    × (verdictResult (verdictOf 1 (97 ∷ 32 ∷ 98 ∷ [])) ≡ (9, 2))
+    × (verdictResult (verdictOf 1 (97 ∷ 32 ∷ 65 ∷ 78 ∷ 68 ∷ 32 ∷ 98 ∷ [])) ≡ (0, 2))
+    × (verdictResult (verdictOf 1 (79 ∷ 82 ∷ [])) ≡ (9, 0))
+    × (verdictResult (verdictOf 1 (79 ∷ 82 ∷ 98 ∷ [])) ≡ (0, 1))
+unfolding isWordByte same smallLetter smallOperatorOf operatorOf firstFrom first run gather tokensAt tokens fromLeft question operand links whole isForeign refusalOf parsed asked verdictOf
 results-pinned = (refl, refl, refl, refl, refl, refl)

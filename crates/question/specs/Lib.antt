@@ -1,5 +1,6 @@
 pub mod Token
 pub mod Grammar
+pub mod Rules
 pub mod Meaning
 pub mod Reading
 pub mod Limits

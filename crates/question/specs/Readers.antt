@@ -10,7 +10,7 @@ use Rattle.question.specs.declared.reader.Read.the-variants.{At, Bad}
 use Rattle.question.specs.declared.reader.Verdict.{Verdict}
 use Rattle.question.specs.Token.{Tok, tokensAt}
 use Rattle.question.specs.Grammar.{Rule, Out, good, bad, question, operand, links, whole}
-use Rattle.question.specs.Reading.{tokenPlace, refusalOf, outcome, answer}
+use Rattle.question.specs.Reading.{tokenPlace, refusalOf, outcome, parsed, answer}
 
 -- read up to place n, with j words
 pub record GoodAt {A : Type 0} (s : List ℕ) (n j : ℕ) (o : Out A) : Type 0 where
@@ -46,3 +46,7 @@ pub record ReadsLinks (s : List ℕ) (d k at : ℕ) (r : Read) : Type 0 where
 
 abbrev pub ReadsWhole : List ℕ → Verdict → Type 0
 ReadsWhole s r = (rule : Rule) → r ≡ answer (outcome (length s) (whole rule s))
+
+-- and of the refusals before it
+abbrev pub ReadsText : List ℕ → Verdict → Type 0
+ReadsText s r = (rule : Rule) → r ≡ answer (parsed rule s)

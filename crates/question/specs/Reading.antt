@@ -1,4 +1,4 @@
--- Reference 9.2, question: the refusals 6 to 11 in their order, or the question's tree.
+-- Reference 9.2, question: the refusals 22 and 6 to 11 in their order, or the question's tree.
 use Prim.Native.Nat.{ℕ}
 use mathlib.Core.List.{List, [], _∷_}
 use mathlib.Core.Bool.{Bool, not, cond, _||_}
@@ -11,11 +11,12 @@ use Rattle.refusal.specs.Refusal.{numberOf, valueOf}
 use Rattle.refusal.specs.declared.Found.{Found}
 use Rattle.refusal.specs.declared.Found.the-variants.{At, Nowhere}
 use Rattle.refusal.specs.declared.Refusal.{Refusal}
-use Rattle.refusal.specs.declared.Refusal.the-variants.{QuestionLength, QuestionByte, QuestionWord, Grammar, Words, Brackets}
+use Rattle.refusal.specs.declared.Refusal.the-variants.{QuestionLength, QuestionByte, QuestionWord, Grammar, Words, Brackets, RuleNumber}
 use Rattle.question.specs.declared.reader.Verdict.{Verdict}
 use Rattle.question.specs.declared.reader.Verdict.the-variants.{Accepted, Refused}
 use Rattle.question.specs.Token.{choose, run, Tok, wordT, opT, openT, closeT, otherT}
-use Rattle.question.specs.Grammar.{Tree, Rule, fromLeft, Out, good, bad, whole}
+use Rattle.question.specs.Grammar.{Tree, Rule, Out, good, bad, whole}
+use Rattle.question.specs.Rules.{isRule, ruleOf}
 
 -- Reference 6: accepted, with the tree and the number of words; or refused
 pub data Parsed : Type 0 where
@@ -64,13 +65,17 @@ parsed rule s =
     (λ _. unless (first (longAt s) (length s)) QuestionWord
     (λ _. outcome (length s) (whole rule s))))
 
+-- Reference 9.2: 22 comes before the refusals of the question; then the question is read by the rule of that number
+unfoldable pub asked : ℕ → List ℕ → Parsed
+asked rule s = choose (isRule rule) (λ _. parsed (ruleOf rule) s) (λ _. refuses (RuleNumber rule))
+
 -- Reference 8.10: what the call answers
 abbrev pub answer : Parsed → Verdict
 answer (parses t k) = Accepted k
 answer (refuses refusal) = Refused refusal
 
-unfoldable pub verdictOf : List ℕ → Verdict
-verdictOf s = answer (parsed fromLeft s)
+unfoldable pub verdictOf : ℕ → List ℕ → Verdict
+verdictOf rule s = answer (asked rule s)
 
 -- Reference 8.10: the answer as two numbers, 0 and how many words, or the refusal's number and value
 abbrev pub verdictResult : Verdict → ℕ × ℕ

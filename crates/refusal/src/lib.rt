@@ -24,6 +24,7 @@ pub enum Refusal {
     BuildSize(usize),
     ProbeRange,
     NoWord(usize),
+    RuleNumber(u32),
 }
 
 // What a search for the first place of a fault finds.
@@ -58,6 +59,7 @@ pub fn number_of(refusal: Refusal) -> u64
         Refusal::BuildSize(_) => 19,
         Refusal::ProbeRange => 20,
         Refusal::NoWord(_) => 21,
+        Refusal::RuleNumber(_) => 22,
     }
 }
 
@@ -87,5 +89,6 @@ pub fn value_of(refusal: Refusal) -> u64
         Refusal::BuildSize(which) => which as u64,
         Refusal::ProbeRange => 0,
         Refusal::NoWord(place) => place as u64,
+        Refusal::RuleNumber(rule) => rule as u64,
     }
 }

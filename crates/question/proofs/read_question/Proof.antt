@@ -1,39 +1,21 @@
--- Refusal by refusal, in their order.
+-- 22 comes first; then what the question is by its rule, as by any other.
 use mathlib.Core.Path.{sym, _∙_}
-use Rattle.question.specs.Grammar.{fromLeft}
-use Rattle.question.proofs.FaultLaws.{reading-length, reading-foreign, reading-long, reading-else}
+use Rattle.question.specs.Rules.{ruleOf}
+use Rattle.question.proofs.ParsedLaws.{verdict-reads, verdict-else}
 use borrow.Author.Needs.{needs}
 use Rattle.question.proofs.read_question.Statement.{statement}
 use Rattle.question.proofs.read_question.Tie as tie
 
 returns : tie.Need-returns
-returns c = sym (reading-length (c .before .before .args .question .now) (c .if1 .taken))
+returns c =
+    let test = c .before in
+    let a = test .before .before .before .args in
+    c .read-text .ensures (ruleOf (a .rule)) ∙ sym (verdict-reads (a .rule) (a .question .now) (sym (test .before .is-rule .ensures) ∙ test .if1 .taken))
 
 returns-2 : tie.Need-returns-2
 returns-2 c =
-    let place = c .before .place .given in
-    sym (reading-foreign (c .before .before .before .before .before .before .args .question .now) (c .before .before .before .before .if1 .left) (place .0 .0)
-    (sym (c .before .before .before .first-foreign .ensures) ∙ place .1))
-
-returns-3 : tie.Need-returns-3
-returns-3 c =
-    let proper = sym (c .before .before .before .before .before .before .first-foreign .ensures) ∙ c .before .before .before .before .enum-told .given .1 in
-    let place = c .before .place2 .given in
-    sym (reading-long (c .before .before .before .before .before .before .before .before .before .args .question .now)
-    (c .before .before .before .before .before .before .before .if1 .left) proper (place .0 .0)
-    (sym (c .before .before .before .first-long .ensures) ∙ place .1))
-
-returns-4 : tie.Need-returns-4
-returns-4 c =
-    let proper = sym (c .before .before .before .before .before .before .first-foreign .ensures) ∙ c .before .before .before .before .enum-told .given .1 in
-    let none = sym (c .before .before .before .first-long .ensures) ∙ c .before .enum-told2 .given .1 in
-    c .read-whole .ensures fromLeft
-    ∙ sym (reading-else (c .before .before .before .before .before .before .before .before .before .args .question .now)
-    (c .before .before .before .before .before .before .before .if1 .left) proper none)
+    let a = c .before .before .before .args in
+    sym (verdict-else (a .rule) (a .question .now) (sym (c .before .is-rule .ensures) ∙ c .if1 .left))
 
 pub read-question-spec : {M : Type 1} → statement M
-read-question-spec =
-    tie.close
-    (tie.spec
-    returns (λ c κs. search needs) (λ c. search needs) (λ c. search needs) (λ c κs. search needs) (λ c. search needs)
-    (λ c. search needs) (λ c κs. search needs) returns-2 returns-3 returns-4)
+read-question-spec = tie.close (tie.spec (λ c κs. search needs) (λ c κs. search needs) returns returns-2)
