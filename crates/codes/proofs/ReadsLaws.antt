@@ -82,6 +82,13 @@ code-open (opT o p) e = absurd (let r = op-range o in omega arith)
 code-open (closeT p) e = absurd (omega arith)
 code-open (otherT p) e = absurd (omega arith)
 
+pub code-close : (t : Tok) → codeOf t ≡ closeCode → (p : ℕ) × (t ≡ closeT p)
+code-close (closeT p) e = (p, refl)
+code-close (wordT w p) e = absurd (omega arith)
+code-close (opT o p) e = absurd (let r = op-range o in omega arith)
+code-close (openT p) e = absurd (omega arith)
+code-close (otherT p) e = absurd (omega arith)
+
 pub code-operator : (o : Op) (t : Tok) → codeOf t ≡ opCode o → (p : ℕ) × (t ≡ opT o p)
 code-operator o (opT a p) e = (p, ap (λ (x : Op). opT x p) (sym (op-back a) ∙ ap opOf e ∙ op-back o))
 code-operator o (wordT w p) e = absurd (let r = op-range o in omega arith)

@@ -1,3 +1,4 @@
 pub mod Code
 pub mod Reads
 pub mod Group
+pub mod Grouping
