@@ -41,7 +41,11 @@ fn is_wide(codes: &[u8], i: usize) -> bool
 fn enter(inside: bool, outer: usize) -> usize
     ensures { λ r. ⌜ r ≡ entered inside outer ⌝ }
 {
-    if inside { outer % 256 * 2 + 1 } else { outer % 256 * 2 }
+    if inside {
+        outer % 256 * 2 + 1
+    } else {
+        outer % 256 * 2
+    }
 }
 
 // Whether a code ends the group in brackets before it.
