@@ -4,6 +4,7 @@ use Prim.Native.Nat.{ℕ, _+_, _*_, _/_, _%_}
 use mathlib.Core.Bool.{Bool, true, false, cond}
 use mathlib.Core.List.{List, [], _∷_}
 use lib.Dec.{eqb}
+use Rattle.limits.specs.Limits.{bracketsMax}
 use Rattle.question.specs.declared.token.Op.the-variants.{And, Or, Not}
 use Rattle.question.specs.Token.{Tok, wordT, opT, openT, closeT, otherT}
 
@@ -54,3 +55,7 @@ groupedOn inside outer (otherT p ∷ r) = otherT p ∷ groupedOn inside outer r
 
 abbrev pub grouped : List Tok → List Tok
 grouped ts = groupedOn false 0 ts
+
+-- the brackets that are open at one place, where there are the question's own: of each level one more, and one for the whole
+abbrev pub groupedBrackets : ℕ
+groupedBrackets = 2 * bracketsMax + 1

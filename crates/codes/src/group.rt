@@ -14,6 +14,13 @@ use crate::code::OPEN_CODE;
 use crate::code::OR_CODE;
 use crate::code::WORD_CODE;
 use crate::read::code_at;
+use limits::BRACKETS_MAX;
+use limits::QUESTION_MAX;
+
+// The most codes that there are with groups in brackets, and the most brackets that are open at one place.
+pub const GROUPED_MAX: usize = 3 * QUESTION_MAX + 1;
+
+pub const GROUPED_BRACKETS: usize = 2 * BRACKETS_MAX + 1;
 
 // What has been written, and what stands open there.
 pub struct Grouping {

@@ -47,17 +47,17 @@ use Rattle.slots.proofs.SlotLaws.{slots-none}
 pub tree-words : (codes : List ℕ) (t : Tree) → TreeOf codes t → length (treeWords t) ≡ wordCodes codes
 unfolding tokenWords
 tree-words codes t o =
-    let w = subst (Words treeWords 0 (o .toks)) (o .reads) (question-words fromLeft from-left-keeps (o .fuel) 8 0 (o .toks)) in
+    let w = subst (Words treeWords 0 (o .toks)) (o .reads) (question-words fromLeft from-left-keeps (o .fuel) 17 0 (o .toks)) in
     sym (ap length (w .0 ∙ append-nil (treeWords t))) ∙ sym (codes-words (o .toks)) ∙ ap wordCodes (o .are)
 
 module _ {codes : List ℕ} {t : Tree} (o : TreeOf codes t) where
-  pub tree-holds : {index entries ws : List ℕ} {x : ℕ} {r : Step} → Evaluated (asLevel bracketsMax 0) codes 0 0 index entries x ws r →
+  pub tree-holds : {index entries ws : List ℕ} {x : ℕ} {r : Step} → Evaluated (asLevel groupedBrackets 0) codes 0 0 index entries x ws r →
       Holds (testOf index entries t) x ws
   tree-holds e = e .reads (o .fuel) (o .toks) t [] (o .words) (o .are) (o .reads) .4
 
   pub tree-steady : (index entries : List ℕ) (slots x : ℕ) {senses : List ℕ} {r : Look} → slots ≡ wordCodes codes →
       Known (slotHas index entries) senses slots x →
-      Looks (asLevel bracketsMax 0) codes 0 0 senses r → Steady (testOf index entries t) x (r .inside) (r .until)
+      Looks (asLevel groupedBrackets 0) codes 0 0 senses r → Steady (testOf index entries t) x (r .inside) (r .until)
   tree-steady index entries slots x all known e =
       e .reads (o .fuel) (o .toks) t [] (o .words) (o .are) (o .reads) .4 (slotHas index entries) slots x (omega (arith, tree-words codes t o)) known
 

@@ -12,9 +12,9 @@ use Rattle.index.specs.declared.Checked.the-variants.{Good, Refused}
 use Rattle.index.specs.Format.{highest}
 use Rattle.directory.specs.Has.{has}
 use Rattle.index.specs.Check.{checkOf}
-use Rattle.question.specs.Grammar.{Tree, Rule}
+use Rattle.question.specs.Grammar.{Tree}
 use Rattle.question.specs.Meaning.{satisfies}
-use Rattle.question.specs.Reading.{Parsed, parses, refuses, parsed}
+use Rattle.question.specs.Reading.{Parsed, parses, refuses, asked}
 
 -- Reference 6.3: the answer to a question, by its tree
 unfoldable pub satisfying : List ℕ → Tree → List ℕ
@@ -31,9 +31,9 @@ treeCells index (parses t k) room out = listCells (satisfying index t) room out
 treeCells index (refuses r) room out = out
 
 -- Reference 8.10: the promise of a question over an index that is sound already
-pub record Answers (rule : Rule) (index question out out′ : List ℕ) (r : Answer) : Type 0 where
-  pub answer : r ≡ treeAnswer index (parsed rule question) (length out / 2)
-  pub cells : out′ ≡ treeCells index (parsed rule question) (length out / 2) out
+pub record Answers (rule : ℕ) (index question out out′ : List ℕ) (r : Answer) : Type 0 where
+  pub answer : r ≡ treeAnswer index (asked rule question) (length out / 2)
+  pub cells : out′ ≡ treeCells index (asked rule question) (length out / 2) out
 
 -- Reference 9.2: the index's own refusals come before those of the question
 abbrev pub askAnswer : Checked → List ℕ → Parsed → ℕ → Answer
@@ -45,6 +45,6 @@ askCells (Refused r) index a room out = out
 askCells Good index a room out = treeCells index a room out
 
 -- Reference 8.6: the promise of a question over any bytes
-pub record Asks (rule : Rule) (index question out out′ : List ℕ) (r : Answer) : Type 0 where
-  pub answer : r ≡ askAnswer (checkOf index) index (parsed rule question) (length out / 2)
-  pub cells : out′ ≡ askCells (checkOf index) index (parsed rule question) (length out / 2) out
+pub record Asks (rule : ℕ) (index question out out′ : List ℕ) (r : Answer) : Type 0 where
+  pub answer : r ≡ askAnswer (checkOf index) index (asked rule question) (length out / 2)
+  pub cells : out′ ≡ askCells (checkOf index) index (asked rule question) (length out / 2) out

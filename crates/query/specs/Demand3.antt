@@ -12,9 +12,9 @@ use Rattle.index.specs.declared.Checked.the-variants.{Good}
 use Rattle.index.specs.Format.{highest}
 use Rattle.directory.specs.Has.{has}
 use Rattle.index.specs.Check.{checkOf}
-use Rattle.question.specs.Grammar.{Tree, Rule}
+use Rattle.question.specs.Grammar.{Tree}
 use Rattle.question.specs.Meaning.{satisfies}
-use Rattle.question.specs.Reading.{parses, parsed}
+use Rattle.question.specs.Reading.{parses, asked}
 use Rattle.question.specs.Limits.{WithinLimits}
 use Rattle.question.specs.Exchange.{around, Matched}
 use Rattle.query.specs.Ask.{Asks}
@@ -25,10 +25,10 @@ written tally out = take (2 * tally .intervals) out
 
 -- Reference 8.6: a call that keeps the promise; over a sound index it accepted the question, whose tree is t, found room in the cells lent,
 -- answered with the tally, and left the cells as out′
-pub record Answered (rule : Rule) (index question : List ℕ) (t : Tree) (out out′ : List ℕ) (tally : Tally) : Type 0 where
+pub record Answered (rule : ℕ) (index question : List ℕ) (t : Tree) (out out′ : List ℕ) (tally : Tally) : Type 0 where
   pub sound : checkOf index ≡ Good
   pub words : ℕ
-  pub accepted : parsed rule question ≡ parses t words
+  pub accepted : asked rule question ≡ parses t words
   pub promise : Asks rule index question out out′ (Listed tally)
 
 -- Reference 11, demand 3: every record satisfies both questions or neither
@@ -39,31 +39,31 @@ SameRecords index t u = (x : ℕ) → 1 ≤ x → x ≤ highest index → satisf
 
 -- Reference 11, demand 3: the question `before ( a ) behind` is accepted over a sound index; a and b are accepted by themselves, and the same
 -- records satisfy them; `before ( b ) behind` is within the limits
-pub record Exchanging (rule : Rule) (index before a b behind : List ℕ) : Type 0 where
+pub record Exchanging (rule : ℕ) (index before a b behind : List ℕ) : Type 0 where
   pub sound : checkOf index ≡ Good
   pub tree : Tree
   pub words : ℕ
-  pub accepted : parsed rule (around before a behind) ≡ parses tree words
+  pub accepted : asked rule (around before a behind) ≡ parses tree words
   pub tree-a : Tree
   pub words-a : ℕ
-  pub a-accepted : parsed rule a ≡ parses tree-a words-a
+  pub a-accepted : asked rule a ≡ parses tree-a words-a
   pub tree-b : Tree
   pub words-b : ℕ
-  pub b-accepted : parsed rule b ≡ parses tree-b words-b
+  pub b-accepted : asked rule b ≡ parses tree-b words-b
   pub same : SameRecords index tree-a tree-b
   pub within : WithinLimits (around before b behind)
 
 -- Reference 11, demand 3: the same, where of a no more is asked than that the brackets around it are a pair
-pub record ExchangingPair (rule : Rule) (index before a b behind : List ℕ) : Type 0 where
+pub record ExchangingPair (rule : ℕ) (index before a b behind : List ℕ) : Type 0 where
   pub sound : checkOf index ≡ Good
   pub tree : Tree
   pub words : ℕ
-  pub accepted : parsed rule (around before a behind) ≡ parses tree words
+  pub accepted : asked rule (around before a behind) ≡ parses tree words
   pub matched : Matched a
   pub tree-b : Tree
   pub words-b : ℕ
-  pub b-accepted : parsed rule b ≡ parses tree-b words-b
-  pub same : (t : Tree) (n : ℕ) → parsed rule a ≡ parses t n → SameRecords index t tree-b
+  pub b-accepted : asked rule b ≡ parses tree-b words-b
+  pub same : (t : Tree) (n : ℕ) → asked rule a ≡ parses t n → SameRecords index t tree-b
   pub within : WithinLimits (around before b behind)
 
 -- Reference 7: the cells that a call writes, none where it refuses
@@ -81,10 +81,10 @@ ListOrRoom (Listed tally) = Unit {0}
 ListOrRoom (Refused x) = numberOf x ≡ 12
 
 -- Reference 11, demand 3: the second question is accepted too, both calls answer the same, and they write the same cells and no others
-pub record SameAnswers (rule : Rule) (second out out′ other other′ : List ℕ) (r r′ : Answer) : Type 0 where
+pub record SameAnswers (rule : ℕ) (second out out′ other other′ : List ℕ) (r r′ : Answer) : Type 0 where
   pub tree : Tree
   pub words : ℕ
-  pub accepted : parsed rule second ≡ parses tree words
+  pub accepted : asked rule second ≡ parses tree words
   pub list-or-room : ListOrRoom r
   pub answers : r ≡ r′
   pub cells : writtenBy r out′ ≡ writtenBy r′ other′
@@ -92,7 +92,7 @@ pub record SameAnswers (rule : Rule) (second out out′ other other′ : List �
   pub second-only : OnlyWritten r′ other other′
 
 -- Reference 11, demand 3: so it is of any two calls that keep the promise, the first question's and the second's, with as much room
-abbrev pub CallsAgree : Rule → List ℕ → List ℕ → List ℕ → Type 0
+abbrev pub CallsAgree : ℕ → List ℕ → List ℕ → List ℕ → Type 0
 CallsAgree rule index first second =
     (out out′ other other′ : List ℕ) (r r′ : Answer) → length out / 2 ≡ length other / 2 → Asks rule index first out out′ r →
     Asks rule index second other other′ r′ →

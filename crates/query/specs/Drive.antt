@@ -4,7 +4,7 @@ use mathlib.Core.Path.{_≡_}
 use mathlib.Core.Bool.{Bool, true}
 use mathlib.Core.List.{List, []}
 use lib.ListN.{length}
-use Rattle.limits.specs.Limits.{bracketsMax, questionWordsMax, recordMax}
+use Rattle.limits.specs.Limits.{questionWordsMax, recordMax}
 use Rattle.list.specs.declared.answer.Tally.{Tally}
 use Rattle.list.specs.Sense.{Steady}
 use Rattle.list.specs.Stretches.{cellsOf}
@@ -17,6 +17,7 @@ use Rattle.window.specs.Steps.{Stepped}
 use Rattle.question.specs.Token.{Tok}
 use Rattle.question.specs.Grammar.{Tree, good, fromLeft, question}
 use Rattle.codes.specs.Code.{codesOf, wordCodes}
+use Rattle.codes.specs.Group.{groupedBrackets}
 use Rattle.slots.specs.Slots.{slotHas, slotSatisfies}
 use Rattle.senses.specs.declared.look.Look.{Look}
 use Rattle.senses.specs.Senses.{Sensed}
@@ -30,7 +31,7 @@ pub record TreeOf (codes : List ℕ) (t : Tree) : Type 0 where
   pub are : codesOf toks ≡ codes
   pub fuel : ℕ
   pub words : ℕ
-  pub reads : question fromLeft fuel bracketsMax 0 toks ≡ good t [] words
+  pub reads : question fromLeft fuel groupedBrackets 0 toks ≡ good t [] words
 
 -- which records satisfy it, by what its slots have
 abbrev pub testOf : List ℕ → List ℕ → Tree → ℕ → Bool

@@ -1,23 +1,50 @@
 -- An accepted question made ready for the driver: what its codes and its slots' entries are to its tree.
-use Prim.Native.Nat.{ℕ, _≤_}
+use Prim.Native.Nat.{ℕ, _≤_, _<_}
 use mathlib.Core.Path.{_≡_}
-use mathlib.Core.List.{List}
+use mathlib.Core.List.{List, []}
+use lib.ListN.{length, getD}
+use Rattle.limits.specs.Limits.{bracketsMax}
 use Rattle.list.specs.declared.answer.Answer.{Answer}
 use Rattle.list.specs.Interval.{intervals}
 use Rattle.list.specs.Answer.{Listing}
 use Rattle.directory.specs.Has.{has}
-use Rattle.question.specs.Grammar.{Tree, fromLeft}
+use Rattle.question.specs.Token.{Tok}
+use Rattle.question.specs.Grammar.{Tree, Rule, good, question, treeWords}
 use Rattle.question.specs.Meaning.{satisfies}
-use Rattle.question.specs.Reading.{parses, parsed}
-use Rattle.query.specs.Ask.{satisfying}
+use Rattle.question.specs.Reading.{parses, asked}
+use Rattle.codes.specs.Code.{codesOf}
+use Rattle.slots.specs.Slots.{slotHas}
 use Rattle.slots.specs.Bound.{slotsIntervals}
+use Rattle.query.specs.Ask.{satisfying}
 use Rattle.query.specs.Drive.{TreeOf, testOf}
 
 -- the question is accepted
-pub record IsParsed (question : List ℕ) : Type 0 where
+pub record IsAsked (rule : ℕ) (question : List ℕ) : Type 0 where
   pub tree : Tree
   pub words : ℕ
-  pub is : parsed fromLeft question ≡ parses tree words
+  pub is : asked rule question ≡ parses tree words
+
+-- by the rule the codes read as t, and each of its slots has what the index has of its word
+pub record MadeReady (rule : Rule) (codes index entries : List ℕ) (slots : ℕ) (t : Tree) : Type 0 where
+  pub toks : List Tok
+  pub are : codesOf toks ≡ codes
+  pub fuel : ℕ
+  pub words : ℕ
+  pub reads : question rule fuel bracketsMax 0 toks ≡ good t [] words
+  pub all : slots ≡ length (treeWords t)
+  pub have : (i : ℕ) → i < length (treeWords t) → (x : ℕ) → slotHas index entries i x ≡ has index (getD (treeWords t) i []) x
+
+-- so they are of some question
+pub record IsReady (rule : Rule) (codes index entries : List ℕ) (slots : ℕ) : Type 0 where
+  pub tree : Tree
+  pub ready : MadeReady rule codes index entries slots tree
+
+-- the list of each tree for which they are made ready, or refusal 12
+abbrev pub ListsReady : Rule → List ℕ → List ℕ → List ℕ → ℕ → List ℕ → List ℕ → Answer → Type 0
+ListsReady rule codes index entries slots out out′ r =
+    (t : Tree) → MadeReady rule codes index entries slots t → Listing (satisfying index t) out out′ r
+
+-- ---- for the driver, which reads the codes from the left
 
 -- the codes read as t, its test by the slots is that by the words, and its answer has no more intervals than the lists of its
 -- slots together
@@ -26,7 +53,6 @@ pub record Prepared (codes index entries : List ℕ) (slots : ℕ) (t : Tree) : 
   pub same : (x : ℕ) → testOf index entries t x ≡ satisfies (has index) t x
   pub bound : intervals (satisfying index t) ≤ slotsIntervals index entries 0 slots
 
--- so they are of some question
 pub record IsPrepared (codes index entries : List ℕ) (slots : ℕ) : Type 0 where
   pub tree : Tree
   pub prepared : Prepared codes index entries slots tree

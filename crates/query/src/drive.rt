@@ -20,8 +20,8 @@ ghost use Rattle.query.specs.Drive.{
   Moves,
   Tallies,
 };
+use codes::group::GROUPED_BRACKETS;
 use evaluate::eval::eval_level;
-use limits::BRACKETS_MAX;
 use limits::QUESTION_WORDS_MAX;
 use list::answer::Tally;
 use list::hints::HINTS;
@@ -77,7 +77,7 @@ fn take_window(
 {
     let x = at.x;
     clear(ws);
-    eval_level(codes, 0, 0, BRACKETS_MAX, index, entries, x, hints, ws);
+    eval_level(codes, 0, 0, GROUPED_BRACKETS, index, entries, x, hints, ws);
     let cells = put_flips(ws, x, at.cells, writing, out);
     Done {
         cells,
@@ -104,7 +104,7 @@ fn look_at(
     ensures steady { λ r. ⌜ LooksAt (now (codes .entry)) (now (index .entry)) (now (entries .entry)) x r ⌝ }
 {
     renew_senses(index, entries, slots, x, hints, senses);
-    look_level(codes, 0, 0, BRACKETS_MAX, senses)
+    look_level(codes, 0, 0, GROUPED_BRACKETS, senses)
 }
 
 // One step from where the driver stands.
