@@ -1,3 +1,4 @@
 pub mod CodeLaws
 pub mod ReadsLaws
 pub mod BareLaws
+pub mod GroupLaws
