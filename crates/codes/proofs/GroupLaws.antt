@@ -2,7 +2,7 @@
 use Prim.Native.Nat.{ℕ, zero, suc, _+_, _-_, _*_, _/_, _%_, _≤_, _<_}
 use native.Mathlib.Omega.{arith}
 use mathlib.Core.Path.{_≡_, refl, sym, ap, ap₂, _∙_, subst}
-use mathlib.Core.Bool.{Bool, true, false, cond}
+use mathlib.Core.Bool.{Bool, true, false}
 use mathlib.Core.List.{List, [], _∷_, _++_}
 use lib.Dec.{eqb, ltb}
 use borrow.Author.Tests.{eq-eqb, ne-eqb}
@@ -15,16 +15,16 @@ use Rattle.question.specs.Rules.{firstGroup, laterGroups, andFirst}
 use Rattle.question.specs.Meaning.{satisfies}
 use Rattle.question.specs.Limits.{tokenWords}
 use Rattle.codes.specs.Group.{goesOn, isWide, opening, closing, entered, insideOf, groupedOn, grouped}
-use Rattle.codes.proofs.BareLaws.{bare, bareLinks, bare-from-left, bare-append, from-left-bare, bare-same, bare-words}
+use Rattle.codes.proofs.BareLaws.{bare, bareLinks, bare-append, from-left-bare, bare-same, bare-words}
 
 -- ---- a reading from the left that succeeds at each bound on its calls from some bound on; and of what parts it is made up
 
 abbrev Surely : {A : Type 0} → (ℕ → Out A) → A → List Tok → ℕ → Type 0
 Surely reading a z j = (n : ℕ) × ((f : ℕ) → n ≤ f → reading f ≡ good a z j)
 
-surely-next : {A : Type 0} (reading : ℕ → Out A) (a : A) (z : List Tok) (j n : ℕ) → ((f : ℕ) → n ≤ f → reading (suc f) ≡ good a z j) →
+surely-next : {A : Type 0} {reading : ℕ → Out A} {a : A} {z : List Tok} {j : ℕ} (n : ℕ) → ((f : ℕ) → n ≤ f → reading (suc f) ≡ good a z j) →
     Surely reading a z j
-surely-next reading a z j n h = (suc n, go)
+surely-next {reading = reading} {a = a} {z = z} {j = j} n h = (suc n, go)
   where
     go : (f : ℕ) → suc n ≤ f → reading f ≡ good a z j
     go zero l = absurd (omega arith)
@@ -33,7 +33,7 @@ surely-next reading a z j n h = (suc n, go)
 surely-word : (D k : ℕ) (w : List ℕ) (p : ℕ) (r : List Tok) → ltb k 16 ≡ true →
     Surely (λ f. operand fromLeft f D k (wordT w p ∷ r)) (word w) r (k + 1)
 unfolding operand
-surely-word D k w p r t = surely-next (λ f. operand fromLeft f D k (wordT w p ∷ r)) (word w) r (k + 1) 0 (λ f h. rw t)
+surely-word D k w p r t = surely-next 0 (λ f h. rw t)
 
 back : (n : ℕ) → suc n - 1 ≡ n
 back n = omega arith
@@ -41,33 +41,30 @@ back n = omega arith
 not-none : (n : ℕ) → eqb (suc n) 0 ≡ false
 not-none n = ne-eqb (suc n) 0 (λ (e : suc n ≡ 0). omega arith)
 
-surely-part : (D k p q : ℕ) (ts : List Tok) (t : Tree) (r : List Tok) (j : ℕ) → Surely (λ f. question fromLeft f D k ts) t (closeT q ∷ r) j →
+surely-part : (D k p : ℕ) (ts : List Tok) {q j : ℕ} {r : List Tok} {t : Tree} → Surely (λ f. question fromLeft f D k ts) t (closeT q ∷ r) j →
     Surely (λ f. operand fromLeft f (suc D) k (openT p ∷ ts)) (part t) r j
 unfolding operand
-surely-part D k p q ts t r j x =
-    surely-next (λ f. operand fromLeft f (suc D) k (openT p ∷ ts)) (part t) r j (x .0) (λ f h. rw (not-none D, back D, x .1 f h))
+surely-part D k p ts x = surely-next (x .0) (λ f h. rw (not-none D, back D, x .1 f h))
 
-surely-level : (D k i j : ℕ) (ts r z : List Tok) (u : Tree) (ls : List Link) → Surely (λ f. operand fromLeft f D k ts) u r i →
+surely-level : (D k : ℕ) (ts : List Tok) {i j : ℕ} {r z : List Tok} {u : Tree} {ls : List Link} → Surely (λ f. operand fromLeft f D k ts) u r i →
     Surely (λ f. links fromLeft f D i r) ls z j → Surely (λ f. question fromLeft f D k ts) (fromLeft u ls) z j
 unfolding question
-surely-level D k i j ts r z u ls x y =
-    surely-next (λ f. question fromLeft f D k ts) (fromLeft u ls) z j (x .0 + y .0) (λ f h. rw (x .1 f (omega arith), y .1 f (omega arith)))
+surely-level D k ts x y = surely-next (x .0 + y .0) (λ f h. rw (x .1 f (omega arith), y .1 f (omega arith)))
 
-surely-link : (D k i j p : ℕ) (o : Op) (ts r z : List Tok) (u : Tree) (ls : List Link) → Surely (λ f. operand fromLeft f D k ts) u r i →
+surely-link : (D k p : ℕ) (o : Op) (ts : List Tok) {i j : ℕ} {r z : List Tok} {u : Tree} {ls : List Link} → Surely (λ f. operand fromLeft f D k ts) u r i →
     Surely (λ f. links fromLeft f D i r) ls z j → Surely (λ f. links fromLeft f D k (opT o p ∷ ts)) (link o u ∷ ls) z j
 unfolding links
-surely-link D k i j p o ts r z u ls x y =
-    surely-next (λ f. links fromLeft f D k (opT o p ∷ ts)) (link o u ∷ ls) z j (x .0 + y .0) (λ f h. rw (x .1 f (omega arith), y .1 f (omega arith)))
+surely-link D k p o ts x y = surely-next (x .0 + y .0) (λ f h. rw (x .1 f (omega arith), y .1 f (omega arith)))
 
 -- the tokens behind a level
 data Ends : List Tok → Type 0 where
   over : Ends []
   closes : (p : ℕ) (r : List Tok) → Ends (closeT p ∷ r)
 
-surely-end : (D k : ℕ) (r : List Tok) → Ends r → Surely (λ f. links fromLeft f D k r) [] r k
+surely-end : (D k : ℕ) {r : List Tok} → Ends r → Surely (λ f. links fromLeft f D k r) [] r k
 unfolding links
-surely-end D k _ over = surely-next (λ f. links fromLeft f D k []) [] [] k 0 (λ f h. refl)
-surely-end D k _ (closes p r) = surely-next (λ f. links fromLeft f D k (closeT p ∷ r)) [] (closeT p ∷ r) k 0 (λ f h. refl)
+surely-end D k over = surely-next 0 (λ f h. refl)
+surely-end D k (closes p r) = surely-next 0 (λ f h. refl)
 
 -- ---- the number of the levels around a part: it has room for d more
 
@@ -110,6 +107,9 @@ group-tight t [] = refl
 group-tight t (link And u ∷ ls) = group-tight (pair And t u) ls
 group-tight t (link Not u ∷ ls) = group-tight (pair Not t u) ls
 group-tight t (link Or u ∷ ls) = refl
+
+group-bare : (a b : Tree) (ls ms : List Link) → bare a ≡ bare b → bareLinks ls ≡ bareLinks (tightLinks ms) → bare (fromLeft a ls) ≡ bare (firstGroup b ms)
+group-bare a b ls ms p q = from-left-bare a b ls (tightLinks ms) p q ∙ ap bare (sym (group-tight b ms))
 
 from-left-append : (t : Tree) (ls ms : List Link) → fromLeft t (ls ++ ms) ≡ fromLeft (fromLeft t ls) ms
 unfolding fromLeft
@@ -155,43 +155,43 @@ record LinksAs (D : ℕ) (b : Bool) (m k : ℕ) (ts : List Tok) (ls : List Link)
 
 -- ---- a level ends
 
-parted-none : (b : Bool) (D k j : ℕ) (ts : List Tok) (outs : List Link) (z : List Tok) → Surely (λ f. links fromLeft f (suc D) k ts) outs z j →
+parted-none : (b : Bool) (D k : ℕ) (ts : List Tok) {j : ℕ} {outs : List Link} {z : List Tok} → Surely (λ f. links fromLeft f (suc D) k ts) outs z j →
     Parted b D k (closing b ts) [] outs z j
-parted-none false D k j ts outs z x = x
-parted-none true D k j ts outs z x = (ts, k, surely-end D k (closeT 0 ∷ ts) (closes 0 ts), x)
+parted-none false D k ts x = x
+parted-none true D k ts x = (ts, k, surely-end D k (closes 0 ts), x)
+
+-- no link of the open group is left
+links-apart : (D : ℕ) (b : Bool) (m k : ℕ) (ts front : List Tok) {ls : List Link} {z : List Tok} {j : ℕ} → groupedOn b m ts ≡ closing b front →
+    tightLinks ls ≡ [] → ReadAs bareLinks (λ f. links fromLeft f (suc D) k front) (laterGroups ls) (groupedOn false m z) j → LinksAs D b m k ts ls z j
+links-apart D b m k ts front g s x = record {
+  alone = λ e. s;
+  ins = [];
+  outs = x .got;
+  tight = ap bareLinks (sym s);
+  later = x .same;
+  reads = rw g (parted-none b D k front (x .reads));
+}
 
 links-end : (D : ℕ) (b : Bool) (m k : ℕ) (r : List Tok) → Ends r → LinksAs D b m k r [] r k
 unfolding tightLinks laterGroups groupedOn
-links-end D b m k _ over = record {
-  alone = λ e. refl;
-  ins = [];
-  outs = [];
-  tight = refl;
-  later = refl;
-  reads = parted-none b D k k [] [] [] (surely-end (suc D) k [] over);
-}
-links-end D b m k _ (closes p r) = record {
-  alone = λ e. refl;
-  ins = [];
-  outs = [];
-  tight = refl;
-  later = refl;
-  reads = let z = groupedOn (insideOf m) (m / 2) r in parted-none b D k k (closeT p ∷ z) [] (closeT p ∷ z) (surely-end (suc D) k (closeT p ∷ z) (closes p z));
-}
+links-end D b m k _ over = links-apart D b m k [] [] refl refl (record { got = []; same = refl; reads = surely-end (suc D) k over })
+links-end D b m k _ (closes p r) =
+    let z = groupedOn (insideOf m) (m / 2) r in
+    links-apart D b m k (closeT p ∷ r) (closeT p ∷ z) refl refl (record { got = []; same = refl; reads = surely-end (suc D) k (closes p z) })
 
 -- ---- a link more of the same group
 
 parted-link : (b : Bool) (D k i j p : ℕ) (o : Op) (ts r z : List Tok) (u : Tree) (ins outs : List Link) →
     Surely (λ f. operand fromLeft f (roomOf b D) k ts) u r i → Parted b D i r ins outs z j → Parted b D k (opT o p ∷ ts) (link o u ∷ ins) outs z j
-parted-link false D k i j p o ts r z u ins outs x y = surely-link (suc D) k i j p o ts r z u (ins ++ outs) x y
-parted-link true D k i j p o ts r z u ins outs x y =
-    (y .0, y .1, surely-link D k i (y .1) p o ts r (closeT 0 ∷ y .0) u ins x (y .2), y .3)
+parted-link false D k i j p o ts r z u ins outs x y = surely-link (suc D) k p o ts x y
+parted-link true D k i j p o ts r z u ins outs x y = (y .0, y .1, surely-link D k p o ts x (y .2), y .3)
 
-links-more : (D : ℕ) (b : Bool) (m k i j p : ℕ) (ts r z : List Tok) (u : Tree) (ls : List Link) → OperandAs (roomOf b D) b m k ts u r i →
-    LinksAs D b m i r ls z j → (o : Op) → tightLinks (link o u ∷ ls) ≡ link o u ∷ tightLinks ls → laterGroups (link o u ∷ ls) ≡ laterGroups ls →
+links-more : {D : ℕ} {b : Bool} {m i j : ℕ} {r z : List Tok} {u : Tree} {ls : List Link} (k p : ℕ) (o : Op) (ts : List Tok) →
+    OperandAs (roomOf b D) b m k ts u r i → LinksAs D b m i r ls z j → tightLinks (link o u ∷ ls) ≡ link o u ∷ tightLinks ls →
+    laterGroups (link o u ∷ ls) ≡ laterGroups ls →
     groupedOn b m (opT o p ∷ ts) ≡ opT o p ∷ groupedOn b m ts → goesOn (opT o p ∷ ts) ≡ true → LinksAs D b m k (opT o p ∷ ts) (link o u ∷ ls) z j
 unfolding bareLinks
-links-more D b m k i j p ts r z u ls x y o s l g h =
+links-more {D = D} {b = b} {m = m} {i = i} {j = j} {r = r} {z = z} k p o ts x y s l g h =
     let v = x .1 in
     record {
       alone = λ e. true-false (sym h ∙ e);
@@ -204,48 +204,36 @@ links-more D b m k i j p ts r z u ls x y o s l g h =
 
 -- ---- an `or`, and the group behind it
 
-or-behind : (w : Bool) (D m k i j p : ℕ) (ts r z : List Tok) (u : Tree) (ls : List Link) → OperandAs (roomOf w D) w m k ts u r i →
+or-behind : (w : Bool) {D m i j : ℕ} {r z : List Tok} {u : Tree} {ls : List Link} (k p : ℕ) (ts : List Tok) → OperandAs (roomOf w D) w m k ts u r i →
     LinksAs D w m i r ls z j → (w ≡ false → tightLinks ls ≡ []) →
     ReadAs bareLinks (λ f. links fromLeft f (suc D) k (opT Or p ∷ opening w (groupedOn w m ts))) (laterGroups (link Or u ∷ ls)) (groupedOn false m z) j
 unfolding bare bareLinks laterGroups fromLeft
-or-behind true D m k i j p ts r z u ls x y h =
+or-behind true {D = D} {m = m} {u = u} {ls = ls} k p ts x y h =
     let v = x .1 in
     let l = y .reads in
     let t = fromLeft (v .got) (y .ins) in
     record {
       got = link Or (part t) ∷ y .outs;
-      same =
-          ap₂ (λ (a : Tree) (n : List Link). link Or a ∷ n)
-          (from-left-bare (v .got) u (y .ins) (tightLinks ls) (v .same) (y .tight) ∙ ap bare (sym (group-tight u ls))) (y .later);
-      reads =
-          surely-link (suc D) k (l .1) j p Or (openT 0 ∷ groupedOn true m ts) (l .0) (groupedOn false m z) (part t) (y .outs)
-          (surely-part D k 0 0 (groupedOn true m ts) t (l .0) (l .1)
-          (surely-level D k i (l .1) (groupedOn true m ts) (groupedOn true m r) (closeT 0 ∷ l .0) (v .got) (y .ins) (v .reads) (l .2))) (l .3);
+      same = ap₂ (λ (a : Tree) (n : List Link). link Or a ∷ n) (group-bare (v .got) u (y .ins) ls (v .same) (y .tight)) (y .later);
+      reads = let g = groupedOn true m ts in
+          surely-link (suc D) k p Or (openT 0 ∷ g) (surely-part D k 0 g (surely-level D k g (v .reads) (l .2))) (l .3);
     }
-or-behind false D m k i j p ts r z u ls x y h =
+or-behind false {D = D} {m = m} {u = u} {ls = ls} k p ts x y h =
     let v = x .1 in
     record {
       got = link Or (v .got) ∷ (y .ins ++ y .outs);
       same =
           ap₂ (λ (a : Tree) (n : List Link). link Or a ∷ n) (v .same ∙ ap bare (sym (group-tight u ls ∙ ap (fromLeft u) (h refl))))
           (bare-append (y .ins) (y .outs) ∙ ap₂ (λ (a c : List Link). a ++ c) (y .tight ∙ ap bareLinks (h refl)) (y .later));
-      reads =
-          surely-link (suc D) k i j p Or (groupedOn false m ts) (groupedOn false m r) (groupedOn false m z) (v .got) (y .ins ++ y .outs) (v .reads) (y .reads);
+      reads = surely-link (suc D) k p Or (groupedOn false m ts) (v .reads) (y .reads);
     }
 
-links-or : (D : ℕ) (b : Bool) (m k i j p : ℕ) (ts r z : List Tok) (u : Tree) (ls : List Link) → OperandAs (roomOf (isWide ts) D) (isWide ts) m k ts u r i →
-    LinksAs D (isWide ts) m i r ls z j → LinksAs D b m k (opT Or p ∷ ts) (link Or u ∷ ls) z j
+links-or : (b : Bool) {D m i j : ℕ} {r z : List Tok} {u : Tree} {ls : List Link} (k p : ℕ) (ts : List Tok) →
+    OperandAs (roomOf (isWide ts) D) (isWide ts) m k ts u r i → LinksAs D (isWide ts) m i r ls z j → LinksAs D b m k (opT Or p ∷ ts) (link Or u ∷ ls) z j
 unfolding tightLinks groupedOn
-links-or D b m k i j p ts r z u ls x y =
-    let w = or-behind (isWide ts) D m k i j p ts r z u ls x y (λ e. y .alone (x .0 e)) in
-    record {
-      alone = λ e. refl;
-      ins = [];
-      outs = w .got;
-      tight = refl;
-      later = w .same;
-      reads = parted-none b D k j (opT Or p ∷ opening (isWide ts) (groupedOn (isWide ts) m ts)) (w .got) (groupedOn false m z) (w .reads);
-    }
+links-or b {D = D} {m = m} k p ts x y =
+    links-apart D b m k (opT Or p ∷ ts) (opT Or p ∷ opening (isWide ts) (groupedOn (isWide ts) m ts)) refl refl
+    (or-behind (isWide ts) k p ts x y (λ e. y .alone (x .0 e)))
 
 -- ---- each operator: whether a group is open behind it
 
@@ -254,28 +242,29 @@ behind And b ts = b
 behind Or b ts = isWide ts
 behind Not b ts = b
 
-links-operator : (o : Op) (D : ℕ) (b : Bool) (m k i j p : ℕ) (ts r z : List Tok) (u : Tree) (ls : List Link) →
+links-operator : (b : Bool) {D m i j : ℕ} {r z : List Tok} {u : Tree} {ls : List Link} (k p : ℕ) (o : Op) (ts : List Tok) →
     OperandAs (roomOf (behind o b ts) D) (behind o b ts) m k ts u r i → LinksAs D (behind o b ts) m i r ls z j →
     LinksAs D b m k (opT o p ∷ ts) (link o u ∷ ls) z j
 unfolding tightLinks laterGroups groupedOn
-links-operator And D b m k i j p ts r z u ls x y = links-more D b m k i j p ts r z u ls x y And refl refl refl refl
-links-operator Or D b m k i j p ts r z u ls x y = links-or D b m k i j p ts r z u ls x y
-links-operator Not D b m k i j p ts r z u ls x y = links-more D b m k i j p ts r z u ls x y Not refl refl refl refl
+links-operator b k p And ts x y = links-more k p And ts x y refl refl refl refl
+links-operator b k p Or ts x y = links-or b k p ts x y
+links-operator b k p Not ts x y = links-more k p Not ts x y refl refl refl refl
 
 -- ---- the parts of a level make it up
 
-level-made : (D m k i j : ℕ) (ts r z : List Tok) (u : Tree) (ls : List Link) → OperandAs (suc D) false m k ts u r i → LinksAs D false m i r ls z j →
+level-made : {D m i j : ℕ} {r z : List Tok} {u : Tree} {ls : List Link} (k : ℕ) (ts : List Tok) → OperandAs (suc D) false m k ts u r i →
+    LinksAs D false m i r ls z j →
     ReadAs bare (λ f. question fromLeft f (suc D) k (groupedOn false m ts)) (andFirst u ls) (groupedOn false m z) j
 unfolding andFirst
-level-made D m k i j ts r z u ls x y =
+level-made {D = D} {m = m} {u = u} {ls = ls} k ts x y =
     let v = x .1 in
     record {
       got = fromLeft (v .got) (y .ins ++ y .outs);
       same =
           ap bare (from-left-append (v .got) (y .ins) (y .outs))
           ∙ from-left-bare (fromLeft (v .got) (y .ins)) (firstGroup u ls) (y .outs) (laterGroups ls)
-          (from-left-bare (v .got) u (y .ins) (tightLinks ls) (v .same) (y .tight) ∙ ap bare (sym (group-tight u ls))) (y .later);
-      reads = surely-level (suc D) k i j (groupedOn false m ts) (groupedOn false m r) (groupedOn false m z) (v .got) (y .ins ++ y .outs) (v .reads) (y .reads);
+          (group-bare (v .got) u (y .ins) ls (v .same) (y .tight)) (y .later);
+      reads = surely-level (suc D) k (groupedOn false m ts) (v .reads) (y .reads);
     }
 
 -- ---- by the calls of the second rule's reading: what is told of all that it reads
@@ -316,12 +305,12 @@ part-as D b m k p ts (good t (closeT q ∷ r) j) h x =
       record {
         got = part (v .got);
         same = v .same;
-        reads =
-            surely-part D k p q (groupedOn false (entered b m) ts) (v .got) (groupedOn b m r) j (rw (entered-inside m b, entered-outer m b h) at (v .reads));
+        reads = surely-part D k p (groupedOn false (entered b m) ts) (rw (entered-inside m b, entered-outer m b h) at (v .reads));
       },
     )
 part-as D b m k p ts (good t (otherT q ∷ r) j) h x = tt
 
+-- each of the d levels that may still open can have a group in brackets around it, and the level itself one: 2 * d and one more
 mutual
   unfolding question operand links
 
@@ -330,7 +319,7 @@ mutual
   level-as (suc f) d D m k ts l h =
       told-level (OperandAs (suc D) false m k ts) (λ i r ls z j. Ends z → LinksAs D false m i r ls z j) (LevelAs (suc D) m k ts) andFirst
       (operand andFirst f d k ts) (links andFirst f d) (operand-as f d (suc D) false m k ts (omega arith) h) (λ i r. links-as f d D false m i r l h)
-      (λ u r i ls z j x y e. level-made D m k i j ts r z u ls x (y e))
+      (λ u r i ls z j x y e. level-made k ts x (y e))
 
   operand-as : (f d D : ℕ) (b : Bool) (m k : ℕ) (ts : List Tok) → 2 * d ≤ D → Fits d m → Told (OperandAs D b m k ts) (operand andFirst f d k ts)
   operand-as zero d D b m k ts l h = tt
@@ -356,7 +345,7 @@ mutual
       told-level (OperandAs (roomOf w D) w m k r) (λ i y ls z j. Ends z → LinksAs D w m i y ls z j)
       (λ ls z j. Ends z → LinksAs D b m k (opT o p ∷ r) ls z j) (λ u ls. link o u ∷ ls) (operand andFirst f d k r) (links andFirst f d)
       (operand-as f d (roomOf w D) w m k r (room-enough w (2 * d) D l) h) (λ i y. links-as f d D w m i y l h)
-      (λ u y i ls z j x v e. links-operator o D b m k i j p r y z u ls x (v e))
+      (λ u y i ls z j x v e. links-operator b k p o r x (v e))
   links-as (suc f) d D b m k (openT p ∷ r) l h = links-end D b m k (openT p ∷ r)
   links-as (suc f) d D b m k (closeT p ∷ r) l h = links-end D b m k (closeT p ∷ r)
   links-as (suc f) d D b m k (otherT p ∷ r) l h = links-end D b m k (otherT p ∷ r)
@@ -405,8 +394,7 @@ grouped-on-words b m (opT Or p ∷ r) =
     closing-words b (opT Or p ∷ opening w (groupedOn w m r)) ∙ opening-words w (groupedOn w m r) ∙ grouped-on-words w m r
 grouped-on-words b m (opT Not p ∷ r) = grouped-on-words b m r
 grouped-on-words b m (openT p ∷ r) = grouped-on-words false (entered b m) r
-grouped-on-words b m (closeT p ∷ r) =
-    closing-words b (closeT p ∷ groupedOn (insideOf m) (m / 2) r) ∙ grouped-on-words (insideOf m) (m / 2) r
+grouped-on-words b m (closeT p ∷ r) = closing-words b (closeT p ∷ groupedOn (insideOf m) (m / 2) r) ∙ grouped-on-words (insideOf m) (m / 2) r
 grouped-on-words b m (otherT p ∷ r) = grouped-on-words b m r
 
 pub grouped-token-words : (ts : List Tok) → tokenWords (grouped ts) ≡ tokenWords ts
