@@ -15,5 +15,6 @@ pub mod Exchange
 pub mod TreeWords
 pub mod MeaningLaws
 pub mod LevelLaws
+pub mod DepthLaws
 pub mod OperatorLaws
 pub mod ResultLaws
