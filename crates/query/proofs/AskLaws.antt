@@ -1,11 +1,12 @@
 -- Laws of the whole call: an accepted question made ready, its answer by what the driver tallied, and the refusals before it.
-use Prim.Native.Nat.{ℕ, _+_, _-_, _*_}
+use Prim.Native.Nat.{ℕ, _+_, _-_, _*_, _≤_}
 use native.Mathlib.Nat.{sub-zero}
 use native.Mathlib.Omega.{arith}
-use mathlib.Core.Path.{_≡_, sym, ap, _∙_}
+use mathlib.Core.Path.{_≡_, sym, ap, _∙_, subst}
 use mathlib.Core.Bool.{Bool}
-use mathlib.Core.List.{List}
+use mathlib.Core.List.{List, []}
 use lib.ListN.{length, take}
+use lib.Seq.{length-take-le}
 use Rattle.refusal.specs.declared.Refusal.{Refusal}
 use Rattle.list.specs.declared.answer.Tally.{Tally}
 use Rattle.list.specs.declared.answer.Answer.{Answer}
@@ -19,48 +20,123 @@ use Rattle.index.specs.Sound.{Sound}
 use Rattle.directory.specs.Has.{has}
 use Rattle.index.specs.Check.{checkOf}
 use Rattle.question.specs.Token.{tokens}
-use Rattle.question.specs.Grammar.{Tree, Rule, fromLeft}
+use Rattle.question.specs.Grammar.{Tree, Rule, fromLeft, treeWords}
+use Rattle.question.specs.Rules.{andFirst, ruleOf}
 use Rattle.question.specs.Meaning.{satisfies}
-use Rattle.question.specs.Reading.{parses, refuses, parsed}
-use Rattle.question.proofs.ParsedLaws.{asked-accepts, accepted-within}
+use Rattle.question.specs.Reading.{parses, refuses, parsed, asked}
+use Rattle.question.proofs.ParsedLaws.{asked-accepts, accepted-within, asked-parsed}
+use Rattle.question.proofs.RuleLaws.{rule-keeps, rule-second, rule-else}
+use Rattle.question.proofs.DepthLaws.{deeper-reads}
 use Rattle.query.specs.Ask.{satisfying, Answers, Asks}
 use Rattle.codes.specs.Code.{codesOf, wordCodes}
+use Rattle.codes.specs.Group.{grouped}
+use Rattle.codes.specs.Grouping.{GroupsCodes}
 use Rattle.codes.proofs.CodeLaws.{codes-words}
+use Rattle.codes.proofs.GroupLaws.{GroupedAs, grouped-reads, grouped-same, grouped-words, grouped-token-words}
 use Rattle.slots.specs.Slots.{slotHas}
 use Rattle.slots.specs.Compile.{WritesCodes, FillsSlots}
 use Rattle.query.specs.Drive.{TreeOf, testOf, AskedBy}
-use Rattle.query.specs.Prepared.{Prepared}
+use Rattle.query.specs.Prepared.{MadeReady, Prepared}
+use Rattle.query.proofs.SatisfyLaws.{satisfying-same}
 use Rattle.query.proofs.QuestionBound.{question-bound}
-use Rattle.slots.proofs.WholeLaws.{slot-satisfies, compiled-slots}
+use Rattle.slots.proofs.WholeLaws.{slot-satisfies, TreeSlots, compiled-slots}
 
 -- ---- an accepted question made ready
 
-asked-tree : (s codes : List ℕ) (t : Tree) (k : ℕ) → parsed fromLeft s ≡ parses t k → codes ≡ codesOf (tokens s) → TreeOf codes t
-asked-tree s codes t k is e = record { toks = tokens s; are = sym e; fuel = 2 * length s + 2; words = k; reads = asked-accepts fromLeft s t k is .reads }
-
 module _ {index s codes codes′ entries entries′ : List ℕ} {n slots : ℕ} (c : WritesCodes s codes codes′ n × FillsSlots index s entries entries′ slots)
-    (sound : Sound index)
-    (t : Tree) (k : ℕ) (is : parsed fromLeft s ≡ parses t k) where
+    (rule : ℕ) (t : Tree) (k : ℕ) (is : asked rule s ≡ parses t k) where
   -- they are lent from the first on
   compiled-codes : take (n - 0) codes′ ≡ codesOf (tokens s)
   compiled-codes = rw (sub-zero n) (c .0 .coded)
 
-  pub compiled-asked : length entries ≡ 16 → AskedBy (take (n - 0) codes′) index entries′ slots
-  compiled-asked long = record {
+  pub compiled-short : length codes ≡ 256 → length (take (n - 0) codes′) ≤ 256
+  compiled-short long = let w = c .0 .within in let l = c .0 .long in omega (arith, sub-zero n, length-take-le (n - 0) codes′ (omega arith))
+
+  accepted : parsed (ruleOf rule) s ≡ parses t k
+  accepted = asked-parsed rule s t k is .1
+
+  pub compiled-asked : Sound index → length entries ≡ 16 → AskedBy (take (n - 0) codes′) index entries′ slots
+  compiled-asked sound long = record {
     sound = sound;
     entries-long = c .1 .long ∙ long;
-    few = omega (arith, c .1 .count, accepted-within fromLeft s t k is .words);
+    few = omega (arith, c .1 .count, accepted-within (ruleOf rule) s t k accepted .words);
     all = c .1 .count ∙ sym (codes-words (tokens s)) ∙ ap wordCodes (sym compiled-codes);
   }
 
-  pub compiled-prepared : Prepared (take (n - 0) codes′) index entries′ slots t
-  compiled-prepared =
-      let have = compiled-slots (c .1) t k is in
+  pub compiled-ready : MadeReady (ruleOf rule) (take (n - 0) codes′) index entries′ slots t
+  compiled-ready =
+      let slotted = compiled-slots (c .1) (ruleOf rule) (rule-keeps rule) t k accepted in
       record {
-        reads = asked-tree s (take (n - 0) codes′) t k is compiled-codes;
-        same = λ x. slot-satisfies (slotHas index entries′) (has index) t x (λ i h. have .1 i h x);
-        bound = rw (have .0) (question-bound index entries′ sound t (have .1));
+        toks = tokens s;
+        are = sym compiled-codes;
+        fuel = 2 * length s + 2;
+        words = k;
+        reads = asked-accepts (ruleOf rule) s t k accepted .reads;
+        all = slotted .0;
+        have = slotted .1;
       }
+
+-- the rule of a number
+module _ {rule : ℕ} {codes index entries : List ℕ} {slots : ℕ} {t : Tree} (m : MadeReady (ruleOf rule) codes index entries slots t) where
+  pub ready-second : rule ≡ 2 → MadeReady andFirst codes index entries slots t
+  ready-second e = subst (λ (by : Rule). MadeReady by codes index entries slots t) (rule-second e) m
+
+  pub ready-else : (rule ≡ 2 → ⊥) → MadeReady fromLeft codes index entries slots t
+  ready-else h = subst (λ (by : Rule). MadeReady by codes index entries slots t) (rule-else h) m
+
+-- ---- prepared for the driver
+
+-- codes that from the left read as t, with slots for its words
+reads-prepared : {codes index entries : List ℕ} {slots : ℕ} {t : Tree} → Sound index → TreeOf codes t → slots ≡ length (treeWords t) → TreeSlots index entries t →
+    Prepared codes index entries slots t
+reads-prepared {codes} {index} {entries} {slots} {t} sound reads all have = record {
+  reads = reads;
+  same = λ x. slot-satisfies (slotHas index entries) (has index) t x (λ i h. have i h x);
+  bound = rw all (question-bound index entries sound t have);
+}
+
+-- by the first rule, as they are
+pub plain-prepared : {codes index entries : List ℕ} {slots : ℕ} {t : Tree} → Sound index → MadeReady fromLeft codes index entries slots t →
+    Prepared codes index entries slots t
+plain-prepared {t = t} sound m =
+    reads-prepared sound
+    (record {
+      toks = m .toks;
+      are = m .are;
+      fuel = m .fuel;
+      words = m .words;
+      reads = deeper-reads fromLeft (m .fuel) 8 17 0 (m .toks) t [] (m .words) (omega arith) (m .reads);
+    })
+    (m .all) (m .have)
+
+-- by the second rule, with their groups in brackets
+module _ {codes index entries lent grouped′ : List ℕ} {slots n : ℕ} {t : Tree} (m : MadeReady andFirst codes index entries slots t)
+    (g : GroupsCodes codes lent grouped′ n) where
+  pub regrouped : GroupedAs (m .toks) t (m .words)
+  regrouped = grouped-reads (m .fuel) (m .toks) t (m .words) (m .reads)
+
+  grouped-codes : take (n - 0) grouped′ ≡ codesOf (grouped (m .toks))
+  grouped-codes = rw (sub-zero n) (g .coded (m .toks) (m .are))
+
+  pub grouped-asked : AskedBy codes index entries slots → AskedBy (take (n - 0) grouped′) index entries slots
+  grouped-asked a = record {
+    sound = a .sound;
+    entries-long = a .entries-long;
+    few = a .few;
+    all =
+        a .all ∙ sym (ap wordCodes (m .are)) ∙ codes-words (m .toks) ∙ sym (ap length (grouped-token-words (m .toks))) ∙ sym (codes-words (grouped (m .toks)))
+        ∙ ap wordCodes (sym grouped-codes);
+  }
+
+  pub grouped-prepared : Sound index → Prepared (take (n - 0) grouped′) index entries slots (regrouped .tree)
+  grouped-prepared sound =
+      reads-prepared sound
+      (record { toks = grouped (m .toks); are = sym grouped-codes; fuel = regrouped .fuel; words = m .words; reads = regrouped .reads })
+      (m .all ∙ ap length (sym (grouped-words regrouped))) (rw (grouped-words regrouped) (m .have))
+
+  -- its answer is that of the question's tree
+  pub grouped-listing : {out out′ : List ℕ} {r : Answer} → Listing (satisfying index (regrouped .tree)) out out′ r → Listing (satisfying index t) out out′ r
+  grouped-listing l = rw (satisfying-same index (regrouped .tree) t (λ x h u. grouped-same regrouped (has index) x)) at l
 
 -- ---- its answer
 
@@ -79,12 +155,12 @@ module _ {codes index entries : List ℕ} {slots n : ℕ} {t : Tree} (prepared :
 
 -- ---- the question's promise
 
-module _ (rule : Rule) (index question out : List ℕ) where
-  pub listing-answers : (out′ : List ℕ) (r : Answer) (t : Tree) (k : ℕ) → parsed rule question ≡ parses t k → Listing (satisfying index t) out out′ r →
+module _ (rule : ℕ) (index question out : List ℕ) where
+  pub listing-answers : (out′ : List ℕ) (r : Answer) (t : Tree) (k : ℕ) → asked rule question ≡ parses t k → Listing (satisfying index t) out out′ r →
       Answers rule index question out out′ r
   listing-answers out′ r t k e l = record { answer = rw e (l .answer); cells = rw e (l .cells) }
 
-  pub refused-answers : (x : Refusal) → parsed rule question ≡ refuses x → Answers rule index question out out (answer.Refused x)
+  pub refused-answers : (x : Refusal) → asked rule question ≡ refuses x → Answers rule index question out out (answer.Refused x)
   refused-answers x e = record { answer = rw e; cells = rw e }
 
   -- over any bytes

@@ -9,7 +9,7 @@
 --                     are equal; no other cell is changed;
 --   exchange-pair     the same, where of a no more is known than that the brackets around it are a pair, since then a is accepted by itself;
 --   exchanging-itself the premises hold of every pair of brackets in every accepted question over a sound index, with a for b.
--- These three stand for the published rule as well, with `-from-left`. And no list of intervals, ordered or not, that names the records of an answer has fewer intervals:
+-- All parts of an exchange are read by one rule. And no list of intervals, ordered or not, that names the records of an answer has fewer intervals:
 --   fewest-intervals.
 -- What stood in the lent cells before may differ between the calls (`out`, `other`).
 use Prim.Native.Nat.{ℕ, _*_, _/_, _≤_}
@@ -34,21 +34,23 @@ use Rattle.directory.specs.Has.{has}
 use Rattle.index.specs.Check.{checkOf}
 use Rattle.index.proofs.CheckLaws.{good-sound}
 use Rattle.question.specs.Token.{tokens}
-use Rattle.question.specs.Grammar.{Tree, Rule, fromLeft}
-use Rattle.question.specs.Meaning.{satisfies, Respects}
-use Rattle.question.specs.Reading.{parses, parsed}
+use Rattle.question.specs.Grammar.{Tree}
+use Rattle.question.specs.Rules.{ruleOf}
+use Rattle.question.specs.Meaning.{satisfies}
+use Rattle.question.specs.Reading.{parses, asked}
 use Rattle.question.specs.Limits.{tokenWords}
 use Rattle.question.specs.Exchange.{around, Matched, Exchangeable, AcceptedToo}
-use Rattle.question.proofs.RuleLaws.{from-left-respects}
-use Rattle.question.proofs.ParsedLaws.{accepted-within}
+use Rattle.question.proofs.RuleLaws.{rule-respects}
+use Rattle.question.proofs.ParsedLaws.{accepted-within, asked-reads, asked-parsed}
 use Rattle.question.proofs.Exchange.{exchange, inside-accepted}
 use Rattle.query.specs.Ask.{satisfying}
+use Rattle.query.specs.Prepared.{IsAsked}
 use Rattle.query.specs.Demand3.{written, Answered, SameRecords, Exchanging, ExchangingPair, writtenBy, OnlyWritten, ListOrRoom, CallsAgree}
 use Rattle.query.proofs.SatisfyLaws.{same-everywhere, satisfying-even, satisfying-same, same-satisfying}
 
 -- ---- what an answered question writes: the one proper list of its records
 
-module _ (rule : Rule) (index question : List ℕ) (t : Tree) (out out′ : List ℕ) (tally : Tally) (a : Answered rule index question t out out′ tally) where
+module _ (rule : ℕ) (index question : List ℕ) (t : Tree) (out out′ : List ℕ) (tally : Tally) (a : Answered rule index question t out out′ tally) where
   abbrev cells : List ℕ
   cells = satisfying index t
 
@@ -83,7 +85,7 @@ module _ (rule : Rule) (index question : List ℕ) (t : Tree) (out out′ : List
 
 -- ---- two answered questions
 
-module _ (rule rule′ : Rule) (index first second : List ℕ) (t u : Tree) (out out′ other other′ : List ℕ) (tally tally′ : Tally)
+module _ (rule rule′ : ℕ) (index first second : List ℕ) (t u : Tree) (out out′ other other′ : List ℕ) (tally tally′ : Tally)
     (a : Answered rule index first t out out′ tally) (b : Answered rule′ index second u other other′ tally′) where
   pub same-cells : SameRecords index t u → (written tally out′ ≡ written tally′ other′) × (tally ≡ tally′)
   same-cells h =
@@ -113,38 +115,48 @@ module _ (cells : List ℕ) (even : 2 * intervals cells ≡ length cells) (out o
 
 -- ---- a part in brackets exchanged for another, all by one rule
 
-module _ (rule : Rule) (respects : Respects rule) (index before a b behind : List ℕ) where
+-- inside a pair of brackets stands a question that is accepted by the same rule
+inside-asked : (rule : ℕ) (before a behind : List ℕ) (t : Tree) (n : ℕ) → asked rule (around before a behind) ≡ parses t n → Matched a → IsAsked rule a
+inside-asked rule before a behind t n accepted matched =
+    let read = asked-parsed rule (around before a behind) t n accepted in
+    let by = inside-accepted (ruleOf rule) before a behind t n (read .1) matched in
+    record { tree = by .tree; words = length (tokenWords (tokens a)); is = asked-reads rule a (read .0) ∙ by .accepted }
+
+module _ (rule : ℕ) (index before a b behind : List ℕ) where
   -- the second question is accepted, and the same records satisfy it
-  changed : (e : Exchanging rule index before a b behind) → AcceptedToo rule (has index) (around before b behind) (e .tree)
+  changed : (e : Exchanging rule index before a b behind) → AcceptedToo (ruleOf rule) (has index) (around before b behind) (e .tree)
   changed e =
-      let parts : Exchangeable rule (has index) a b =
+      let parts : Exchangeable (ruleOf rule) (has index) a b =
       record {
         tree-a = e .tree-a;
         tree-b = e .tree-b;
         words-a = e .words-a;
         words-b = e .words-b;
-        a-accepted = e .a-accepted;
-        b-accepted = e .b-accepted;
+        a-accepted = asked-parsed rule a (e .tree-a) (e .words-a) (e .a-accepted) .1;
+        b-accepted = asked-parsed rule b (e .tree-b) (e .words-b) (e .b-accepted) .1;
         same = same-everywhere index (good-sound index (e .sound)) (e .tree-a) (e .tree-b) (e .same);
       } in
-      exchange rule respects (has index) a b parts before behind (e .tree) (e .words) (e .accepted) .accepted (e .within)
+      exchange (ruleOf rule) (rule-respects rule) (has index) a b parts before behind (e .tree) (e .words)
+      (asked-parsed rule (around before a behind) (e .tree) (e .words) (e .accepted) .1) .accepted (e .within)
 
   pub exchange-answers : Exchanging rule index before a b behind → CallsAgree rule index (around before a behind) (around before b behind)
   exchange-answers e out out′ other other′ r r′ room one-call other-call =
       let too = changed e in
+      let second-asked = asked-reads rule (around before b behind) (asked-parsed rule (around before a behind) (e .tree) (e .words) (e .accepted) .0)
+      ∙ too .accepted in
       let one = e .tree in
       let two = too .tree in
       let same : satisfying index one ≡ satisfying index two = satisfying-same index one two (λ x h g. too .satisfies-same x) in
       let first-says : r ≡ listAnswer (satisfying index one) (length out / 2) = rw (e .sound, e .accepted) at (one-call .answer) in
       let first-leaves : out′ ≡ listCells (satisfying index one) (length out / 2) out = rw (e .sound, e .accepted) at (one-call .cells) in
-      let second-says : r′ ≡ listAnswer (satisfying index two) (length other / 2) = rw (e .sound, too .accepted) at (other-call .answer) in
-      let second-leaves : other′ ≡ listCells (satisfying index two) (length other / 2) other = rw (e .sound, too .accepted) at (other-call .cells) in
+      let second-says : r′ ≡ listAnswer (satisfying index two) (length other / 2) = rw (e .sound, second-asked) at (other-call .answer) in
+      let second-leaves : other′ ≡ listCells (satisfying index two) (length other / 2) other = rw (e .sound, second-asked) at (other-call .cells) in
       let first = call-writes (satisfying index one) (satisfying-even index one) out out′ r (length out / 2) first-says first-leaves in
       let second = call-writes (satisfying index two) (satisfying-even index two) other other′ r′ (length other / 2) second-says second-leaves in
       record {
         tree = two;
         words = too .count;
-        accepted = too .accepted;
+        accepted = second-asked;
         list-or-room = first .2;
         answers = first-says ∙ (rw (same, room)) ∙ sym second-says;
         cells = first .0 ∙ (rw (same, room)) ∙ sym (second .0);
@@ -155,34 +167,34 @@ module _ (rule : Rule) (respects : Respects rule) (index before a b behind : Lis
   -- a pair of brackets has a question inside
   pair-exchanging : ExchangingPair rule index before a b behind → Exchanging rule index before a b behind
   pair-exchanging e =
-      let by = inside-accepted rule before a behind (e .tree) (e .words) (e .accepted) (e .matched) in
+      let by = inside-asked rule before a behind (e .tree) (e .words) (e .accepted) (e .matched) in
       record {
         sound = e .sound;
         tree = e .tree;
         words = e .words;
         accepted = e .accepted;
         tree-a = by .tree;
-        words-a = length (tokenWords (tokens a));
-        a-accepted = by .accepted;
+        words-a = by .words;
+        a-accepted = by .is;
         tree-b = e .tree-b;
         words-b = e .words-b;
         b-accepted = e .b-accepted;
-        same = e .same (by .tree) (length (tokenWords (tokens a))) (by .accepted);
+        same = e .same (by .tree) (by .words) (by .is);
         within = e .within;
       }
 
   pub exchange-pair : ExchangingPair rule index before a b behind → CallsAgree rule index (around before a behind) (around before b behind)
   exchange-pair e = exchange-answers (pair-exchanging e)
 
-parsed-once : (rule : Rule) (s : List ℕ) (t u : Tree) (n m : ℕ) → parsed rule s ≡ parses t n → parsed rule s ≡ parses u m → t ≡ u
-parsed-once rule s t u n m e f = cc
+asked-once : (rule : ℕ) (s : List ℕ) (t u : Tree) (n m : ℕ) → asked rule s ≡ parses t n → asked rule s ≡ parses u m → t ≡ u
+asked-once rule s t u n m e f = cc
 
 -- no premise is empty: any pair of brackets in an accepted question may be exchanged, for itself if for nothing else
-pub exchanging-itself : (rule : Rule) (index before a behind : List ℕ) → checkOf index ≡ Good → (t : Tree) (n : ℕ) →
-    parsed rule (around before a behind) ≡ parses t n → Matched a →
+pub exchanging-itself : (rule : ℕ) (index before a behind : List ℕ) → checkOf index ≡ Good → (t : Tree) (n : ℕ) →
+    asked rule (around before a behind) ≡ parses t n → Matched a →
     ExchangingPair rule index before a a behind
 exchanging-itself rule index before a behind sound t n accepted matched =
-    let by = inside-accepted rule before a behind t n accepted matched in
+    let by = inside-asked rule before a behind t n accepted matched in
     record {
       sound = sound;
       tree = t;
@@ -190,22 +202,8 @@ exchanging-itself rule index before a behind sound t n accepted matched =
       accepted = accepted;
       matched = matched;
       tree-b = by .tree;
-      words-b = length (tokenWords (tokens a));
-      b-accepted = by .accepted;
-      same = λ u m e x h g. ap (λ (y : Tree). satisfies (has index) y x) (parsed-once rule a u (by .tree) m (length (tokenWords (tokens a))) e (by .accepted));
-      within = accepted-within rule (around before a behind) t n accepted;
+      words-b = by .words;
+      b-accepted = by .is;
+      same = λ u m e x h g. ap (λ (y : Tree). satisfies (has index) y x) (asked-once rule a u (by .tree) m (by .words) e (by .is));
+      within = accepted-within (ruleOf rule) (around before a behind) t n (asked-parsed rule (around before a behind) t n accepted .1);
     }
-
--- ---- by the published rule
-
-module _ (index before a b behind : List ℕ) where
-  pub exchange-answers-from-left : Exchanging fromLeft index before a b behind → CallsAgree fromLeft index (around before a behind) (around before b behind)
-  exchange-answers-from-left = exchange-answers fromLeft from-left-respects index before a b behind
-
-  pub exchange-pair-from-left : ExchangingPair fromLeft index before a b behind → CallsAgree fromLeft index (around before a behind) (around before b behind)
-  exchange-pair-from-left = exchange-pair fromLeft from-left-respects index before a b behind
-
-pub exchanging-itself-from-left : (index before a behind : List ℕ) → checkOf index ≡ Good → (t : Tree) (n : ℕ) →
-    parsed fromLeft (around before a behind) ≡ parses t n → Matched a →
-    ExchangingPair fromLeft index before a a behind
-exchanging-itself-from-left = exchanging-itself fromLeft

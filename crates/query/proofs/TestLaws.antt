@@ -9,7 +9,6 @@ use lib.ListN.{length, getD, replicate, length-replicate}
 use borrow.Author.Tests.{ltb-true}
 use borrow.Rule.Slice.PartMut.{midOf, mid-len}
 use Rattle.laws.proofs.Tests.{by-test}
-use Rattle.limits.specs.Limits.{bracketsMax}
 use Rattle.list.specs.declared.answer.Tally.{Tally}
 use Rattle.list.specs.Interval.{records}
 use Rattle.list.specs.Sense.{Steady}
@@ -38,6 +37,7 @@ use Rattle.evaluate.specs.Evaluated.{SameLengths, Evaluated}
 use Rattle.senses.specs.Look.{Looks}
 use Rattle.window.specs.Steps.{Constant}
 use Rattle.query.specs.Drive.{TreeOf, testOf}
+use Rattle.codes.specs.Group.{groupedBrackets}
 use Rattle.codes.proofs.CodeLaws.{codes-words}
 use Rattle.slots.proofs.SlotLaws.{slots-none}
 

@@ -196,13 +196,22 @@ answer-any-rule rule rule′ s = go (ltb 256 (length s)) (first (foreignAt s) (l
 
 -- ---- from what the call answers
 
-pub answer-accepted : (a : Parsed) (n : ℕ) → answer a ≡ Accepted n → (t : Tree) × (a ≡ parses t n)
+answer-accepted : (a : Parsed) (n : ℕ) → answer a ≡ Accepted n → (t : Tree) × (a ≡ parses t n)
 answer-accepted (parses t k) n h = let q : k ≡ n = cc in (t, rw q)
 answer-accepted (refuses r) n h = zero-one (cc)
 
-pub answer-refused : (a : Parsed) (r : Refusal) → answer a ≡ Refused r → a ≡ refuses r
+answer-refused : (a : Parsed) (r : Refusal) → answer a ≡ Refused r → a ≡ refuses r
 answer-refused (parses t k) r h = zero-one (cc)
 answer-refused (refuses q) r h = let w : q ≡ r = cc in rw w
+
+module _ (rule : ℕ) (s : List ℕ) where
+  pub verdict-accepted : (n : ℕ) → verdictOf rule s ≡ Accepted n → (t : Tree) × (asked rule s ≡ parses t n)
+  unfolding verdictOf
+  verdict-accepted n h = answer-accepted (asked rule s) n h
+
+  pub verdict-refused : (r : Refusal) → verdictOf rule s ≡ Refused r → asked rule s ≡ refuses r
+  unfolding verdictOf
+  verdict-refused r h = answer-refused (asked rule s) r h
 
 -- ---- by the number of a rule
 

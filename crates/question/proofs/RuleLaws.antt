@@ -4,6 +4,7 @@ use mathlib.Core.Path.{_≡_, refl, sym, ap, ap₂, _∙_}
 use mathlib.Core.List.{List, [], _∷_, _++_, append-assoc, append-nil}
 use mathlib.Core.Bool.{Bool, true, false, cond, _||_}
 use lib.Dec.{eqb}
+use borrow.Author.Tests.{eq-eqb, ne-eqb}
 use Rattle.question.specs.declared.token.Op.{Op}
 use Rattle.question.specs.declared.token.Op.the-variants.{And, Or, Not}
 use Rattle.question.specs.Grammar.{Tree, pair, Link, link, Rule, fromLeft, treeWords}
@@ -159,3 +160,9 @@ rule-respects = by-rule Respects from-left-respects and-first-respects
 
 pub rule-keeps : (rule : ℕ) → Keeps (ruleOf rule)
 rule-keeps = by-rule Keeps from-left-keeps and-first-keeps
+
+pub rule-second : {rule : ℕ} → rule ≡ 2 → ruleOf rule ≡ andFirst
+rule-second {rule} e = rw (eq-eqb rule 2 e)
+
+pub rule-else : {rule : ℕ} → (rule ≡ 2 → ⊥) → ruleOf rule ≡ fromLeft
+rule-else {rule} h = rw (ne-eqb rule 2 h)

@@ -6,10 +6,10 @@ use mathlib.Core.Bool.{Bool}
 use mathlib.Core.List.{List, []}
 use lib.ListN.{length, getD}
 use Rattle.directory.specs.Has.{has}
-use Rattle.question.specs.Grammar.{Tree, word, pair, part, treeWords, fromLeft}
+use Rattle.question.specs.Grammar.{Tree, word, pair, part, Rule, treeWords}
 use Rattle.question.specs.Meaning.{combine, satisfies}
 use Rattle.question.specs.Reading.{parses, parsed}
-use Rattle.question.proofs.RuleLaws.{from-left-keeps}
+use Rattle.question.proofs.RuleLaws.{Keeps}
 use Rattle.question.proofs.TreeWords.{accepted-words}
 use Rattle.question.proofs.MeaningLaws.{satisfiesBy, satisfies-by}
 use Rattle.slots.specs.Slots.{slotHas, slotSatisfies}
@@ -33,9 +33,9 @@ slot-satisfies v had t x h =
 abbrev pub TreeSlots : List ℕ → List ℕ → Tree → Type 0
 TreeSlots index entries t = (i : ℕ) → i < length (treeWords t) → (x : ℕ) → slotHas index entries i x ≡ has index (getD (treeWords t) i []) x
 
-pub compiled-slots : {index s entries entries′ : List ℕ} {slots : ℕ} → FillsSlots index s entries entries′ slots → (t : Tree) (n : ℕ) →
-    parsed fromLeft s ≡ parses t n →
+pub compiled-slots : {index s entries entries′ : List ℕ} {slots : ℕ} → FillsSlots index s entries entries′ slots → (rule : Rule) → Keeps rule →
+    (t : Tree) (n : ℕ) → parsed rule s ≡ parses t n →
     (slots ≡ length (treeWords t)) × TreeSlots index entries′ t
-compiled-slots {s = s} c t n e =
-    let w = accepted-words fromLeft from-left-keeps s t n e .0 in
+compiled-slots {s = s} c rule keeps t n e =
+    let w = accepted-words rule keeps s t n e .0 in
     (c .count ∙ ap length w, λ i h x. rw w at (c .have i (omega (arith, c .count, ap length w)) x))

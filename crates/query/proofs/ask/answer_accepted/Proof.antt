@@ -1,9 +1,9 @@
 -- An accepted question is within the limits, so there is room for its codes and its slots.
 use native.Mathlib.Omega.{arith}
 use mathlib.Core.Path.{refl}
-use Rattle.question.specs.Grammar.{fromLeft}
-use Rattle.question.proofs.ParsedLaws.{accepted-within}
-use Rattle.query.proofs.AskLaws.{compiled-asked, compiled-prepared, listing-answers}
+use Rattle.question.specs.Rules.{ruleOf}
+use Rattle.question.proofs.ParsedLaws.{accepted-within, asked-parsed}
+use Rattle.query.proofs.AskLaws.{compiled-short, compiled-asked, compiled-ready, listing-answers}
 use borrow.Author.Needs.{needs}
 use Rattle.query.proofs.ask.answer_accepted.Statement.{statement}
 use Rattle.query.proofs.ask.answer_accepted.Tie as tie
@@ -11,17 +11,23 @@ use Rattle.query.proofs.ask.answer_accepted.Tie as tie
 compile-requires : tie.Need-compile-requires
 compile-requires c κs =
     let start = c .before .before .before .before .before in
+    let a = start .args in
     let is = start .pre .1 in
-    let within = accepted-within fromLeft (start .args .question .now) (is .tree) (is .words) (is .is) in
+    let within = accepted-within (ruleOf (a .rule)) (a .question .now) (is .tree) (is .words)
+    (asked-parsed (a .rule) (a .question .now) (is .tree) (is .words) (is .is) .1) in
     (start .pre .0, (omega arith, omega arith))
 
-put-answer-requires : tie.Need-put-answer-requires
-put-answer-requires c κs =
+answer-codes-requires : tie.Need-answer-codes-requires
+answer-codes-requires c κs =
     let start = c .before .before .before .before .before .before .before .before .before .before .before .before in
+    let rule = start .args .rule in
     let is = start .pre .1 in
     let compiled = c .before .before .before .before .before .before .compile .ensures in (
-      compiled-asked compiled (start .pre .0) (is .tree) (is .words) (is .is) refl,
-      record { tree = is .tree; prepared = compiled-prepared compiled (start .pre .0) (is .tree) (is .words) (is .is) },
+      compiled-asked compiled rule (is .tree) (is .words) (is .is) (start .pre .0) refl,
+      (
+        compiled-short compiled rule (is .tree) (is .words) (is .is) refl,
+        record { tree = is .tree; ready = compiled-ready compiled rule (is .tree) (is .words) (is .is) },
+      ),
     )
 
 returns : tie.Need-returns
@@ -29,14 +35,13 @@ returns c =
     let start = c .before .before .before .before .before .before .before .before .before .before .before .before .before .before .before in
     let a = start .args in
     let is = start .pre .1 in
-    listing-answers fromLeft (a .index .now) (a .question .now) (a .out .now) _ _ (is .tree) (is .words) (is .is)
-    (c .before .before .put-answer .ensures (is .tree)
-    (compiled-prepared (c .before .before .before .before .before .before .before .before .before .compile .ensures) (start .pre .0) (is .tree) (is .words)
-    (is .is)))
+    listing-answers (a .rule) (a .index .now) (a .question .now) (a .out .now) _ _ (is .tree) (is .words) (is .is)
+    (c .before .before .answer-codes .ensures (is .tree)
+    (compiled-ready (c .before .before .before .before .before .before .before .before .before .compile .ensures) (a .rule) (is .tree) (is .words) (is .is)))
 
 pub answer-accepted-spec : {M : Type 1} → statement M
 answer-accepted-spec =
     tie.close
     (tie.spec
     (λ c. search needs) (λ c. search needs) compile-requires (λ c. search needs) (λ c. search needs) (λ c. search needs)
-    (λ c. search needs) put-answer-requires (λ c. search needs) returns)
+    (λ c. search needs) answer-codes-requires (λ c. search needs) returns)
