@@ -20,8 +20,7 @@ use Rattle.index.specs.declared.Checked.{Checked}
 use Rattle.index.specs.declared.Checked.the-variants.{Good, Refused}
 use Rattle.index.specs.Sound.{Sound}
 use Rattle.index.proofs.CheckLaws.{good-sound}
-use Rattle.question.specs.Grammar.{fromLeft}
-use Rattle.question.specs.Reading.{Parsed, parses, refuses, parsed}
+use Rattle.question.specs.Reading.{Parsed, parses, refuses, asked}
 use Rattle.query.specs.Ask.{satisfying, askAnswer, askCells}
 use Rattle.parts.proofs.PartLaws.{counts-within}
 use Rattle.lines.specs.Room.{answerCells, lineRoom}
@@ -64,7 +63,7 @@ line-same number Good index (parses t k) room out = listed-same number (satisfyi
 
 module _ {index question out out′ : List ℕ} {r : Answer} (p : AnswersLine index question out out′ r) where
   pub answer-within : shown r ≤ length out
-  answer-within = rw (p .answer) (omega (arith, shown-within (fileCheck index) index (parsed fromLeft question) (length out / 2)))
+  answer-within = rw (p .answer) (omega (arith, shown-within (fileCheck index) index (asked 1 question) (length out / 2)))
 
   pub line-room : (number : ℕ) → length out′ ≤ answerCells → length (lineOf number r out′) ≤ lineRoom
   line-room number h = line-short number r out′ h
@@ -72,7 +71,7 @@ module _ {index question out out′ : List ℕ} {r : Answer} (p : AnswersLine in
   pub question-line : (number : ℕ) → length out ≡ answerCells → lineOf number r out′ ≡ questionLine index number question
   question-line number h =
       let room : length out / 2 ≡ 8192 = omega arith in
-      rw (p .answer, p .cells, room) (line-same number (fileCheck index) index (parsed fromLeft question) 8192 out)
+      rw (p .answer, p .cells, room) (line-same number (fileCheck index) index (asked 1 question) 8192 out)
 
 -- the bytes of a text that was written are bytes of what it was written into
 pub written-counts : {out text out′ : List ℕ} {r : ℕ} → PutFirst out text out′ r → Counts r out′

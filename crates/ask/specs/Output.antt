@@ -10,8 +10,7 @@ use Rattle.list.specs.declared.answer.Answer.{Answer}
 use Rattle.index.specs.declared.Checked.{Checked}
 use Rattle.index.specs.declared.Checked.the-variants.{Refused}
 use Rattle.index.specs.Check.{checkOf}
-use Rattle.question.specs.Grammar.{fromLeft}
-use Rattle.question.specs.Reading.{parsed}
+use Rattle.question.specs.Reading.{asked}
 use Rattle.query.specs.Ask.{askAnswer, askCells}
 use Rattle.lines.specs.Line.{lineOf}
 
@@ -23,12 +22,12 @@ indexMost = 65536
 abbrev pub fileCheck : List ℕ → Checked
 fileCheck index = cond (ltb indexMost (length index)) (Refused (IndexLength (indexMost + 1))) (checkOf index)
 
--- Reference 10: what a question is answered with, where `room` intervals have room in the cells `out`
+-- Reference 10: what a question is answered with, by the first rule, where `room` intervals have room in the cells `out`
 abbrev pub answerTo : List ℕ → List ℕ → ℕ → Answer
-answerTo index question room = askAnswer (fileCheck index) index (parsed fromLeft question) room
+answerTo index question room = askAnswer (fileCheck index) index (asked 1 question) room
 
 abbrev pub cellsFor : List ℕ → List ℕ → ℕ → List ℕ → List ℕ
-cellsFor index question room out = askCells (fileCheck index) index (parsed fromLeft question) room out
+cellsFor index question room out = askCells (fileCheck index) index (asked 1 question) room out
 
 -- Reference 8.6: the promise of a line, that of a question by what was read of the file
 pub record AnswersLine (index question out out′ : List ℕ) (r : Answer) : Type 0 where

@@ -11,6 +11,7 @@ use index::check::check_index;
 use lines::line::write_line;
 use list::answer::Answer;
 use query::ask::answer_question;
+use question::rule::FROM_LEFT;
 use refusal::Refusal;
 
 // The most bytes of a file that are taken as an index.
@@ -33,7 +34,7 @@ fn answer_line(index: &[u8], checked: Checked, question: &[u8], cells: &mut [u32
     ensures { λ r. ⌜ AnswersLine (now (index .entry)) (now (question .entry)) (now (cells .entry)) (now (cells .exit)) r ⌝ }
 {
     match checked {
-        Checked::Good => answer_question(index, question, cells),
+        Checked::Good => answer_question(index, FROM_LEFT, question, cells),
         Checked::Refused(refusal) => Answer::Refused(refusal),
     }
 }

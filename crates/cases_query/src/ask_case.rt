@@ -2,6 +2,7 @@
 ghost use mathlib.Core.Path.{_≡_};
 ghost use lib.ListN.{length};
 use list::answer::Answer;
+use script::number::number32;
 use script::number::within;
 use script::part::field;
 use script::text::read_text;
@@ -73,9 +74,10 @@ fn fresh_cells() -> [u32; 2048]
 // Lends as many of the cells as the line says.
 fn ask_in(line: &[u8], index: &[u8], cells: &mut [u32]) {
     let mut question = [0u8; 512];
-    let n = read_text(field(line, 3), &mut question);
-    let room = within(field(line, 2), cells.len());
-    let answer = query::ask::ask(index, &question[..n], &mut cells[..room]);
+    let n = read_text(field(line, 4), &mut question);
+    let room = within(field(line, 3), cells.len());
+    let rule = number32(field(line, 2));
+    let answer = query::ask::ask(index, rule, &question[..n], &mut cells[..room]);
     print_answer(answer, cells);
 }
 

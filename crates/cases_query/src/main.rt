@@ -1,8 +1,8 @@
 // Cases of questions, one a line of standard input, which is written with its answer:
-//   read|question              reading it: refusal or 0, its value or the number of words, and where each word stands
-//   lay|items                  the index that the lines below ask, from nothing (script::lay has the items)
-//   ask|items|room|question    asked of a copy of the index with the items laid over it, with the first `room` cells lent: as the asking program
-//                              writes it, and `changed` where a cell that is not the answer's was written
+//   read|rule|question           reading it: refusal or 0, its value or the number of words, and where each word stands
+//   lay|items                    the index that the lines below ask, from nothing (script::lay has the items)
+//   ask|items|rule|room|question asked of a copy of the index with the items laid over it, with the first `room` cells lent: as the asking program
+//                                writes it, and `changed` where a cell that is not the answer's was written
 // What stands behind these fields is a remark. A line that begins with # is a heading.
 use check::same;
 use script::lay::change;

@@ -3,6 +3,7 @@ use question::Verdict;
 use question::token::Token;
 use question::token::next_token;
 use question::token::token_end;
+use script::number::number32;
 use script::part::field;
 use script::text::read_text;
 
@@ -38,8 +39,8 @@ fn print_places(question: &[u8]) {
     }
 }
 
-fn read_question(question: &[u8]) {
-    match question::read_question(question) {
+fn read_question(rule: u32, question: &[u8]) {
+    match question::read_question(rule, question) {
         Verdict::Accepted(words) => {
             print_two(0, b" ", words as u64);
             print_places(question);
@@ -56,6 +57,6 @@ fn read_question(question: &[u8]) {
 
 pub fn read(line: &[u8]) {
     let mut question = [0u8; 512];
-    let n = read_text(field(line, 1), &mut question);
-    read_question(&question[..n]);
+    let n = read_text(field(line, 2), &mut question);
+    read_question(number32(field(line, 1)), &question[..n]);
 }

@@ -39,6 +39,7 @@ number-above-zero (refusal.BuildCount i) = omega arith
 number-above-zero (refusal.BuildSize i) = omega arith
 number-above-zero refusal.ProbeRange = omega arith
 number-above-zero (refusal.NoWord i) = omega arith
+number-above-zero (refusal.RuleNumber i) = omega arith
 
 -- by what the index and the number are refused by, if anything
 agree-at : (index : Slice) (i : ℕ) (k : Checked) → entryCheck (index .bytes) i ≡ k →

@@ -6,7 +6,6 @@ use Rattle.list.specs.declared.Written.{Written}
 use Rattle.list.specs.declared.answer.Answer.{Answer}
 use Rattle.convert.specs.Convert.{ToIntervals, ToNumbers}
 use Rattle.join.specs.Join.{Joins}
-use Rattle.question.specs.Grammar.{fromLeft}
 use Rattle.query.specs.Ask.{Asks}
 use Rattle.build.specs.Build.{Builds}
 use Rattle.naburain.specs.declared.WrittenResult.{WrittenResult}
@@ -32,9 +31,9 @@ pub record JoinExported (method : List (List ℕ) → List ℕ) (index entries o
   pub result : r ≡ answerResult answer
 
 -- Reference 8.6
-pub record AskExported (index question out out′ : List ℕ) (r : AnsweredResult) : Type 0 where
+pub record AskExported (rule : ℕ) (index question out out′ : List ℕ) (r : AnsweredResult) : Type 0 where
   pub answer : Answer
-  pub promise : Asks fromLeft index question out out′ answer
+  pub promise : Asks rule index question out out′ answer
   pub result : r ≡ answerResult answer
 
 -- Reference 8.9

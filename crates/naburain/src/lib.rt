@@ -256,12 +256,17 @@ pub extern "C" fn naburain_intersection_probing(
     answer_result(join::join::intersection_probing(index, entries, cells))
 }
 
-// Reference 8.6: refusals 1 to 5, 6, 7, 8, 9 to 11, 12.
+// Reference 8.6: refusals 1 to 5, 22, 6, 7, 8, 9 to 11, 12.
 #[no_mangle]
-pub extern "C" fn naburain_ask(index: &[u8], question: &[u8], cells: &mut [u32]) -> AnsweredResult
-    ensures { λ r. ⌜ AskExported (now (index .entry)) (now (question .entry)) (now (cells .entry)) (now (cells .exit)) r ⌝ }
+pub extern "C" fn naburain_ask(
+    index: &[u8],
+    rule: u32,
+    question: &[u8],
+    cells: &mut [u32],
+) -> AnsweredResult
+    ensures { λ r. ⌜ AskExported rule (now (index .entry)) (now (question .entry)) (now (cells .entry)) (now (cells .exit)) r ⌝ }
 {
-    answer_result(query::ask::ask(index, question, cells))
+    answer_result(query::ask::ask(index, rule, question, cells))
 }
 
 // Reference 8.9: refusals 19 with 0, 17, 18, 15, 19 with 1, 12.

@@ -7,7 +7,6 @@ use Rattle.index.specs.Part.{Slice}
 use Rattle.index.specs.Check.{checkOf}
 use Rattle.directory.specs.Entry.{lookupOf, entryCheck, entryWord, probeOf}
 use Rattle.join.specs.Join.{Joins}
-use Rattle.question.specs.Grammar.{Rule, fromLeft}
 use Rattle.question.specs.Reading.{verdictOf}
 use Rattle.query.specs.Ask.{Answers, Asks}
 use Rattle.build.specs.Build.{Builds}
@@ -37,8 +36,8 @@ word-determined index i = one-value (entryWord index i)
 pub probe-determined : (index : List ℕ) (i a b : ℕ) → OneReturn (λ r. r ≡ probeOf index i a b)
 probe-determined index i a b = one-value (probeOf index i a b)
 
-pub reading-determined : (question : List ℕ) → OneReturn (λ r. r ≡ verdictOf question)
-reading-determined question = one-value (verdictOf question)
+pub reading-determined : (rule : ℕ) (question : List ℕ) → OneReturn (λ r. r ≡ verdictOf rule question)
+reading-determined rule question = one-value (verdictOf rule question)
 
 -- ---- calls that write
 
@@ -52,10 +51,10 @@ numbers-determined c out a b r s p q = (p .answer ∙ sym (q .answer), p .cells 
 pub joins-determined : (method : List (List ℕ) → List ℕ) (index entries out : List ℕ) → OneOutcome (Joins method index entries out)
 joins-determined method index entries out a b r s p q = (p .answer ∙ sym (q .answer), p .cells ∙ sym (q .cells))
 
-pub answers-determined : (rule : Rule) (index question out : List ℕ) → OneOutcome (Answers rule index question out)
+pub answers-determined : (rule : ℕ) (index question out : List ℕ) → OneOutcome (Answers rule index question out)
 answers-determined rule index question out a b r s p q = (p .answer ∙ sym (q .answer), p .cells ∙ sym (q .cells))
 
-pub asks-determined : (rule : Rule) (index question out : List ℕ) → OneOutcome (Asks rule index question out)
+pub asks-determined : (rule : ℕ) (index question out : List ℕ) → OneOutcome (Asks rule index question out)
 asks-determined rule index question out a b r s p q = (p .answer ∙ sym (q .answer), p .cells ∙ sym (q .cells))
 
 pub builds-determined : (n : ℕ) (words counts numbers out : List ℕ) → OneOutcome (Builds n words counts numbers out)
@@ -90,9 +89,9 @@ join-exported-determined method index entries out a b r s p q =
     let same = joins-determined method index entries out a b (p .answer) (q .answer) (p .promise) (q .promise) in
     (p .result ∙ ap answerResult (same .0) ∙ sym (q .result), same .1)
 
-pub ask-exported-determined : (index question out : List ℕ) → OneOutcome (AskExported index question out)
-ask-exported-determined index question out a b r s p q =
-    let same = asks-determined fromLeft index question out a b (p .answer) (q .answer) (p .promise) (q .promise) in
+pub ask-exported-determined : (rule : ℕ) (index question out : List ℕ) → OneOutcome (AskExported rule index question out)
+ask-exported-determined rule index question out a b r s p q =
+    let same = asks-determined rule index question out a b (p .answer) (q .answer) (p .promise) (q .promise) in
     (p .result ∙ ap answerResult (same .0) ∙ sym (q .result), same .1)
 
 pub build-exported-determined : (n : ℕ) (words counts numbers out : List ℕ) → OneOutcome (BuildExported n words counts numbers out)

@@ -16,7 +16,7 @@ use Rattle.directory.specs.Standing.{standingOf}
 use Rattle.directory.specs.Entry.{lookupOf}
 use Rattle.question.specs.Token.{run, gather, tokensAt, tokens}
 use Rattle.question.specs.Grammar.{fromLeft, question, operand, links, whole}
-use Rattle.question.specs.Reading.{isForeign, refusalOf, refuses, parsed}
+use Rattle.question.specs.Reading.{isForeign, refusalOf, refuses, parsed, asked}
 use Rattle.promises.specs.Example.{example, capitals, holding}
 
 sound : (checkOf example ≡ Good) × (checkOf holding ≡ Good)
@@ -33,6 +33,6 @@ pub holding-found : lookupOf holding capitals ≡ Entry 0
 unfolding lookupOf standingOf firstFrom first same entryPlace wordStart wordLength wordOf
 holding-found = rw holding-good
 
-pub holding-unasked : parsed fromLeft capitals ≡ refuses (Grammar 0)
-unfolding isWordByte same smallLetter smallOperatorOf operatorOf firstFrom first run gather tokensAt tokens fromLeft question operand links whole isForeign refusalOf parsed
+pub holding-unasked : asked 1 capitals ≡ refuses (Grammar 0)
+unfolding isWordByte same smallLetter smallOperatorOf operatorOf firstFrom first run gather tokensAt tokens fromLeft question operand links whole isForeign refusalOf parsed asked
 holding-unasked = refl

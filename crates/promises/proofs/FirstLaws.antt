@@ -48,8 +48,8 @@ unfolding tokenWords
 first-of-tokens =
     tokens-hold (λ ts. Alone (firstOf (tokenWords ts))) none-alone (λ w p ts b e h. word-alone w b e) (λ t ts e h. subst (λ ws. Alone (firstOf ws)) (sym e) h)
 
-pub first-word-twice : (a : List ℕ × List ℕ) → firstWord (firstWord a) ≡ firstWord a
-first-word-twice a = ap (λ q. (a .0, q)) (first-of-tokens (a .1))
+pub first-word-twice : (a : List ℕ × ℕ × List ℕ) → firstWord (firstWord a) ≡ firstWord a
+first-word-twice a = ap (λ (q : List ℕ). (a .0, a .1, q)) (first-of-tokens (a .2))
 
 -- ---- a build
 

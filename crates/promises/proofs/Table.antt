@@ -1,4 +1,4 @@
--- P1 to P12, computed: the questions from the index's bytes on, the unions and intersections up to 9, above which none of their lists names anything.
+-- P1 to P13, computed: the questions from the index's bytes on, the unions and intersections up to 9, above which none of their lists names anything.
 use Prim.Native.Nat.{ℕ, _/_}
 use native.Mathlib.Omega.{arith}
 use mathlib.Core.Path.{_≡_, refl, sym, ap, _∙_}
@@ -19,7 +19,8 @@ use Rattle.directory.specs.Has.{hasWithin, has}
 use Rattle.question.specs.Token.{run, gather, tokensAt, tokens}
 use Rattle.question.specs.Grammar.{fromLeft, question, operand, links, whole}
 use Rattle.question.specs.Meaning.{satisfies}
-use Rattle.question.specs.Reading.{isForeign, refusalOf, parsed}
+use Rattle.question.specs.Rules.{firstGroup, laterGroups, andFirst}
+use Rattle.question.specs.Reading.{isForeign, refusalOf, parsed, asked}
 use Rattle.query.specs.Ask.{satisfying, treeAnswer, treeCells, askAnswer, askCells, Asks}
 use Rattle.promises.specs.Example.{example}
 use Rattle.promises.specs.Table.{AllRight, table}
@@ -27,13 +28,13 @@ use Rattle.promises.proofs.Rows.{_&_}
 use Rattle.promises.proofs.ExampleLaws.{example-good}
 
 -- a question over the example's index: once that is good, what the question comes to
-pub asks-example : (s out out′ : List ℕ) (r : Answer) → r ≡ treeAnswer example (parsed fromLeft s) (length out / 2) →
-    out′ ≡ treeCells example (parsed fromLeft s) (length out / 2) out → Asks fromLeft example s out out′ r
-asks-example s out out′ r a c =
+pub asks-example : (rule : ℕ) (s out out′ : List ℕ) (r : Answer) → r ≡ treeAnswer example (asked rule s) (length out / 2) →
+    out′ ≡ treeCells example (asked rule s) (length out / 2) out → Asks rule example s out out′ r
+asks-example rule s out out′ r a c =
     let room = length out / 2 in
     record {
-      answer = a ∙ ap (λ g. askAnswer g example (parsed fromLeft s) room) (sym example-good);
-      cells = c ∙ ap (λ g. askCells g example (parsed fromLeft s) room out) (sym example-good);
+      answer = a ∙ ap (λ g. askAnswer g example (asked rule s) room) (sym example-good);
+      cells = c ∙ ap (λ g. askCells g example (asked rule s) room out) (sym example-good);
     }
 
 pub union-is : (lists : List (List ℕ)) (c : List ℕ) → AllProper 9 lists → cellsOf (inSome lists) 9 ≡ c → unionOf lists ≡ c
@@ -44,18 +45,19 @@ pub intersection-is : (l : List ℕ) (lists : List (List ℕ)) (c : List ℕ) �
 intersection-is l lists c p e = sym (intersection-limit 9 l lists (omega arith) p) ∙ e
 
 pub table-right : AllRight table
-unfolding firstFrom first isWordByte same smallLetter smallOperatorOf operatorOf properFrom isProper names records stretches cellsOf inSome inEvery belowCount overlapCount numbersIn walkFrom walked entryPlace wordStart wordLength listStart singleCount pairCount wordOf singlesOf lowerOf upperOf listOf hasWithin has run gather tokensAt tokens fromLeft question operand links whole satisfies isForeign refusalOf parsed satisfying
+unfolding firstFrom first isWordByte same smallLetter smallOperatorOf operatorOf properFrom isProper names records stretches cellsOf inSome inEvery belowCount overlapCount numbersIn walkFrom walked entryPlace wordStart wordLength listStart singleCount pairCount wordOf singlesOf lowerOf upperOf listOf hasWithin has run gather tokensAt tokens fromLeft firstGroup laterGroups andFirst question operand links whole satisfies isForeign refusalOf parsed asked satisfying
 table-right =
-    asks-example _ _ _ _ refl refl
-    & asks-example _ _ _ _ refl refl
-    & asks-example _ _ _ _ refl refl
-    & asks-example _ _ _ _ refl refl
-    & asks-example _ _ _ _ refl refl
-    & asks-example _ _ _ _ refl refl
-    & asks-example _ _ _ _ refl refl
+    asks-example _ _ _ _ _ refl refl
+    & asks-example _ _ _ _ _ refl refl
+    & asks-example _ _ _ _ _ refl refl
+    & asks-example _ _ _ _ _ refl refl
+    & asks-example _ _ _ _ _ refl refl
+    & asks-example _ _ _ _ _ refl refl
+    & asks-example _ _ _ _ _ refl refl
     & union-is _ _ (refl, (refl, tt)) refl
     & union-is _ _ (refl, (refl, tt)) refl
     & intersection-is _ _ _ refl refl
     & intersection-is _ _ _ refl refl
     & (refl, refl)
+    & asks-example _ _ _ _ _ refl refl
     & tt

@@ -9,7 +9,6 @@ use Rattle.refusal.specs.declared.Refusal.the-variants.{Grammar, NoWord}
 use Rattle.refusal.specs.Refusal.{valueOf}
 use Rattle.list.specs.declared.answer.Answer.{Answer}
 use Rattle.list.specs.declared.answer.Answer.the-variants.{Listed, Refused}
-use Rattle.question.specs.Grammar.{fromLeft}
 use Rattle.promises.specs.Example.{boats, harbour, maps, tide, tables, pier, and′, or′, not′, example}
 use Rattle.promises.specs.Table.{Row, line, union, intersection, probe, lent, Right, AllRight, tallied, table}
 use Rattle.promises.specs.Wrong.{answerRefused, recordsIn}
@@ -20,8 +19,9 @@ use Rattle.promises.proofs.Made.{some-is}
 
 -- ---- one result for each row
 
-pub line-one : (question : List ℕ) (r s : Answer) (c d : List ℕ) → Right (line question r c) → Right (line question s d) → (r ≡ s) × (c ≡ d)
-line-one question r s c d p q = asks-determined fromLeft example question lent c d r s p q
+pub line-one : (rule : ℕ) (question : List ℕ) (r s : Answer) (c d : List ℕ) → Right (line rule question r c) → Right (line rule question s d) →
+    (r ≡ s) × (c ≡ d)
+line-one rule question r s c d p q = asks-determined rule example question lent c d r s p q
 
 pub union-one : (lists : List (List ℕ)) (c d : List ℕ) → Right (union lists c) → Right (union lists d) → c ≡ d
 union-one lists c d p q = sym p ∙ q
@@ -32,9 +32,9 @@ intersection-one lists c d p q = sym p ∙ q
 pub probe-one : (a b : ℕ) (list : List ℕ) (i j k l : ℕ) → Right (probe a b list i j) → Right (probe a b list k l) → (i ≡ k) × (j ≡ l)
 probe-one a b list i j k l p q = (sym (p .0) ∙ q .0, sym (p .1) ∙ q .1)
 
--- ---- all rows: twelve, and each is right where all are
+-- ---- all rows: thirteen, and each is right where all are
 
-pub table-rows : length table ≡ 12
+pub table-rows : length table ≡ 13
 table-rows = refl
 
 pub row-right : (rows : List Row) (i : ℕ) → i < length rows → AllRight rows → Right (getD rows i (union [] []))
@@ -49,41 +49,41 @@ wrong-among (b ∷ bs) after r wrong p = wrong-among bs after r wrong (p .1)
 -- ---- each row with what a slip would make of it
 
 -- a line with another answer, or with other cells
-not-answer : {question : List ℕ} {r s : Answer} {c d : List ℕ} → Right (line question r c) → (r ≡ s → ⊥) → Right (line question s d) → ⊥
-not-answer {question} {r} {s} {c} {d} right differ p = differ (line-one question r s c d right p .0)
+not-answer : {rule : ℕ} {question : List ℕ} {r s : Answer} {c d : List ℕ} → Right (line rule question r c) → (r ≡ s → ⊥) → Right (line rule question s d) → ⊥
+not-answer {rule} {question} {r} {s} {c} {d} right differ p = differ (line-one rule question r s c d right p .0)
 
-not-cells : {question : List ℕ} {r s : Answer} {c d : List ℕ} → Right (line question r c) → (c ≡ d → ⊥) → Right (line question s d) → ⊥
-not-cells {question} {r} {s} {c} {d} right differ p = differ (line-one question r s c d right p .1)
+not-cells : {rule : ℕ} {question : List ℕ} {r s : Answer} {c d : List ℕ} → Right (line rule question r c) → (c ≡ d → ⊥) → Right (line rule question s d) → ⊥
+not-cells {rule} {question} {r} {s} {c} {d} right differ p = differ (line-one rule question r s c d right p .1)
 
 other-records : {i j : ℕ} (k l : ℕ) → (k ≡ l → ⊥) → tallied i k ≡ tallied j l → ⊥
 other-records k l differ e = differ (some-is k l (ap recordsIn e))
 
 -- a record too many
-pub p1-records : Right (line (boats ++ or′ ++ tide) (tallied 2 6) (2 ∷ 4 ∷ 8 ∷ 9 ∷ [])) → ⊥
+pub p1-records : Right (line 1 (boats ++ or′ ++ tide) (tallied 2 6) (2 ∷ 4 ∷ 8 ∷ 9 ∷ [])) → ⊥
 p1-records = not-answer (row-right table 0 (omega arith) table-right) (other-records 5 6 (λ e. omega arith))
 
 -- the second word's last record lost
-pub p1-cells : Right (line (boats ++ or′ ++ tide) (tallied 2 5) (2 ∷ 4 ∷ 8 ∷ 8 ∷ [])) → ⊥
+pub p1-cells : Right (line 1 (boats ++ or′ ++ tide) (tallied 2 5) (2 ∷ 4 ∷ 8 ∷ 8 ∷ [])) → ⊥
 p1-cells = not-cells (row-right table 0 (omega arith) table-right) (differ-at 3 (2 ∷ 4 ∷ 8 ∷ 9 ∷ []) (2 ∷ 4 ∷ 8 ∷ 8 ∷ []) (λ e. omega arith))
 
 -- intervals that touch left apart
-pub p2-apart : Right (line (boats ++ or′ ++ maps) (tallied 2 8) (2 ∷ 4 ∷ 5 ∷ 9 ∷ [])) → ⊥
+pub p2-apart : Right (line 1 (boats ++ or′ ++ maps) (tallied 2 8) (2 ∷ 4 ∷ 5 ∷ 9 ∷ [])) → ⊥
 p2-apart = not-cells (row-right table 1 (omega arith) table-right) (differ-at 1 (2 ∷ 9 ∷ 0 ∷ 0 ∷ []) (2 ∷ 4 ∷ 5 ∷ 9 ∷ []) (λ e. omega arith))
 
 -- `and` read as `or`
-pub p3-either : Right (line (harbour ++ and′ ++ maps ++ not′ ++ tide) (tallied 2 5) (1 ∷ 2 ∷ 5 ∷ 7 ∷ [])) → ⊥
+pub p3-either : Right (line 1 (harbour ++ and′ ++ maps ++ not′ ++ tide) (tallied 2 5) (1 ∷ 2 ∷ 5 ∷ 7 ∷ [])) → ⊥
 p3-either = not-answer (row-right table 2 (omega arith) table-right) (other-records 2 5 (λ e. omega arith))
 
 -- `and` before `or`
-pub p4-ranked : Right (line (boats ++ or′ ++ harbour ++ and′ ++ maps) (tallied 2 6) (2 ∷ 4 ∷ 6 ∷ 8 ∷ [])) → ⊥
+pub p4-ranked : Right (line 1 (boats ++ or′ ++ harbour ++ and′ ++ maps) (tallied 2 6) (2 ∷ 4 ∷ 6 ∷ 8 ∷ [])) → ⊥
 p4-ranked = not-answer (row-right table 3 (omega arith) table-right) (other-records 2 6 (λ e. omega arith))
 
 -- brackets passed over
-pub p5-flat : Right (line (boats ++ or′ ++ 40 ∷ (harbour ++ and′ ++ maps ++ 41 ∷ [])) (tallied 1 2) (6 ∷ 7 ∷ 0 ∷ 0 ∷ [])) → ⊥
+pub p5-flat : Right (line 1 (boats ++ or′ ++ 40 ∷ (harbour ++ and′ ++ maps ++ 41 ∷ [])) (tallied 1 2) (6 ∷ 7 ∷ 0 ∷ 0 ∷ [])) → ⊥
 p5-flat = not-answer (row-right table 4 (omega arith) table-right) (other-records 6 2 (λ e. omega arith))
 
 -- the place before the word that may not stand there
-pub p6-place : Right (line (tide ++ 32 ∷ tables) (Refused (Grammar 4)) lent) → ⊥
+pub p6-place : Right (line 1 (tide ++ 32 ∷ tables) (Refused (Grammar 4)) lent) → ⊥
 p6-place = not-answer (row-right table 5 (omega arith) table-right) (λ e. let z : _≡_ {A = ℕ} 5 4 = ap value e in omega arith)
   where
     value : Answer → ℕ
@@ -91,7 +91,7 @@ p6-place = not-answer (row-right table 5 (omega arith) table-right) (λ e. let z
     value (Refused r) = valueOf r
 
 -- a word that no record has, refused
-pub p7-refused : Right (line pier (Refused (NoWord 3)) lent) → ⊥
+pub p7-refused : Right (line 1 pier (Refused (NoWord 3)) lent) → ⊥
 p7-refused = not-answer (row-right table 6 (omega arith) table-right) (λ e. true-false (sym (ap answerRefused e)))
 
 -- intervals that touch left apart
@@ -124,6 +124,10 @@ pub p12-overlapping : Right (probed 0 1) → ⊥
 p12-overlapping p =
     let e : _≡_ {A = ℕ} 2 1 = probe-one 4 6 _ 0 2 0 1 (row-right table 11 (omega arith) table-right) p .1 in
     omega arith
+
+-- `or` and `and` in one rank
+pub p13-flat : Right (line 2 (boats ++ or′ ++ harbour ++ and′ ++ maps) (tallied 1 2) (6 ∷ 7 ∷ 0 ∷ 0 ∷ [])) → ⊥
+p13-flat = not-answer (row-right table 12 (omega arith) table-right) (other-records 6 2 (λ e. omega arith))
 
 -- wherever such a row stands, the table is not right
 pub table-wrong : (before after : List Row) → AllRight (before ++ probed 0 1 ∷ after) → ⊥

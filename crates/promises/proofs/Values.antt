@@ -44,12 +44,12 @@ refusals-told = (refl, refl, refl, refl, refl, refl, refl)
 
 -- `boats or tide`, ` boats`, `(boats) or tide`, `((boats or tide))`, `or boats`, and a question with no word
 pub first-words :
-    (firstWord ([], boats ++ or′ ++ tide) ≡ ([], boats))
-    × (firstWord ([], 32 ∷ boats) ≡ ([], boats))
-    × (firstWord ([], 40 ∷ boats ++ 41 ∷ or′ ++ tide) ≡ ([], boats))
-    × (firstWord ([], 40 ∷ 40 ∷ boats ++ or′ ++ tide ++ 41 ∷ 41 ∷ []) ≡ ([], boats))
-    × (firstWord ([], or′ ++ boats) ≡ ([], boats))
-    × (firstWord (boats, 40 ∷ 41 ∷ []) ≡ (boats, []))
+    (firstWord ([], 1, boats ++ or′ ++ tide) ≡ ([], 1, boats))
+    × (firstWord ([], 1, 32 ∷ boats) ≡ ([], 1, boats))
+    × (firstWord ([], 1, 40 ∷ boats ++ 41 ∷ or′ ++ tide) ≡ ([], 1, boats))
+    × (firstWord ([], 1, 40 ∷ 40 ∷ boats ++ or′ ++ tide ++ 41 ∷ 41 ∷ []) ≡ ([], 1, boats))
+    × (firstWord ([], 1, or′ ++ boats) ≡ ([], 1, boats))
+    × (firstWord (boats, 2, 40 ∷ 41 ∷ []) ≡ (boats, 2, []))
 unfolding isWordByte same smallLetter smallOperatorOf operatorOf gather tokensAt tokens tokenWords
 first-words = (refl, refl, refl, refl, refl, refl)
 

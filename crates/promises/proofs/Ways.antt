@@ -5,10 +5,9 @@ use mathlib.Core.Path.{_≡_, refl, sym, ap, _∙_}
 use mathlib.Core.List.{List, _++_}
 use Rattle.list.specs.Ginix.{unionOf, intersectionOf}
 use Rattle.index.specs.Check.{checkOf}
-use Rattle.question.specs.Reading.{verdictOf}
 use Rattle.promises.specs.Example.{boats, tide, or′, example}
 use Rattle.promises.specs.Table.{lent, tallied, table}
-use Rattle.promises.specs.Wrong.{Meets, Misreporting, toIntervals, toNumbers, joins, asks, builds, lookup, entry, word, probe, writtenRefused}
+use Rattle.promises.specs.Wrong.{Meets, Misreporting, toIntervals, toNumbers, joins, asks, builds, lookup, entry, word, probe, reads, writtenRefused}
 use Rattle.promises.specs.Wrong.{answerRefused, checkRefused, lookupRefused, partRefused, probeRefused, verdictRefused, firstEntry, firstWord}
 use Rattle.promises.specs.Wrong.{firstBuilt, intervalsIn}
 use Rattle.promises.specs.Made.{rightIntervals, rightNumbers, rightJoin, rightAsk, rightBuild, returning, withIntervals, WrongWays, WrongFirst}
@@ -92,10 +91,10 @@ ask-counts = wrong-counts rightAsk ask.ask-inventing-intervals ask.ask-inventing
 -- P1 with seven intervals for its two
 pub ask-misreports : Misreporting asks intervalsIn (returning (λ a out. withIntervals 7) rightAsk)
 ask-misreports =
-    misreporting-kind rightAsk ask-met intervalsIn (λ a out. withIntervals 7) (example, boats ++ or′ ++ tide) lent
+    misreporting-kind rightAsk ask-met intervalsIn (λ a out. withIntervals 7) (example, 1, boats ++ or′ ++ tide) lent
     (λ e. let z : _≡_ {A = ℕ} 7 2 = some-is 7 2 (sym (ap (λ r. intervalsIn (withIntervals 7 r)) answered) ∙ e ∙ ap intervalsIn answered) in omega arith)
   where
-    answered : rightAsk (example, boats ++ or′ ++ tide) lent .0 ≡ tallied 2 5
+    answered : rightAsk (example, 1, boats ++ or′ ++ tide) lent .0 ≡ tallied 2 5
     answered = sym (row-right table 0 (omega arith) table-right .answer)
 
 -- ---- a build
@@ -135,5 +134,5 @@ probe-way = wrong-refusal probe probeRefused returns.probe-refusing
 pub probe-counts : WrongProbe probe
 probe-counts = wrong-probe probe returns.probe-inventing-below returns.probe-inventing-overlapping
 
-pub reading-way : WrongRefusal verdictOf verdictRefused
-reading-way = wrong-refusal verdictOf verdictRefused returns.reading-refusing
+pub reading-way : WrongRefusal reads verdictRefused
+reading-way = wrong-refusal reads verdictRefused returns.reading-refusing

@@ -1,7 +1,7 @@
--- The wrong ways to answer a question, by P1, P2 and `boats` over the example's index.
+-- The wrong ways to answer a question, by P1, P2, P4, P13 and `boats` over the example's index.
 use Prim.Native.Nat.{ℕ}
 use native.Mathlib.Omega.{arith}
-use mathlib.Core.Path.{refl}
+use mathlib.Core.Path.{_≡_, refl, sym, ap, _∙_}
 use mathlib.Core.List.{List, [], _∷_, _++_}
 use mathlib.Core.Option.{Option}
 use Rattle.refusal.specs.First.{firstFrom, first}
@@ -18,16 +18,18 @@ use Rattle.directory.specs.Has.{hasWithin, has}
 use Rattle.question.specs.Token.{run, gather, tokensAt, tokens}
 use Rattle.question.specs.Grammar.{fromLeft, question, operand, links, whole}
 use Rattle.question.specs.Meaning.{satisfies}
-use Rattle.question.specs.Reading.{isForeign, refusalOf, parsed}
+use Rattle.question.specs.Reading.{isForeign, refusalOf, parsed, asked}
 use Rattle.question.specs.Limits.{tokenWords}
 use Rattle.query.specs.Ask.{satisfying, Asks}
-use Rattle.promises.specs.Example.{boats, maps, tide, or′, example}
+use Rattle.promises.specs.Example.{boats, harbour, maps, tide, and′, or′, example}
 use Rattle.promises.specs.Outcome.{OneOutcome}
-use Rattle.promises.specs.Table.{lent, tallied}
-use Rattle.promises.specs.Wrong.{Fails, asks, Refusing, Fixed, Silent, FirstOnly, Inventing, Misreporting, answerRefused, firstWord}
+use Rattle.promises.specs.Table.{lent, tallied, table}
+use Rattle.promises.specs.Wrong.{Fails, asks, Refusing, Fixed, Silent, FirstOnly, RuleBlind, Inventing, Misreporting, answerRefused, firstWord}
 use Rattle.promises.specs.Wrong.{intervalsIn, recordsIn, neededIn}
 use Rattle.promises.proofs.Determined.{asks-determined}
-use Rattle.promises.proofs.Table.{asks-example}
+use Rattle.promises.proofs.Made.{some-is}
+use Rattle.promises.proofs.Table.{asks-example, table-right}
+use Rattle.promises.proofs.TableLaws.{row-right}
 use Rattle.promises.proofs.WrongLaws.{refusing-fails, fixed-fails, silent-fails, first-fails, inventing-fails, misreporting-fails, differ-at}
 
 abbrev boats-or-tide : List ℕ
@@ -39,30 +41,30 @@ boats-or-maps = boats ++ or′ ++ maps
 -- what each comes to, with four cells lent and with none
 abbrev Outcomes : Type 0
 Outcomes =
-    Asks fromLeft example boats-or-tide lent (2 ∷ 4 ∷ 8 ∷ 9 ∷ []) (tallied 2 5)
-    × Asks fromLeft example boats-or-maps lent (2 ∷ 9 ∷ 0 ∷ 0 ∷ []) (tallied 1 8)
-    × Asks fromLeft example boats lent (2 ∷ 4 ∷ 8 ∷ 8 ∷ []) (tallied 2 4)
-    × Asks fromLeft example boats-or-tide [] [] (Refused (Room 2))
-    × Asks fromLeft example boats-or-maps [] [] (Refused (Room 1))
+    Asks 1 example boats-or-tide lent (2 ∷ 4 ∷ 8 ∷ 9 ∷ []) (tallied 2 5)
+    × Asks 1 example boats-or-maps lent (2 ∷ 9 ∷ 0 ∷ 0 ∷ []) (tallied 1 8)
+    × Asks 1 example boats lent (2 ∷ 4 ∷ 8 ∷ 8 ∷ []) (tallied 2 4)
+    × Asks 1 example boats-or-tide [] [] (Refused (Room 2))
+    × Asks 1 example boats-or-maps [] [] (Refused (Room 1))
 
 outcomes : Outcomes
-unfolding firstFrom first isWordByte same smallLetter smallOperatorOf operatorOf names records stretches cellsOf numbersIn walkFrom walked entryPlace wordStart wordLength listStart singleCount pairCount wordOf singlesOf lowerOf upperOf listOf hasWithin has run gather tokensAt tokens fromLeft question operand links whole satisfies isForeign refusalOf parsed satisfying
+unfolding firstFrom first isWordByte same smallLetter smallOperatorOf operatorOf names records stretches cellsOf numbersIn walkFrom walked entryPlace wordStart wordLength listStart singleCount pairCount wordOf singlesOf lowerOf upperOf listOf hasWithin has run gather tokensAt tokens fromLeft question operand links whole satisfies isForeign refusalOf parsed asked satisfying
 outcomes = (
-  asks-example _ _ _ _ refl refl,
-  asks-example _ _ _ _ refl refl,
-  asks-example _ _ _ _ refl refl,
-  asks-example _ _ _ _ refl refl,
-  asks-example _ _ _ _ refl refl,
+  asks-example _ _ _ _ _ refl refl,
+  asks-example _ _ _ _ _ refl refl,
+  asks-example _ _ _ _ _ refl refl,
+  asks-example _ _ _ _ _ refl refl,
+  asks-example _ _ _ _ _ refl refl,
 )
 
-one : (a : List ℕ × List ℕ) (out : List ℕ) → OneOutcome (asks a out)
-one a out = asks-determined fromLeft (a .0) (a .1) out
+one : (a : List ℕ × ℕ × List ℕ) (out : List ℕ) → OneOutcome (asks a out)
+one a out = asks-determined (a .1) (a .0) (a .2) out
 
-abbrev tide-asked : List ℕ × List ℕ
-tide-asked = (example, boats-or-tide)
+abbrev tide-asked : List ℕ × ℕ × List ℕ
+tide-asked = (example, 1, boats-or-tide)
 
-abbrev maps-asked : List ℕ × List ℕ
-maps-asked = (example, boats-or-maps)
+abbrev maps-asked : List ℕ × ℕ × List ℕ
+maps-asked = (example, 1, boats-or-maps)
 
 pub ask-refusing : Fails asks (Refusing answerRefused)
 ask-refusing = refusing-fails one answerRefused tide-asked lent (outcomes .0) refl
@@ -91,3 +93,15 @@ ask-inventing-room = inventing-fails one neededIn tide-asked maps-asked [] 2 1 (
 
 pub ask-misreporting : (number : Answer → Option ℕ) → Fails asks (Misreporting asks number)
 ask-misreporting = misreporting-fails one
+
+-- P4 is answered otherwise by the second rule
+pub ask-rule-blind : Fails asks RuleBlind
+ask-rule-blind f blind meets =
+    let question = boats ++ or′ ++ harbour ++ and′ ++ maps in
+    let first : f (example, 1, question) lent .0 ≡ tallied 1 2 =
+    one (example, 1, question) lent _ _ _ _ (meets (example, 1, question) lent) (row-right table 3 (omega arith) table-right) .0 in
+    let second : f (example, 2, question) lent .0 ≡ tallied 2 6 =
+    one (example, 2, question) lent _ _ _ _ (meets (example, 2, question) lent) (row-right table 12 (omega arith) table-right) .0 in
+    let same : tallied 1 2 ≡ tallied 2 6 = sym first ∙ ap (λ (w : Answer × List ℕ). w .0) (blind example question lent) ∙ second in
+    let records : _≡_ {A = ℕ} 2 6 = some-is 2 6 (ap recordsIn same) in
+    omega arith

@@ -21,9 +21,9 @@ use Rattle.directory.specs.declared.Probed.{Probed}
 use Rattle.directory.specs.declared.Probed.the-variants.{Counted}
 use Rattle.question.specs.Token.{run, gather, tokensAt, tokens}
 use Rattle.question.specs.Grammar.{fromLeft, question, operand, links, whole}
-use Rattle.question.specs.Reading.{isForeign, refusalOf, parsed, verdictOf}
+use Rattle.question.specs.Reading.{isForeign, refusalOf, parsed, asked, verdictOf}
 use Rattle.promises.specs.Example.{boats, pier, example}
-use Rattle.promises.specs.Wrong.{FailsToBe, RefusingAll, InventingAll, lookup, entry, word, probe, checkRefused, lookupRefused, wordRefused}
+use Rattle.promises.specs.Wrong.{FailsToBe, RefusingAll, InventingAll, lookup, entry, word, probe, reads, checkRefused, lookupRefused, wordRefused}
 use Rattle.promises.specs.Wrong.{partRefused, probeRefused, verdictRefused, placeIn, belowIn, overlappingIn}
 use Rattle.promises.proofs.ExampleLaws.{example-good}
 use Rattle.promises.proofs.WrongLaws.{refusing-all-fails, inventing-all-fails}
@@ -92,6 +92,6 @@ probe-inventing-overlapping =
     inventing-all-fails probe overlappingIn (example, 0, 1, 9) (example, 0, 5, 9) 2 1 (ap overlappingIn (counts .0)) (ap overlappingIn (counts .1))
     (λ e. omega arith)
 
-pub reading-refusing : FailsToBe verdictOf (RefusingAll verdictRefused)
-unfolding isWordByte same smallLetter smallOperatorOf operatorOf firstFrom first run gather tokensAt tokens fromLeft question operand links whole isForeign refusalOf parsed verdictOf
-reading-refusing = refusing-all-fails verdictOf verdictRefused boats refl
+pub reading-refusing : FailsToBe reads (RefusingAll verdictRefused)
+unfolding isWordByte same smallLetter smallOperatorOf operatorOf firstFrom first run gather tokensAt tokens fromLeft question operand links whole isForeign refusalOf parsed asked verdictOf
+reading-refusing = refusing-all-fails reads verdictRefused (1, boats) refl

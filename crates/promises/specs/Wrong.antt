@@ -25,8 +25,8 @@ use Rattle.join.specs.Join.{Joins}
 use Rattle.question.specs.declared.reader.Verdict.{Verdict}
 use Rattle.question.specs.declared.reader.Verdict.the-variants as reading
 use Rattle.question.specs.Token.{run, tokens}
+use Rattle.question.specs.Reading.{verdictOf}
 use Rattle.question.specs.Limits.{tokenWords}
-use Rattle.question.specs.Grammar.{fromLeft}
 use Rattle.query.specs.Ask.{Asks}
 use Rattle.build.specs.Build.{Builds}
 
@@ -66,9 +66,13 @@ toNumbers c out out′ r = ToNumbers c out out′ r
 abbrev pub joins : (List (List ℕ) → List ℕ) → Promise (List ℕ × List ℕ) Answer
 joins method a out out′ r = Joins method (a .0) (a .1) out out′ r
 
--- Reference 8.6: an index, and a question
-abbrev pub asks : Promise (List ℕ × List ℕ) Answer
-asks a out out′ r = Asks fromLeft (a .0) (a .1) out out′ r
+-- Reference 8.6: an index, a rule's number, and a question
+abbrev pub asks : Promise (List ℕ × ℕ × List ℕ) Answer
+asks a out out′ r = Asks (a .1) (a .0) (a .2) out out′ r
+
+-- Reference 8.10: a rule's number, and a question
+abbrev pub reads : ℕ × List ℕ → Verdict
+reads a = verdictOf (a .0) (a .1)
 
 -- Reference 8.9: N, the words, the counts and the numbers
 abbrev pub builds : Promise (ℕ × List ℕ × List ℕ × List ℕ) Written
@@ -111,6 +115,10 @@ Silent {A} refused f = (a : A) (out : List ℕ) → Accepts refused f a out → 
 abbrev pub FirstOnly : {A R : Type 0} → (R → Bool) → (A → A) → Writer A R → Type 0
 FirstOnly {A} refused first f =
     (a : A) (out : List ℕ) → Accepts refused f a out → Accepts refused f (first a) out → f a out .1 ≡ f (first a) out .1
+
+-- Reference 6.3: one rule for both numbers, so that it does not matter which is asked for
+abbrev pub RuleBlind : {R : Type 0} → Writer (List ℕ × ℕ × List ℕ) R → Type 0
+RuleBlind f = (index question out : List ℕ) → f (index, 1, question) out ≡ f (index, 2, question) out
 
 -- Reference 11: wherever it reports the number, it is the same
 abbrev pub Inventing : {A R : Type 0} → (R → Option ℕ) → Writer A R → Type 0
@@ -172,8 +180,8 @@ firstOf [] = []
 firstOf (w ∷ ws) = w
 
 -- Reference 6.1: the question's first word, at whatever depth; the empty question where it has none
-abbrev pub firstWord : List ℕ × List ℕ → List ℕ × List ℕ
-firstWord a = (a .0, firstOf (tokenWords (tokens (a .1))))
+abbrev pub firstWord : List ℕ × ℕ × List ℕ → List ℕ × ℕ × List ℕ
+firstWord a = (a .0, a .1, firstOf (tokenWords (tokens (a .2))))
 
 -- Reference 8.9: the first word with its byte 10, its count, and its numbers
 abbrev pub firstBuilt : ℕ × List ℕ × List ℕ × List ℕ → ℕ × List ℕ × List ℕ × List ℕ
