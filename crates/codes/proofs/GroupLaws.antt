@@ -14,7 +14,7 @@ use Rattle.question.specs.Grammar.{Tree, word, pair, part, Link, link, Out, goo
 use Rattle.question.specs.Rules.{firstGroup, laterGroups, andFirst}
 use Rattle.question.specs.Meaning.{satisfies}
 use Rattle.question.specs.Limits.{tokenWords}
-use Rattle.codes.specs.Group.{goesOn, isWide, opening, closing, entered, insideOf, groupedOn, grouped}
+use Rattle.codes.specs.Group.{goesOn, isWide, opening, closing, entered, insideOf, groupedOn, grouped, groupedBrackets}
 use Rattle.codes.proofs.BareLaws.{bare, bareLinks, bare-append, from-left-bare, bare-same, bare-words}
 
 -- ---- a reading from the left that succeeds at each bound on its calls from some bound on; and of what parts it is made up
@@ -355,13 +355,13 @@ mutual
 pub record GroupedAs (ts : List Tok) (t : Tree) (k : ℕ) : Type 0 where
   pub tree : Tree
   pub fuel : ℕ
-  pub reads : question fromLeft fuel 17 0 (grouped ts) ≡ good tree [] k
+  pub reads : question fromLeft fuel groupedBrackets 0 (grouped ts) ≡ good tree [] k
   pub same : bare tree ≡ bare t
 
 pub grouped-reads : (f : ℕ) (ts : List Tok) (t : Tree) (k : ℕ) → question andFirst f 8 0 ts ≡ good t [] k → GroupedAs ts t k
 unfolding groupedOn
 grouped-reads f ts t k e =
-    let w = subst (Told (LevelAs 17 0 0 ts)) e (level-as f 8 16 0 0 ts (omega arith) (omega arith)) over in
+    let w = subst (Told (LevelAs groupedBrackets 0 0 ts)) e (level-as f 8 (groupedBrackets - 1) 0 0 ts (omega arith) (omega arith)) over in
     record { tree = w .got; fuel = w .reads .0; reads = w .reads .1 (w .reads .0) (omega arith); same = w .same }
 
 -- it means the same, and has the same words

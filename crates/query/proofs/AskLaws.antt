@@ -29,7 +29,7 @@ use Rattle.question.proofs.RuleLaws.{rule-keeps, rule-second, rule-else}
 use Rattle.question.proofs.DepthLaws.{deeper-reads}
 use Rattle.query.specs.Ask.{satisfying, Answers, Asks}
 use Rattle.codes.specs.Code.{codesOf, wordCodes}
-use Rattle.codes.specs.Group.{grouped}
+use Rattle.codes.specs.Group.{grouped, groupedBrackets}
 use Rattle.codes.specs.Grouping.{GroupsCodes}
 use Rattle.codes.proofs.CodeLaws.{codes-words}
 use Rattle.codes.proofs.GroupLaws.{GroupedAs, grouped-reads, grouped-same, grouped-words, grouped-token-words}
@@ -105,7 +105,7 @@ plain-prepared {t = t} sound m =
       are = m .are;
       fuel = m .fuel;
       words = m .words;
-      reads = deeper-reads fromLeft (m .fuel) 8 17 0 (m .toks) t [] (m .words) (omega arith) (m .reads);
+      reads = deeper-reads fromLeft (m .fuel) 8 groupedBrackets 0 (m .toks) t [] (m .words) (omega arith) (m .reads);
     })
     (m .all) (m .have)
 

@@ -47,7 +47,7 @@ use Rattle.slots.proofs.SlotLaws.{slots-none}
 pub tree-words : (codes : List ℕ) (t : Tree) → TreeOf codes t → length (treeWords t) ≡ wordCodes codes
 unfolding tokenWords
 tree-words codes t o =
-    let w = subst (Words treeWords 0 (o .toks)) (o .reads) (question-words fromLeft from-left-keeps (o .fuel) 17 0 (o .toks)) in
+    let w = subst (Words treeWords 0 (o .toks)) (o .reads) (question-words fromLeft from-left-keeps (o .fuel) groupedBrackets 0 (o .toks)) in
     sym (ap length (w .0 ∙ append-nil (treeWords t))) ∙ sym (codes-words (o .toks)) ∙ ap wordCodes (o .are)
 
 module _ {codes : List ℕ} {t : Tree} (o : TreeOf codes t) where
