@@ -7,6 +7,7 @@
 #include "others.h"
 #include "probing.h"
 #include "reference.h"
+#include "rules.h"
 #include "words.h"
 
 #include <stdio.h>
@@ -42,7 +43,7 @@ static void plain_sum(const struct job *job)
 static void engine_asks(const struct job *job)
 {
     const struct corpus *c = job->corpus;
-    sink += engine_ask(c->index, c->length, (const uint8_t *)job->question, strlen(job->question), job->cells, job->room).records;
+    sink += engine_ask(c->index, c->length, FROM_LEFT, (const uint8_t *)job->question, strlen(job->question), job->cells, job->room).records;
 }
 
 static void reference_checks(const struct job *job)
@@ -53,7 +54,7 @@ static void reference_checks(const struct job *job)
 static void reference_asks(const struct job *job)
 {
     const struct corpus *c = job->corpus;
-    sink += reference_ask(c->index, c->length, (const uint8_t *)job->question, strlen(job->question), job->cells, job->room).records;
+    sink += reference_ask(c->index, c->length, FROM_LEFT, (const uint8_t *)job->question, strlen(job->question), job->cells, job->room).records;
 }
 
 static void engine_joins(const struct job *job)
@@ -124,9 +125,9 @@ static void bench_questions(const struct corpus *corpus, uint32_t *ours, uint32_
         uint32_t entries[16];
         struct job job = {.corpus = corpus, .question = question, .entries = entries, .cells = ours, .room = room};
         job.entry_count = entries_of(question, entries);
-        size_t length = strlen(question);
-        struct naburain_answered got = naburain_ask(corpus->index, corpus->length, (const uint8_t *)question, length, ours, room);
-        struct engine_result held = engine_ask(corpus->index, corpus->length, (const uint8_t *)question, length, theirs, room);
+        struct naburain_answered got = asked_by(&job, FROM_LEFT, ours);
+        struct engine_result held =
+            engine_ask(corpus->index, corpus->length, FROM_LEFT, (const uint8_t *)question, strlen(question), theirs, room);
         same(question, got, held, ours, theirs);
         double best[5];
         best_of((run *const[]){our_ask, engine_asks, our_check, engine_checks, sum_lists}, 5, &job, best);
@@ -193,9 +194,9 @@ static void bench_reference(const struct corpus *corpus, uint32_t *ours, uint32_
     for (size_t i = 0; i < QUESTION_COUNT; i++) {
         const char *question = QUESTIONS[i].question;
         struct job job = {.corpus = corpus, .question = question, .cells = ours, .room = room};
-        size_t length = strlen(question);
-        struct naburain_answered got = naburain_ask(corpus->index, corpus->length, (const uint8_t *)question, length, ours, room);
-        struct engine_result held = reference_ask(corpus->index, corpus->length, (const uint8_t *)question, length, theirs, room);
+        struct naburain_answered got = asked_by(&job, FROM_LEFT, ours);
+        struct engine_result held =
+            reference_ask(corpus->index, corpus->length, FROM_LEFT, (const uint8_t *)question, strlen(question), theirs, room);
         same(question, got, held, ours, theirs);
         double best[4];
         best_of((run *const[]){our_ask, reference_asks, our_check, reference_checks}, 4, &job, best);
@@ -234,8 +235,7 @@ static void bench_others(const struct corpus *corpus, uint32_t *cells, size_t ro
     for (size_t i = 0; i < QUESTION_COUNT; i++) {
         job.question = QUESTIONS[i].question;
         job.tree = read_question(job.question);
-        uint64_t records =
-            naburain_ask(corpus->index, corpus->length, (const uint8_t *)job.question, strlen(job.question), cells, room).records;
+        uint64_t records = asked_by(&job, FROM_LEFT, cells).records;
         double best[2];
         best_of((run *const[]){our_ask, our_check}, 2, &job, best);
         if (job.roaring != NULL) {
@@ -387,12 +387,18 @@ static void table_words(const struct bench *b)
     bench_words();
 }
 
+static void table_rules(const struct bench *b)
+{
+    bench_rules(b->corpora, b->count, b->ours, b->theirs, b->room);
+}
+
 static const struct {
     const char *name;
     void (*print)(const struct bench *b);
 } TABLES[] = {{"check", table_check},     {"questions", table_questions}, {"joins", table_joins}, {"methods", table_methods},
               {"growth", table_growth},   {"probing", table_probing},     {"rust", table_rust},   {"others", table_others},
-              {"beside", table_beside},   {"build", table_build},         {"words", table_words}};
+              {"beside", table_beside},   {"build", table_build},         {"words", table_words},
+              {"rules", table_rules}};
 
 /* Prints all tables, or those whose name is given. */
 static int print_tables(const struct bench *b, const char *name)

@@ -79,10 +79,34 @@ static struct engine_result scan(const uint8_t *question, size_t length)
     return refused(0, 0);
 }
 
-/* Rows 9, 10, 11. Each open bracket keeps the operator that waits for what it encloses. */
-static struct engine_result parse(struct program *program, const struct sound *index, const uint8_t *question, size_t length)
+/* The operators of one open bracket that wait for their right side: `group` for the next operand, `sum`, by rule 2 alone, for the end of a group. */
+struct waiting {
+    enum code group, sum;
+};
+
+static void put_code(struct program *program, enum code *code)
 {
-    enum code waiting[9] = {0};
+    if (*code != 0) {
+        program->codes[program->code_count++] = (uint8_t)*code;
+    }
+    *code = 0;
+}
+
+/* By rule 2 an `or` ends a group, and waits for the next one. */
+static void take_operator(struct program *program, struct waiting *waiting, enum code operator, uint32_t rule)
+{
+    if (rule == 2 && operator == OR) {
+        put_code(program, &waiting->sum);
+        waiting->sum = OR;
+    } else {
+        waiting->group = operator;
+    }
+}
+
+/* Rows 9, 10, 11. */
+static struct engine_result parse(struct program *program, const struct sound *index, uint32_t rule, const uint8_t *question, size_t length)
+{
+    struct waiting waiting[9] = {{0, 0}};
     int depth = 0, wants_operand = 1;
     for (size_t i = 0; i < length;) {
         size_t start = i;
@@ -94,11 +118,11 @@ static struct engine_result parse(struct program *program, const struct sound *i
             if (depth == 8) {
                 return refused(11, start);
             }
-            waiting[++depth] = 0;
+            depth++;
             continue;
         }
         if (b == ')' && !wants_operand && depth > 0) {
-            depth--;
+            put_code(program, &waiting[depth--].sum);
         } else if (b == '(' || b == ')') {
             return refused(9, start);
         } else {
@@ -110,7 +134,7 @@ static struct engine_result parse(struct program *program, const struct sound *i
                 return refused(9, start);
             }
             if (operator != 0) {
-                waiting[depth] = operator;
+                take_operator(program, &waiting[depth], operator, rule);
                 wants_operand = 1;
                 continue;
             }
@@ -120,11 +144,9 @@ static struct engine_result parse(struct program *program, const struct sound *i
             add_slot(program, index, find_word(index, question + start, i - start));
         }
         wants_operand = 0;
-        if (waiting[depth] != 0) {
-            program->codes[program->code_count++] = waiting[depth];
-            waiting[depth] = 0;
-        }
+        put_code(program, &waiting[depth].group);
     }
+    put_code(program, &waiting[0].sum);
     return wants_operand || depth > 0 ? refused(9, length) : refused(0, 0);
 }
 
@@ -357,20 +379,23 @@ static struct engine_result run(struct program *program, uint32_t *cells, size_t
     return (struct engine_result){0, 0, walk.written / 2, walk.records};
 }
 
-struct engine_result engine_ask(const uint8_t *bytes, size_t length, const uint8_t *question, size_t question_length, uint32_t *cells,
-                                size_t room)
+struct engine_result engine_ask(const uint8_t *bytes, size_t length, uint32_t rule, const uint8_t *question, size_t question_length,
+                                uint32_t *cells, size_t room)
 {
     struct sound index;
     struct engine_result result = open_index(bytes, length, &index);
     if (result.refusal != 0) {
         return result;
     }
+    if (rule != 1 && rule != 2) {
+        return refused(22, rule);
+    }
     struct program program;
     program.slot_count = program.code_count = 0;
     program.highest = index.highest;
     result = scan(question, question_length);
     if (result.refusal == 0) {
-        result = parse(&program, &index, question, question_length);
+        result = parse(&program, &index, rule, question, question_length);
     }
     return result.refusal != 0 ? result : run(&program, cells, room);
 }

@@ -13,9 +13,9 @@ struct engine_result {
 /* Refusals 1 to 5. */
 struct engine_result engine_check(const uint8_t *index, size_t length);
 
-/* Refusals 1 to 12. */
-struct engine_result engine_ask(const uint8_t *index, size_t length, const uint8_t *question, size_t question_length, uint32_t *cells,
-                                size_t room);
+/* Refusals 1 to 5, 22, 6 to 12. */
+struct engine_result engine_ask(const uint8_t *index, size_t length, uint32_t rule, const uint8_t *question, size_t question_length,
+                                uint32_t *cells, size_t room);
 
 /* A join, by whatever method: refusals 1 to 5, 13, 14, 12. */
 typedef struct engine_result join_call(const uint8_t *index, size_t length, const uint32_t *entries, size_t count, uint32_t *cells, size_t room);

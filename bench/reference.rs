@@ -46,12 +46,13 @@ pub unsafe extern "C" fn reference_check(index: *const u8, length: usize) -> Eng
 pub unsafe extern "C" fn reference_ask(
     index: *const u8,
     length: usize,
+    rule: u32,
     question: *const u8,
     question_length: usize,
     cells: *mut u32,
     room: usize,
 ) -> EngineResult {
-    let answer = reference::question::ask(from_raw_parts(index, length), from_raw_parts(question, question_length));
+    let answer = reference::question::ask(from_raw_parts(index, length), rule, from_raw_parts(question, question_length));
     written(answer, from_raw_parts_mut(cells, room))
 }
 

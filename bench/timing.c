@@ -10,10 +10,15 @@ void our_check(const struct job *job)
     sink += naburain_check(job->corpus->index, job->corpus->length).refusal;
 }
 
-void our_ask(const struct job *job)
+struct naburain_answered asked_by(const struct job *job, uint32_t rule, uint32_t *cells)
 {
     const struct corpus *c = job->corpus;
-    sink += naburain_ask(c->index, c->length, (const uint8_t *)job->question, strlen(job->question), job->cells, job->room).records;
+    return naburain_ask(c->index, c->length, rule, (const uint8_t *)job->question, strlen(job->question), cells, job->room);
+}
+
+void our_ask(const struct job *job)
+{
+    sink += asked_by(job, FROM_LEFT, job->cells).records;
 }
 
 void our_join(const struct job *job)

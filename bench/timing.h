@@ -27,6 +27,12 @@ struct job {
     struct tree *tree;
 };
 
+/* The numbers of the rules: each table asks by the first, the table of the rules by both. */
+enum { FROM_LEFT = 1, AND_FIRST = 2 };
+
+/* The library's answer to the job's question by a rule. */
+struct naburain_answered asked_by(const struct job *job, uint32_t rule, uint32_t *cells);
+
 /* One call. */
 typedef void run(const struct job *);
 

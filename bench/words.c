@@ -62,11 +62,6 @@ static void engine_checks(const struct job *job)
 }
 
 #ifdef HAVE_OLD
-static void old_checks(const struct job *job)
-{
-    sink += old_naburain_check(job->corpus->index, job->corpus->length).refusal;
-}
-
 static void old_build(const struct job *job)
 {
     (void)job;
@@ -79,7 +74,7 @@ static run *const RUNS[] = {
     engine_checks,
     our_build,
 #ifdef HAVE_OLD
-    old_checks,
+    old_check,
     old_build,
 #endif
 };

@@ -56,6 +56,7 @@ extern "C" {
 #define NABURAIN_BUILD_SIZE 19     /* N is too large: 0; the index would be too long: 1 */
 #define NABURAIN_PROBE 20          /* no range to probe: 0 */
 #define NABURAIN_NO_WORD 21        /* no entry has the word looked up: the number of the entry that it would be */
+#define NABURAIN_RULE 22           /* another rule than 1 or 2: its number */
 
 struct naburain_checked {
     uint64_t refusal;
@@ -130,9 +131,12 @@ struct naburain_answered naburain_intersection_probing(const uint8_t *index, siz
 
 /* Reference 8.6. The records that satisfy a question, written and reported as a union is. A question has words, round brackets, and the
  * operators `and`, `or` and `not`, in any mixture of small and capital letters; they stand between two sides (`a not b` leaves b out of
- * a) and are grouped from the left. A word without an entry is in no record. What is found on the way to the answer needs no room.
- * Refusals 1 to 5, then 6, 7, 8, each over the whole question, then that of 9, 10 and 11 which comes first from the left, then 12. */
-struct naburain_answered naburain_ask(const uint8_t *index, size_t index_length, const uint8_t *question, size_t question_length,
+ * a). `rule` is the number of the rule by which what stands in a row is grouped. By rule 1 the operators have the same rank, by rule 2 `and` and
+ * `not` a higher one than `or`; equal ranks are grouped from the left: `a or b and c not d` is `((a or b) and c) not d` by rule 1, and
+ * `a or ((b and c) not d)` by rule 2. A word without an entry is in no record. What is found on the way to the answer needs no room.
+ * Refusals 1 to 5, 22, then 6, 7, 8, each over the whole question, then that of 9, 10 and 11 which comes first from the left, whichever the
+ * rule, then 12. */
+struct naburain_answered naburain_ask(const uint8_t *index, size_t index_length, uint32_t rule, const uint8_t *question, size_t question_length,
                                       uint32_t *cells, size_t cells_length);
 
 /* Reference 8.7. Ascending record numbers as the intervals that name them, two cells each, l then u; `written` counts intervals.

@@ -39,16 +39,16 @@ static void show_answer(const struct naburain_answered *answer, const uint32_t *
     printf("\n");
 }
 
-enum ended answer_question(const struct mapped *index, const char *question)
+enum ended answer_question(const struct mapped *index, uint32_t rule, const char *question)
 {
     size_t room = FIRST_ROOM, length = strlen(question);
     uint32_t *cells = grown(NULL, room, sizeof *cells);
     const uint8_t *asked = (const uint8_t *)question;
-    struct naburain_answered answer = naburain_ask(index->bytes, index->length, asked, length, cells, room);
+    struct naburain_answered answer = naburain_ask(index->bytes, index->length, rule, asked, length, cells, room);
     if (answer.refusal == NABURAIN_ROOM) { /* its value is what the answer needs */
         room = 2 * (size_t)answer.value;
         cells = grown(cells, room, sizeof *cells);
-        answer = naburain_ask(index->bytes, index->length, asked, length, cells, room);
+        answer = naburain_ask(index->bytes, index->length, rule, asked, length, cells, room);
     }
     enum ended ended = ANSWERED;
     if (answer.refusal == 0) {
@@ -60,12 +60,13 @@ enum ended answer_question(const struct mapped *index, const char *question)
     return ended;
 }
 
-/* Questions from standard input, one a line, until it ends. */
-enum ended prompt(const struct mapped *index)
+/* Questions from standard input, one a line, until it ends. Where the index or the rule is refused, that is said before any: with good ones the
+ * empty question is refused by its grammar. */
+enum ended prompt(const struct mapped *index, uint32_t rule)
 {
-    struct naburain_checked checked = naburain_check(index->bytes, index->length);
-    if (checked.refusal != 0) {
-        explain(checked.refusal, checked.value);
+    struct naburain_answered empty = naburain_ask(index->bytes, index->length, rule, NULL, 0, NULL, 0);
+    if (empty.refusal != NABURAIN_GRAMMAR) {
+        explain(empty.refusal, empty.value);
         return REFUSED;
     }
     char *line = NULL;
@@ -74,7 +75,7 @@ enum ended prompt(const struct mapped *index)
     fflush(stdout);
     while (getline(&line, &room, stdin) >= 0) {
         line[strcspn(line, "\n")] = 0;
-        answer_question(index, line);
+        answer_question(index, rule, line);
         printf("? ");
         fflush(stdout);
     }

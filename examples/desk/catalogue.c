@@ -232,23 +232,13 @@ static void forget(struct catalogue *catalogue, struct lent *lent)
     free(lent->words), free(lent->counts), free(lent->numbers);
 }
 
-/* What fits in 32 bits is handed on: that it is above the highest record that there can be is for the library to refuse. */
-static int read_highest(const char *text, uint32_t *highest)
-{
-    char *end;
-    errno = 0;
-    unsigned long value = strtoul(text, &end, 10);
-    *highest = (uint32_t)value;
-    return isdigit((unsigned char)*text) && *end == 0 && errno == 0 && value <= UINT32_MAX;
-}
-
 enum ended build_catalogue(const char *text_path, const char *index_path, const char *highest)
 {
     struct catalogue catalogue = {NULL, 0, 0};
     struct lent lent = {NULL, 0, NULL, NULL, 0};
     enum ended ended = UNUSABLE;
     uint32_t n = 0;
-    if (highest != NULL && !read_highest(highest, &n)) {
+    if (highest != NULL && !given_number(highest, &n)) {
         fprintf(stderr, "desk: %s is no record number\n", highest);
         return UNUSABLE;
     }

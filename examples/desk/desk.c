@@ -1,7 +1,7 @@
-/* desk INDEX QUESTION..            answers a question
- * desk INDEX                       asks for questions
- * desk lookup INDEX WORD           shows a word with its neighbours, or those of the place where it would stand
- * desk build TEXT INDEX [HIGHEST]  builds an index from a text */
+/* desk [--rule N] INDEX QUESTION..  answers a question, grouped by rule 1 or by rule N
+ * desk [--rule N] INDEX             asks for questions
+ * desk lookup INDEX WORD            shows a word with its neighbours, or those of the place where it would stand
+ * desk build TEXT INDEX [HIGHEST]   builds an index from a text */
 #include "desk.h"
 
 #include <stdio.h>
@@ -10,10 +10,15 @@
 
 static int usage(void)
 {
-    fprintf(stderr, "desk INDEX QUESTION..            answers a question, as: desk sample.index 'boats or (harbour and maps)'\n"
-                    "desk INDEX                       asks for questions, one a line\n"
-                    "desk lookup INDEX WORD           shows a word with its neighbours, or where a misspelt one would stand\n"
-                    "desk build TEXT INDEX [HIGHEST]  builds an index from lines `word: number number-number ..`\n");
+    fprintf(stderr, "desk [--rule N] INDEX QUESTION..  answers a question, as: desk sample.index 'boats or (harbour and maps)'\n"
+                    "desk [--rule N] INDEX             asks for questions, one a line\n"
+                    "desk lookup INDEX WORD            shows a word with its neighbours, or where a misspelt one would stand\n"
+                    "desk build TEXT INDEX [HIGHEST]   builds an index from lines `word: number number-number ..`\n"
+                    "\n"
+                    "Where there are no brackets, rule 1, which is taken unless another is given, groups the operators from the left, whatever\n"
+                    "they are; rule 2 groups `and` and `not` before `or`, and equals from the left. So of the sample catalogue\n"
+                    "  desk --rule 1 sample.index boats or harbour and maps   asks '(boats or harbour) and maps', and finds 2 records\n"
+                    "  desk --rule 2 sample.index boats or harbour and maps   asks 'boats or (harbour and maps)', and finds 76\n");
     return UNUSABLE;
 }
 
@@ -33,13 +38,13 @@ static char *joined(int count, char **words)
     return text;
 }
 
-static enum ended ask(const struct mapped *index, int count, char **words)
+static enum ended ask(const struct mapped *index, uint32_t rule, int count, char **words)
 {
     if (count == 0) {
-        return prompt(index);
+        return prompt(index, rule);
     }
     char *question = joined(count, words);
-    enum ended ended = answer_question(index, question);
+    enum ended ended = answer_question(index, rule, question);
     free(question);
     return ended;
 }
@@ -49,15 +54,21 @@ int main(int count, char **words)
     if (count >= 2 && strcmp(words[1], "build") == 0) {
         return count == 4 || count == 5 ? (int)build_catalogue(words[2], words[3], words[4]) : usage();
     }
-    int lookup = count >= 2 && strcmp(words[1], "lookup") == 0;
-    if (count < 2 || words[1][0] == '-' || (lookup && count != 4)) {
+    int lookup = count >= 2 && strcmp(words[1], "lookup") == 0, by_rule = count >= 2 && strcmp(words[1], "--rule") == 0;
+    int path = by_rule ? 3 : lookup ? 2 : 1;
+    if (count <= path || words[path][0] == '-' || (lookup && count != 4)) {
         return usage();
     }
-    struct mapped index;
-    if (!map_file(words[lookup ? 2 : 1], &index)) {
+    uint32_t rule = 1;
+    if (by_rule && !given_number(words[2], &rule)) {
+        fprintf(stderr, "desk: %s is no rule's number\n", words[2]);
         return UNUSABLE;
     }
-    enum ended ended = lookup ? show_neighbours(&index, words[3]) : ask(&index, count - 2, words + 2);
+    struct mapped index;
+    if (!map_file(words[path], &index)) {
+        return UNUSABLE;
+    }
+    enum ended ended = lookup ? show_neighbours(&index, words[3]) : ask(&index, rule, count - path - 1, words + path + 1);
     unmap_file(&index);
     return ended;
 }

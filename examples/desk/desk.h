@@ -19,9 +19,12 @@ void unmap_file(struct mapped *file);
 int write_file(const char *path, const uint8_t *bytes, size_t length);
 void *grown(void *block, size_t count, size_t size);
 
+/* number.c */
+int given_number(const char *text, uint32_t *number);
+
 /* answer.c */
-enum ended answer_question(const struct mapped *index, const char *question);
-enum ended prompt(const struct mapped *index);
+enum ended answer_question(const struct mapped *index, uint32_t rule, const char *question);
+enum ended prompt(const struct mapped *index, uint32_t rule);
 
 /* neighbours.c */
 enum ended show_neighbours(const struct mapped *index, const char *word);

@@ -28,6 +28,7 @@ static const char *const SAID[] = {
     [NABURAIN_BUILD_SIZE] = "the index would be over 16,777,216 bytes",
     [NABURAIN_PROBE] = "a probe goes from a to b, 1 to 16,777,215",
     [NABURAIN_NO_WORD] = "the index does not have this word; it would be entry %" PRIu64,
+    [NABURAIN_RULE] = "there is no rule %" PRIu64 ", only rule 1 and rule 2",
 };
 
 void explain(uint64_t refusal, uint64_t value)

@@ -46,6 +46,7 @@ static uint8_t *build_example(void)
 }
 
 struct asked {
+    uint32_t rule;
     const char *question;
     uint64_t refusal, value, intervals, records;
     uint32_t cells[4];
@@ -54,21 +55,26 @@ struct asked {
 static void ask_example(const uint8_t *index)
 {
     static const struct asked table[] = {
-        {"boats or tide", 0, 0, 2, 5, {2, 4, 8, 9}},
-        {"boats or maps", 0, 0, 1, 8, {2, 9}},
-        {"harbour and maps not tide", 0, 0, 1, 2, {6, 7}},
-        {"boats or harbour and maps", 0, 0, 1, 2, {6, 7}},
-        {"boats or (harbour and maps)", 0, 0, 2, 6, {2, 4, 6, 8}},
-        {"tide tables", NABURAIN_GRAMMAR, 5, 0, 0, {0}},
-        {"pier", 0, 0, 0, 0, {0}},
-        {"", NABURAIN_GRAMMAR, 0, 0, 0, {0}},
+        {1, "boats or tide", 0, 0, 2, 5, {2, 4, 8, 9}},
+        {1, "boats or maps", 0, 0, 1, 8, {2, 9}},
+        {1, "harbour and maps not tide", 0, 0, 1, 2, {6, 7}},
+        {1, "boats or harbour and maps", 0, 0, 1, 2, {6, 7}},
+        {2, "boats or harbour and maps", 0, 0, 2, 6, {2, 4, 6, 8}},
+        {1, "boats or (harbour and maps)", 0, 0, 2, 6, {2, 4, 6, 8}},
+        {1, "tide tables", NABURAIN_GRAMMAR, 5, 0, 0, {0}},
+        {2, "tide tables", NABURAIN_GRAMMAR, 5, 0, 0, {0}},
+        {1, "pier", 0, 0, 0, 0, {0}},
+        {1, "", NABURAIN_GRAMMAR, 0, 0, 0, {0}},
+        {0, "boats", NABURAIN_RULE, 0, 0, 0, {0}},
+        {3, "", NABURAIN_RULE, 3, 0, 0, {0}},
+        {UINT32_MAX, "boats", NABURAIN_RULE, UINT32_MAX, 0, 0, {0}},
     };
     for (size_t i = 0; i < sizeof table / sizeof table[0]; i++) {
         const struct asked *row = &table[i];
         size_t length = strlen(row->question), room = 2 * row->intervals;
         uint8_t *question = copy(row->question, length);
         uint32_t *cells = malloc(room * sizeof *cells);
-        struct naburain_answered got = naburain_ask(index, LENGTH, question, length, cells, room);
+        struct naburain_answered got = naburain_ask(index, LENGTH, row->rule, question, length, cells, room);
         expect(got.refusal == row->refusal && got.value == row->value, row->question);
         expect(got.intervals == row->intervals && got.records == row->records, row->question);
         expect(room == 0 || memcmp(cells, row->cells, room * sizeof *cells) == 0, row->question);
@@ -123,8 +129,10 @@ static void changed(const uint8_t *index, size_t length)
         naburain_word(index, length, (uint32_t)k);
         naburain_probe(index, length, (uint32_t)k, 2, 8);
     }
-    memset(cells, 0xAB, CELLS * sizeof *cells);
-    kept(cells, naburain_ask(index, length, question, sizeof text - 1, cells, CELLS), "cells of an answer");
+    for (uint32_t rule = 0; rule <= 3; rule++) {
+        memset(cells, 0xAB, CELLS * sizeof *cells);
+        kept(cells, naburain_ask(index, length, rule, question, sizeof text - 1, cells, CELLS), "cells of an answer");
+    }
     naburain_check(index, length);
     naburain_lookup(index, length, question, 5);
     free(cells), free(entries), free(question);

@@ -67,7 +67,7 @@ exported! {
     have_union_active_interval UNION_ACTIVE_INTERVAL = naburain_union_active_interval(*const u8, usize, *const u32, usize, *mut u32, usize) -> Four;
     have_intersection_twin_heap INTERSECTION_TWIN_HEAP = naburain_intersection_twin_heap(*const u8, usize, *const u32, usize, *mut u32, usize) -> Four;
     have_intersection_probing INTERSECTION_PROBING = naburain_intersection_probing(*const u8, usize, *const u32, usize, *mut u32, usize) -> Four;
-    have_ask ASK = naburain_ask(*const u8, usize, *const u8, usize, *mut u32, usize) -> Four;
+    have_ask ASK = naburain_ask(*const u8, usize, u32, *const u8, usize, *mut u32, usize) -> Four;
     have_to_intervals TO_INTERVALS = naburain_to_intervals(*const u32, usize, *mut u32, usize) -> Three;
     have_to_numbers TO_NUMBERS = naburain_to_numbers(*const u32, usize, *mut u32, usize) -> Three;
     have_build BUILD = naburain_build(u32, *const u8, usize, *const u32, usize, *const u32, usize, *mut u8, usize) -> Three;

@@ -53,7 +53,7 @@ pub struct Caller {
     pub seed: u64,
     pub calls: u64,
     /// How many calls each refusal was expected of; 0 counts the calls that answer.
-    pub expected: [u64; 22],
+    pub expected: [u64; 23],
     pub show: bool,
     read: [Fence; 3],
     written: Fence,
@@ -83,7 +83,7 @@ fn cells(cells: &[u32]) -> String {
 impl Caller {
     pub fn new() -> Caller {
         let read = [Fence::new(), Fence::new(), Fence::new()];
-        Caller { family: &"", seed: 0, calls: 0, expected: [0; 22], show: false, read, written: Fence::new() }
+        Caller { family: &"", seed: 0, calls: 0, expected: [0; 23], show: false, read, written: Fence::new() }
     }
 
     /// Lends a slice to be read. With every other seed an empty one is the null pointer, since a pointer of length 0 is not followed.
@@ -218,16 +218,16 @@ impl Caller {
         self.wrote(name, lent, &written, inputs)
     }
 
-    pub fn ask(&mut self, bytes: &[u8], asked: &[u8], room: usize) -> Outcome {
+    pub fn ask(&mut self, bytes: &[u8], rule: u32, asked: &[u8], room: usize) -> Outcome {
         let Some(call) = archive::ASK else { return Ok(()) };
-        let answer = question::ask(bytes, asked).and_then(|answer| join::fit(answer, room));
+        let answer = question::ask(bytes, rule, asked).and_then(|answer| join::fit(answer, room));
         let text = String::from_utf8_lossy(asked);
-        let inputs = || format!("index {}, question {text:?} {}, room for {room} cells", hex(bytes), hex(asked));
+        let inputs = || format!("index {}, rule {rule}, question {text:?} {}, room for {room} cells", hex(bytes), hex(asked));
         let lent: Room<u32> = Room::new(&mut Random::new(!self.seed), room);
         self.begin(&"naburain_ask", &inputs);
         let out = self.to_write(&lent);
         let at = (self.to_read(0, bytes), self.to_read(1, asked));
-        let got = unsafe { call(at.0, bytes.len(), at.1, asked.len(), out, room) };
+        let got = unsafe { call(at.0, bytes.len(), rule, at.1, asked.len(), out, room) };
         self.answered("naburain_ask", &answer, got, &lent, &inputs)?;
         self.kept("naburain_ask", 0, bytes, &inputs)?;
         self.kept("naburain_ask", 1, asked, &inputs)

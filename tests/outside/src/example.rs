@@ -5,7 +5,7 @@ use crate::reference::build::{build, encode};
 use crate::reference::convert::{to_intervals, to_numbers};
 use crate::reference::index::{lookup, probe, read};
 use crate::reference::join::{join, Join};
-use crate::reference::question::ask;
+use crate::reference::question::{ask, RULES};
 use crate::reference::set::Set;
 use crate::reference::Refusal;
 
@@ -18,18 +18,18 @@ pub fn example() -> Vec<u8> {
     build(9, WORDS, &COUNTS, &NUMBERS).unwrap()
 }
 
-/// Question, refusal, value, cells: P1 to P7.
-const QUESTIONS: [(&str, u64, u64, &[u32]); 7] = [
-    ("boats or tide", 0, 0, &[2, 4, 8, 9]),
-    ("boats or maps", 0, 0, &[2, 9]),
-    ("harbour and maps not tide", 0, 0, &[6, 7]),
-    ("boats or harbour and maps", 0, 0, &[6, 7]),
-    ("boats or (harbour and maps)", 0, 0, &[2, 4, 6, 8]),
-    ("tide tables", 9, 5, &[]),
-    ("pier", 0, 0, &[]),
+/// Question, refusal, value, and the cells by rule 1 and by rule 2: P1 to P7.
+pub const QUESTIONS: [(&str, u64, u64, [&[u32]; 2]); 7] = [
+    ("boats or tide", 0, 0, [&[2, 4, 8, 9]; 2]),
+    ("boats or maps", 0, 0, [&[2, 9]; 2]),
+    ("harbour and maps not tide", 0, 0, [&[6, 7]; 2]),
+    ("boats or harbour and maps", 0, 0, [&[6, 7], &[2, 4, 6, 8]]),
+    ("boats or (harbour and maps)", 0, 0, [&[2, 4, 6, 8]; 2]),
+    ("tide tables", 9, 5, [&[]; 2]),
+    ("pier", 0, 0, [&[]; 2]),
 ];
 
-fn expect(what: &str, holds: bool) -> usize {
+pub fn expect(what: &str, holds: bool) -> usize {
     assert!(holds, "the reference is wrong: {what}");
     1
 }
@@ -43,7 +43,7 @@ fn index_of(lists: &[&[(u32, u32)]]) -> Vec<u8> {
     encode(9, &words.collect::<Vec<_>>())
 }
 
-fn refused<T>(result: Result<T, Refusal>, number: u64, value: u64) -> bool {
+pub fn refused<T>(result: Result<T, Refusal>, number: u64, value: u64) -> bool {
     result.is_err_and(|r| r == Refusal { number, value })
 }
 
@@ -54,12 +54,14 @@ fn the_example() -> usize {
     done += expect("W = 52, D = 72, n = 4, N = 9, edition 1", (0..5).map(cell).eq([52, 72, 4, 9, 1]));
     done += expect("lookup", lookup(&index, b"maps") == Ok(2) && refused(lookup(&index, b"pier"), 21, 3));
     done += expect("lookup at the ends", refused(lookup(&index, b""), 21, 0) && refused(lookup(&index, b"tides"), 21, 4));
-    for (question, number, value, cells) in QUESTIONS {
-        let holds = match ask(&index, question.as_bytes()) {
-            Ok(answer) => number == 0 && answer.cells() == cells,
-            Err(r) => r == Refusal { number, value },
-        };
-        done += expect(question, holds);
+    for (question, number, value, by_rule) in QUESTIONS {
+        for (rule, cells) in RULES.into_iter().zip(by_rule) {
+            let holds = match ask(&index, rule, question.as_bytes()) {
+                Ok(answer) => number == 0 && answer.cells() == cells,
+                Err(r) => r == Refusal { number, value },
+            };
+            done += expect(question, holds);
+        }
     }
     done
 }
@@ -74,7 +76,7 @@ fn the_corners() -> usize {
         + expect("P10", joined(Join::Intersection, &[&[(1, 3)], &[(3, 5)]], &[(3, 3)]))
         + expect("P11", joined(Join::Intersection, &[&[(1, 2)], &[(1, 9)], &[(4, 6)]], &[]))
         + expect("P12", probe(&index_of(&[&[(1, 4), (6, 6), (8, 9)]]), 0, 4, 6) == Ok((0, 2)))
-        + expect("the empty question", refused(ask(&example(), b""), 9, 0))
+        + expect("the empty question", RULES.iter().all(|&rule| refused(ask(&example(), rule, b""), 9, 0)))
         + expect("to intervals", to_intervals(&[1, 2, 5], 4) == Ok(vec![1, 2, 5, 5]))
         + expect("to numbers", to_numbers(&[1, 2, 5, 5], 3) == Ok(vec![1, 2, 5]))
         + expect("a lone last cell", refused(to_numbers(&[1, 2, 5], 3), 16, 1))

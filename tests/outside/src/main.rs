@@ -8,6 +8,7 @@ mod calls;
 mod example;
 mod families;
 mod fence;
+mod grouping;
 mod make;
 mod random;
 mod reference;
@@ -84,7 +85,7 @@ fn run(family: &'static Family, caller: &mut Caller, options: &Options) -> bool 
 
 fn main() {
     let options = options();
-    println!("reference      {:>8} facts of the example and of sets", example::run());
+    println!("reference      {:>8} facts of the example, of sets and of the rules", example::run() + grouping::run());
     if options.reference {
         return;
     }

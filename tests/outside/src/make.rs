@@ -2,6 +2,7 @@
 
 use crate::random::Random;
 use crate::reference::build::{encode, encode_kept, Kept};
+use crate::reference::question::RULES;
 use crate::reference::set::Set;
 use crate::reference::{is_small_operator, is_word, OPERATORS, RECORD_MAX};
 
@@ -52,6 +53,16 @@ pub fn word(random: &mut Random) -> Vec<u8> {
         }
         if is_word(&word, is_small_operator) {
             return word;
+        }
+    }
+}
+
+/// A number that is no rule's: beside theirs, the largest, or anything.
+pub fn no_rule(random: &mut Random) -> u32 {
+    loop {
+        let number = if random.one_in(2) { *random.pick(&[0, 3, u32::MAX]) } else { random.cell() };
+        if !RULES.contains(&number) {
+            return number;
         }
     }
 }

@@ -1,10 +1,10 @@
-//! Questions: sound ones, token soup, and damaged ones.
+//! Questions: sound ones, token soup, and damaged ones, under both rules and under numbers that are no rule's.
 
 use super::room;
 use crate::calls::{Caller, Outcome};
 use crate::make::{self, Catalogue};
 use crate::random::Random;
-use crate::reference::question;
+use crate::reference::question::{ask, RULES};
 
 type Tokens = Vec<Vec<u8>>;
 
@@ -125,11 +125,17 @@ pub fn question(random: &mut Random, catalogue: &Catalogue) -> Vec<u8> {
 
 pub fn run(caller: &mut Caller, random: &mut Random) -> Outcome {
     let (catalogue, bytes) = make::index(random);
-    for _ in 0..3 {
+    for _ in 0..2 {
         let asked = question(random, &catalogue);
-        let needed = question::ask(&bytes, &asked).map_or(2, |answer| answer.intervals().len());
-        let room = room(random, needed, 2);
-        caller.ask(&bytes, &asked, room)?;
+        for rule in RULES {
+            let needed = ask(&bytes, rule, &asked).map_or(2, |answer| answer.intervals().len());
+            let room = room(random, needed, 2);
+            caller.ask(&bytes, rule, &asked, room)?;
+        }
+        if random.one_in(4) {
+            let (rule, room) = (make::no_rule(random), random.below(20));
+            caller.ask(&bytes, rule, &asked, room)?;
+        }
     }
     Ok(())
 }

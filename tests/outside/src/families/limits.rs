@@ -1,11 +1,12 @@
 //! The ends of every range, each limit and one more, and the borders of windows of 8,192 records.
 
+use super::{asked, rooms};
 use crate::calls::{Caller, Outcome};
 use crate::example::example;
 use crate::random::Random;
 use crate::reference::build::encode;
 use crate::reference::join::{join, Join};
-use crate::reference::question::ask;
+use crate::reference::question::RULES;
 use crate::reference::set::{Interval, Set};
 use crate::reference::{is_small_operator, INDEX_MAX, OPERATORS, RECORD_MAX};
 
@@ -21,20 +22,11 @@ pub fn run(caller: &mut Caller, _: &mut Random) -> Outcome {
     longest_index(caller)
 }
 
-/// A question with room for exactly its answer, one cell less, one interval less, and none.
-fn asked(caller: &mut Caller, index: &[u8], question: &[u8]) -> Outcome {
-    let needed = ask(index, question).map_or(0, |answer| 2 * answer.intervals().len());
-    for room in [needed, needed + 1, needed.saturating_sub(1), needed.saturating_sub(2), 0] {
-        caller.ask(index, question, room)?;
-    }
-    Ok(())
-}
-
 /// A join with the same rooms.
 fn joined(caller: &mut Caller, index: &[u8], entries: &[u32]) -> Outcome {
     for how in [Join::Union, Join::Intersection] {
         let needed = join(index, how, entries).map_or(0, |answer| 2 * answer.intervals().len());
-        for room in [needed, needed + 1, needed.saturating_sub(1), needed.saturating_sub(2), 0] {
+        for room in rooms(needed) {
             caller.join(index, how, entries, room)?;
         }
     }
@@ -90,7 +82,7 @@ fn spellings(operator: &[u8]) -> Vec<String> {
 }
 
 /// Where an operator can come, where it cannot, and where its letters are a part of a word: `?` stands for each spelling.
-const PLACES: [&str; 21] = [
+const PLACES: [&str; 22] = [
     "?",
     "? boats",
     "boats ?",
@@ -104,6 +96,7 @@ const PLACES: [&str; 21] = [
     "boats ? ?",
     "(?)",
     "(? boats)",
+    "(boats ?)",
     "boats(?)",
     "boats or ?",
     "boats ?s",
@@ -267,7 +260,7 @@ fn conversions(caller: &mut Caller) -> Outcome {
 fn few_and_many_words(caller: &mut Caller) -> Outcome {
     for n in [0, RECORD_MAX] {
         caller.check(&encode(n, &[]))?;
-        caller.ask(&encode(n, &[]), b"pier", 0)?;
+        asked(caller, &encode(n, &[]), b"pier")?;
         caller.lookup(&encode(n, &[]), b"pier")?;
         caller.lookup(&encode(n, &[]), b"")?;
         caller.build(n, b"", &[], &[], 20)?;
@@ -326,13 +319,15 @@ fn longest_index(caller: &mut Caller) -> Outcome {
     let mut longest = encode(RECORD_MAX, &[(b"long".to_vec(), Set::of_numbers(&numbers[..cells]))]);
     assert!(longest.len() == INDEX_MAX);
     caller.check(&longest)?;
-    caller.ask(&longest, b"long not long", 0)?;
-    caller.ask(&longest, b"long", 2 * cells)?;
-    caller.ask(&longest, b"long", 2 * cells - 1)?;
+    for rule in RULES {
+        caller.ask(&longest, rule, b"long not long", 0)?;
+        caller.ask(&longest, rule, b"long", 2 * cells)?;
+        caller.ask(&longest, rule, b"long", 2 * cells - 1)?;
+    }
     caller.probe(&longest, 0, 1, RECORD_MAX)?;
     longest.push(0);
     caller.check(&longest)?;
-    caller.ask(&longest, b"long", 4)?;
+    caller.ask(&longest, RULES[0], b"long", 4)?;
     built_too_long(caller, cells, numbers)
 }
 

@@ -1,4 +1,4 @@
-//! The families of cases. Each draws one case from a seed; `limits` runs a fixed table instead.
+//! The families of cases. Each draws one case from a seed; `limits` and `rules` run a fixed table instead.
 
 pub mod ask;
 pub mod build;
@@ -6,11 +6,13 @@ pub mod convert;
 pub mod entries;
 pub mod join;
 pub mod limits;
+pub mod rules;
 
 use crate::calls::{Caller, Outcome};
 use crate::example::example;
 use crate::make;
 use crate::random::Random;
+use crate::reference::question::{ask, RULES};
 
 pub struct Family {
     pub name: &'static str,
@@ -19,7 +21,7 @@ pub struct Family {
     pub run: fn(&mut Caller, &mut Random) -> Outcome,
 }
 
-pub static FAMILIES: [Family; 12] = [
+pub static FAMILIES: [Family; 13] = [
     Family { name: "check", cases: 200_000, run: check },
     Family { name: "damage", cases: 200, run: damage },
     Family { name: "lookup", cases: 100_000, run: entries::lookup },
@@ -32,6 +34,7 @@ pub static FAMILIES: [Family; 12] = [
     Family { name: "convert", cases: 200_000, run: convert::run },
     Family { name: "build", cases: 100_000, run: build::run },
     Family { name: "limits", cases: 1, run: limits::run },
+    Family { name: "rules", cases: 1, run: rules::run },
 ];
 
 /// A room for an answer that takes so many elements, each so many at once: exact, one less, one more, none, plenty.
@@ -45,6 +48,22 @@ pub fn room(random: &mut Random, needed: usize, each: usize) -> usize {
         4 => exact + random.below(40),
         _ => exact,
     }
+}
+
+/// Rooms of a fixed table for an answer of so many cells: exact, one more, one less, one interval less, none.
+fn rooms(needed: usize) -> [usize; 5] {
+    [needed, needed + 1, needed.saturating_sub(1), needed.saturating_sub(2), 0]
+}
+
+/// A question by both rules, with each of these rooms.
+fn asked(caller: &mut Caller, index: &[u8], question: &[u8]) -> Outcome {
+    for rule in RULES {
+        let needed = ask(index, rule, question).map_or(0, |answer| 2 * answer.intervals().len());
+        for room in rooms(needed) {
+            caller.ask(index, rule, question, room)?;
+        }
+    }
+    Ok(())
 }
 
 fn check(caller: &mut Caller, random: &mut Random) -> Outcome {
@@ -88,5 +107,5 @@ fn one_of_each(caller: &mut Caller, random: &mut Random, bytes: &[u8]) -> Outcom
     caller.probe(bytes, entry, 2, 9)?;
     caller.join(bytes, crate::reference::join::Join::Union, &[0, entry], 9)?;
     caller.join(bytes, crate::reference::join::Join::Intersection, &[entry, 0], 9)?;
-    caller.ask(bytes, b"boats or a not (Z and A)", 64)
+    RULES.iter().try_for_each(|&rule| caller.ask(bytes, rule, b"boats or a not (Z and A)", 64))
 }

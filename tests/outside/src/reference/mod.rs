@@ -1,9 +1,12 @@
 //! docs/REFERENCE.md once more: plain, slow where that is shorter, and knowing nothing of the library.
 
+mod and_first;
 pub mod build;
 pub mod convert;
+mod from_left;
 pub mod index;
 pub mod join;
+mod operator;
 pub mod question;
 pub mod set;
 
@@ -46,7 +49,7 @@ pub fn is_small_operator(word: &[u8]) -> bool {
 
 /// An operator in any mixture of small and capital letters: what a question reads as one, and what cannot be built.
 pub fn is_operator(word: &[u8]) -> bool {
-    OPERATORS.iter().any(|operator| word.eq_ignore_ascii_case(operator))
+    operator::Operator::of(word).is_some()
 }
 
 /// Length, bytes and nothing that is barred: what makes a word, its neighbours apart.
