@@ -22,7 +22,7 @@ pub fn run(caller: &mut Caller, _: &mut Random) -> Outcome {
     longest_index(caller)
 }
 
-/// A join with the same rooms.
+/// A join with each of the rooms.
 fn joined(caller: &mut Caller, index: &[u8], entries: &[u32]) -> Outcome {
     for how in [Join::Union, Join::Intersection] {
         for room in rooms(needed(join(index, how, entries))) {
