@@ -2,6 +2,7 @@
 
 use crate::example::{example, expect, refused};
 use crate::families::ask::question;
+use crate::families::orders::{ordered, sixteen, ORDERS};
 use crate::make;
 use crate::random::Random;
 use crate::reference::build::encode;
@@ -103,7 +104,7 @@ fn rows() -> usize {
 /// Refusals 9, 10 and 11 and their places are those of the other rule.
 fn refusals() -> usize {
     let mut random = Random::new(1);
-    let mut met = [0; 23];
+    let mut met = Vec::new();
     for _ in 0..40 {
         let catalogue = make::catalogue(&mut random);
         let index = read(&catalogue.encode()).unwrap();
@@ -111,10 +112,21 @@ fn refusals() -> usize {
             let asked = question(&mut random, &catalogue);
             let [one, two] = RULES.map(|rule| answer(&index, rule, &asked).err());
             expect(&String::from_utf8_lossy(&asked), one == two);
-            met[one.map_or(0, |refusal| refusal.number as usize)] += 1;
+            met.extend(one.map(|refusal| refusal.number));
         }
     }
-    expect("9, 10 and 11 are met", met[9..=11].iter().all(|&times| times > 0))
+    expect("9, 10 and 11 are met", (9..=11).all(|number| met.contains(&number)))
+}
+
+/// Of the orders of `and` and `or` between sixteen words nearly all are answered otherwise by the other rule.
+fn sixteen_words() -> usize {
+    let index = read(&sixteen()).unwrap();
+    let differs = |&order: &u64| {
+        let [one, two] = RULES.map(|rule| answer(&index, rule, &ordered(order)).unwrap());
+        one != two
+    };
+    let some: Vec<u64> = (0..ORDERS).step_by(61).collect();
+    expect("the rules differ", 10 * some.iter().filter(|&order| differs(order)).count() > 9 * some.len())
 }
 
 fn numbers() -> usize {
@@ -128,5 +140,5 @@ fn numbers() -> usize {
 
 /// Runs them all and says how many facts were held up.
 pub fn run() -> usize {
-    brackets_by_hand() + rows() + refusals() + numbers()
+    brackets_by_hand() + rows() + sixteen_words() + refusals() + numbers()
 }

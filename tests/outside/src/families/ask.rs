@@ -1,4 +1,4 @@
-//! Questions: sound ones, token soup, and damaged ones, under both rules and under numbers that are no rule's.
+//! Questions: sound ones, token soup, and damaged ones, by both rules and by numbers that are no rule's.
 
 use super::room;
 use crate::calls::{Caller, Outcome};

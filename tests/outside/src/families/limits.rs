@@ -1,6 +1,6 @@
 //! The ends of every range, each limit and one more, and the borders of windows of 8,192 records.
 
-use super::{asked, rooms};
+use super::{asked, needed, rooms};
 use crate::calls::{Caller, Outcome};
 use crate::example::example;
 use crate::random::Random;
@@ -22,11 +22,10 @@ pub fn run(caller: &mut Caller, _: &mut Random) -> Outcome {
     longest_index(caller)
 }
 
-/// A join with the same rooms.
+/// A join with each of the rooms.
 fn joined(caller: &mut Caller, index: &[u8], entries: &[u32]) -> Outcome {
     for how in [Join::Union, Join::Intersection] {
-        let needed = join(index, how, entries).map_or(0, |answer| 2 * answer.intervals().len());
-        for room in rooms(needed) {
+        for room in rooms(needed(join(index, how, entries))) {
             caller.join(index, how, entries, room)?;
         }
     }

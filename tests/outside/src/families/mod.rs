@@ -6,6 +6,7 @@ pub mod convert;
 pub mod entries;
 pub mod join;
 pub mod limits;
+pub mod orders;
 pub mod rules;
 
 use crate::calls::{Caller, Outcome};
@@ -13,6 +14,8 @@ use crate::example::example;
 use crate::make;
 use crate::random::Random;
 use crate::reference::question::{ask, RULES};
+use crate::reference::set::Set;
+use crate::reference::Answer;
 
 pub struct Family {
     pub name: &'static str,
@@ -21,7 +24,7 @@ pub struct Family {
     pub run: fn(&mut Caller, &mut Random) -> Outcome,
 }
 
-pub static FAMILIES: [Family; 13] = [
+pub static FAMILIES: [Family; 14] = [
     Family { name: "check", cases: 200_000, run: check },
     Family { name: "damage", cases: 200, run: damage },
     Family { name: "lookup", cases: 100_000, run: entries::lookup },
@@ -31,6 +34,7 @@ pub static FAMILIES: [Family; 13] = [
     Family { name: "intersection", cases: 100_000, run: join::intersection },
     Family { name: "uneven", cases: 5_000, run: join::uneven },
     Family { name: "ask", cases: 200_000, run: ask::run },
+    Family { name: "orders", cases: orders::ORDERS, run: orders::run },
     Family { name: "convert", cases: 200_000, run: convert::run },
     Family { name: "build", cases: 100_000, run: build::run },
     Family { name: "limits", cases: 1, run: limits::run },
@@ -55,11 +59,17 @@ fn rooms(needed: usize) -> [usize; 5] {
     [needed, needed + 1, needed.saturating_sub(1), needed.saturating_sub(2), 0]
 }
 
-/// A question by both rules, with each of these rooms.
+/// The cells that an answer takes.
+fn needed(answer: Answer<Set>) -> usize {
+    answer.map_or(0, |answer| answer.cells().len())
+}
+
+/// A question by both rules, with each of these rooms. By either it has the same refusal.
 fn asked(caller: &mut Caller, index: &[u8], question: &[u8]) -> Outcome {
-    for rule in RULES {
-        let needed = ask(index, rule, question).map_or(0, |answer| 2 * answer.intervals().len());
-        for room in rooms(needed) {
+    let [one, two] = RULES.map(|rule| ask(index, rule, question));
+    assert!(one.as_ref().err() == two.as_ref().err(), "by rule 1 {one:?}, by rule 2 {two:?}");
+    for (rule, answer) in RULES.into_iter().zip([one, two]) {
+        for room in rooms(needed(answer)) {
             caller.ask(index, rule, question, room)?;
         }
     }

@@ -3,13 +3,10 @@
 use super::asked;
 use crate::calls::{Caller, Outcome};
 use crate::example::{example, QUESTIONS};
-use crate::grouping::{every_case, row, BY_HAND};
-use crate::make;
+use crate::grouping::{every_case, BY_HAND};
 use crate::random::Random;
-use crate::reference::build::encode;
-use crate::reference::index::{read, Index};
+use crate::reference::index::read;
 use crate::reference::question::{answer, RULES};
-use crate::reference::set::Set;
 use crate::reference::{BRACKETS_MAX, QUESTION_MAX, QUESTION_WORDS_MAX};
 
 pub fn run(caller: &mut Caller, random: &mut Random) -> Outcome {
@@ -17,10 +14,7 @@ pub fn run(caller: &mut Caller, random: &mut Random) -> Outcome {
     grouped(caller)?;
     nested(caller)?;
     most_brackets(caller)?;
-    deep(caller, random)?;
-    let sixteen = sixteen(random);
-    orders(caller, &sixteen)?;
-    mixes(caller, random, &sixteen)
+    deep(caller, random)
 }
 
 /// No rule's: beside theirs, with a low byte or half of theirs, and the largest.
@@ -115,7 +109,7 @@ fn nested(caller: &mut Caller) -> Outcome {
 
 /// Eight brackets with something else around each, and one more.
 fn deep(caller: &mut Caller, random: &mut Random) -> Outcome {
-    let lent = Lent::of(every_case());
+    let index = every_case();
     for _ in 0..3_000 {
         let mut text = random.pick(&INMOST).to_string();
         for _ in 0..BRACKETS_MAX {
@@ -123,8 +117,10 @@ fn deep(caller: &mut Caller, random: &mut Random) -> Outcome {
             let (before, behind) = if random.one_in(4) { ("", "") } else { around };
             text = bracketed(&text, before, behind);
         }
-        lent.ask(caller, text.as_bytes())?;
-        lent.ask(caller, format!("({text})").as_bytes())?;
+        for rule in RULES {
+            caller.ask(&index, rule, text.as_bytes(), 64)?;
+            caller.ask(&index, rule, format!("({text})").as_bytes(), 64)?;
+        }
     }
     Ok(())
 }
@@ -143,67 +139,6 @@ fn most_brackets(caller: &mut Caller) -> Outcome {
         }
         asked(caller, &index, format!("{text:<256}").as_bytes())?;
         asked(caller, &index, format!("{text:<257}").as_bytes())?;
-    }
-    Ok(())
-}
-
-/// An index to ask again and again, and what the reference has read of it.
-struct Lent {
-    bytes: Vec<u8>,
-    index: Index,
-}
-
-impl Lent {
-    fn of(bytes: Vec<u8>) -> Lent {
-        Lent { index: read(&bytes).unwrap(), bytes }
-    }
-
-    /// By both rules, with room for just the answer; says whether the two answers differ.
-    fn ask(&self, caller: &mut Caller, question: &[u8]) -> Result<bool, String> {
-        let answers = RULES.map(|rule| answer(&self.index, rule, question));
-        for (rule, answer) in RULES.into_iter().zip(&answers) {
-            let needed = answer.as_ref().map_or(0, |answer| 2 * answer.intervals().len());
-            caller.ask(&self.bytes, rule, question, needed)?;
-        }
-        Ok(answers[0] != answers[1])
-    }
-}
-
-const SIXTEEN: &[u8; QUESTION_WORDS_MAX] = b"abcdefghijklmnop";
-const RECORDS: u32 = 40;
-
-/// Sixteen words, and records of which one has most of the words and another few: some tell of `and`, some of `or` and `not`.
-fn sixteen(random: &mut Random) -> Lent {
-    let mut lists = SIXTEEN.map(|_| Vec::new());
-    for record in 1..=RECORDS {
-        let eighths = 1 + random.below(7);
-        for list in &mut lists {
-            if random.below(8) < eighths {
-                list.push(record);
-            }
-        }
-    }
-    let words: Vec<(Vec<u8>, Set)> = SIXTEEN.iter().zip(&lists).map(|(&word, list)| (vec![word], Set::of_numbers(list))).collect();
-    Lent::of(encode(RECORDS, &words))
-}
-
-/// Sixteen words with fifteen operators between them, in all orders of `and` and `or`.
-fn orders(caller: &mut Caller, sixteen: &Lent) -> Outcome {
-    let gaps = SIXTEEN.len() - 1;
-    let mut telling = 0;
-    for order in 0..1 << gaps {
-        let operators: Vec<&str> = (0..gaps).map(|gap| if order >> gap & 1 == 0 { "and" } else { "or" }).collect();
-        telling += usize::from(sixteen.ask(caller, &row(SIXTEEN, &operators))?);
-    }
-    assert!(10 * telling > 9 << gaps, "the two rules differ in {telling} orders only");
-    Ok(())
-}
-
-/// Sixteen words with any operators, in any spelling.
-fn mixes(caller: &mut Caller, random: &mut Random, sixteen: &Lent) -> Outcome {
-    for _ in 0..4_000 {
-        let operators: Vec<Vec<u8>> = SIXTEEN[1..].iter().map(|_| make::operator(random)).collect();
-        sixteen.ask(caller, &row(SIXTEEN, &operators))?;
     }
     Ok(())
 }
