@@ -14,6 +14,7 @@ static const struct question SAME[] = {
     {"or, five common", "c0 or c1 or c2 or c3 or c4"},
     {"or, sixteen words", "c0 or c1 or c2 or c3 or m0 or m1 or m2 or m3 or m4 or m5 or m6 or m7 or r0 or r1 or r2 or r3"},
     {"and before or", "c0 and m0 or r0"},
+    {"or, parts alone", "r0 or (c0 and m0) or (c1 and m1)"},
     {"nested", "((c0 or m0) and (c1 or (m1 not r0))) not (c2 and (m2 or r1))"},
     {"eight brackets", "c0 not (m0 and (c1 not (m1 and (c2 not (m2 and (c3 not (m3 and (c4 or r0))))))))"},
 };
