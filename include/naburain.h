@@ -10,7 +10,7 @@
  * Every call that takes an index checks all of it first: 1, 2, 3, 4, 5 in this order, and the first that holds is returned.
  *
  * What the caller owes: a slice of length k has k readable elements (writable, where it is lent to be written), aligned for their type; a slice
- * that is written overlaps no other; nobody changes a slice while the call runs; there are 32 KiB of stack. With length 0 the pointer is not followed,
+ * that is written overlaps no other; nobody changes a slice while the call runs; there are 48 KiB of stack. With length 0 the pointer is not followed,
  * and may be null.
  * Nothing is kept between calls and nothing is allocated, so calls from several threads do not disturb each other. */
 #ifndef NABURAIN_H

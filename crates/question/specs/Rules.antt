@@ -6,7 +6,7 @@ use lib.Dec.{eqb}
 use Rattle.question.specs.declared.token.Op.the-variants.{And, Or, Not}
 use Rattle.question.specs.Grammar.{Tree, pair, Link, link, Rule, fromLeft}
 
--- Reference 6.3, rule 2: the first group of a row, all that stands before its first `or`, joined from the left
+-- Reference 6.3, rule 2: the first group of a row, all that stands before its first `or`, grouped from the left
 unfoldable pub firstGroup : Tree → List Link → Tree
 firstGroup first [] = first
 firstGroup first (link And operand ∷ links) = firstGroup (pair And first operand) links
@@ -20,7 +20,7 @@ laterGroups (link And operand ∷ links) = laterGroups links
 laterGroups (link Not operand ∷ links) = laterGroups links
 laterGroups (link Or operand ∷ links) = link Or (firstGroup operand links) ∷ laterGroups links
 
--- Reference 6.3, rule 2: the groups, joined from the left
+-- Reference 6.3, rule 2: the groups, grouped from the left
 unfoldable pub andFirst : Rule
 andFirst first links = fromLeft (firstGroup first links) (laterGroups links)
 
