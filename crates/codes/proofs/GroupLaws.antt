@@ -14,7 +14,7 @@ use Rattle.question.specs.Grammar.{Tree, word, pair, part, Link, link, Out, goo
 use Rattle.question.specs.Rules.{firstGroup, laterGroups, andFirst}
 use Rattle.question.specs.Meaning.{satisfies}
 use Rattle.question.specs.Limits.{tokenWords}
-use Rattle.codes.specs.Group.{goesOn, isWide, opening, closing, entered, insideOf, groupedOn, grouped, groupedBrackets}
+use Rattle.codes.specs.Group.{goesOn, isWide, opening, closing, entered, innermost, groupedOn, grouped, groupedBrackets}
 use Rattle.codes.proofs.BareLaws.{bare, bareLinks, bare-append, from-left-bare, bare-same, bare-words}
 
 -- ---- a reading from the left that succeeds at each bound on its calls from some bound on; and of what parts it is made up
@@ -85,7 +85,7 @@ entered-fits : (d m : ℕ) (b : Bool) → Fits (suc d) m → Fits d (entered b m
 entered-fits d m true h = fits-less d (entered true m) (2 * m + 1) (omega arith) h
 entered-fits d m false h = fits-less d (entered false m) (2 * m + 1) (omega arith) h
 
-entered-inside : (m : ℕ) (b : Bool) → insideOf (entered b m) ≡ b
+entered-inside : (m : ℕ) (b : Bool) → innermost (entered b m) ≡ b
 entered-inside m true = eq-eqb (entered true m % 2) 1 (omega arith)
 entered-inside m false = ne-eqb (entered false m % 2) 1 (λ (e : entered false m % 2 ≡ 1). omega arith)
 
@@ -176,7 +176,7 @@ links-end : (D : ℕ) (b : Bool) (m k : ℕ) (r : List Tok) → Ends r → Links
 unfolding tightLinks laterGroups groupedOn
 links-end D b m k _ over = links-apart D b m k [] [] refl refl (record { got = []; same = refl; reads = surely-end (suc D) k over })
 links-end D b m k _ (closes p r) =
-    let z = groupedOn (insideOf m) (m / 2) r in
+    let z = groupedOn (innermost m) (m / 2) r in
     links-apart D b m k (closeT p ∷ r) (closeT p ∷ z) refl refl (record { got = []; same = refl; reads = surely-end (suc D) k (closes p z) })
 
 -- ---- a link more of the same group
@@ -394,7 +394,7 @@ grouped-on-words b m (opT Or p ∷ r) =
     closing-words b (opT Or p ∷ opening w (groupedOn w m r)) ∙ opening-words w (groupedOn w m r) ∙ grouped-on-words w m r
 grouped-on-words b m (opT Not p ∷ r) = grouped-on-words b m r
 grouped-on-words b m (openT p ∷ r) = grouped-on-words false (entered b m) r
-grouped-on-words b m (closeT p ∷ r) = closing-words b (closeT p ∷ groupedOn (insideOf m) (m / 2) r) ∙ grouped-on-words (insideOf m) (m / 2) r
+grouped-on-words b m (closeT p ∷ r) = closing-words b (closeT p ∷ groupedOn (innermost m) (m / 2) r) ∙ grouped-on-words (innermost m) (m / 2) r
 grouped-on-words b m (otherT p ∷ r) = grouped-on-words b m r
 
 pub grouped-token-words : (ts : List Tok) → tokenWords (grouped ts) ≡ tokenWords ts

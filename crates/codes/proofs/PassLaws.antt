@@ -3,7 +3,7 @@ use Prim.Native.Nat.{ℕ, _+_, _*_, _/_, _≤_, _<_}
 use native.Mathlib.Omega.{arith}
 use native.Mathlib.Numerals.{add-one}
 use mathlib.Core.Path.{_≡_, refl, sym, ap, ap₂, _∙_}
-use mathlib.Core.Bool.{Bool, true, false, cond, _&&_, _||_}
+use mathlib.Core.Bool.{Bool, true, false, cond, _&&_, _||_, and-true}
 use mathlib.Core.List.{List, [], _∷_, _++_, append-nil, append-assoc}
 use lib.Dec.{eqb}
 use lib.ListN.{length, getD, take, drop, set, length-set, List·getD-eq-default}
@@ -15,7 +15,7 @@ use Rattle.question.specs.declared.token.Op.the-variants.{And, Or, Not}
 use Rattle.question.specs.Token.{Tok, wordT, opT, openT, closeT, otherT}
 use Rattle.codes.specs.declared.group.Grouping.{Grouping}
 use Rattle.codes.specs.Code.{wordCode, andCode, orCode, notCode, openCode, closeCode, noCode, opCode, codeOf, codesOf}
-use Rattle.codes.specs.Group.{goesOn, isWide, opening, closing, entered, insideOf, groupedOn, grouped}
+use Rattle.codes.specs.Group.{goesOn, isWide, opening, closing, entered, innermost, groupedOn, grouped}
 use Rattle.codes.specs.Grouping.{WideAt, PutsCode, GroupsCode, GroupsCodes}
 use Rattle.codes.proofs.CodeLaws.{getD-within}
 use Rattle.codes.proofs.ReadsLaws.{stands, stands-end, code-within, code-word, code-open, code-close, code-operator}
@@ -56,12 +56,10 @@ abbrev ends : Bool → ℕ → Bool
 ends inside code = inside && (eqb code orCode || eqb code closeCode)
 
 ends-or : (inside : Bool) → ends inside orCode ≡ inside
-ends-or true = refl
-ends-or false = refl
+ends-or inside = and-true inside
 
 ends-close : (inside : Bool) → ends inside closeCode ≡ inside
-ends-close true = refl
-ends-close false = refl
+ends-close inside = and-true inside
 
 ends-none : (inside : Bool) (code : ℕ) → (code ≡ orCode → ⊥) → (code ≡ closeCode → ⊥) → ends inside code ≡ false
 ends-none true code h g = rw (ne-eqb code orCode h, ne-eqb code closeCode g)
@@ -85,11 +83,11 @@ module _ (inside : Bool) (outer : ℕ) (r : List Tok) where
       ap (λ (b : Bool). only b closeCode ++ openCode ∷ codesOf (groupedOn false (entered inside outer) r))
       (sym (ends-none inside openCode (λ e. omega arith) (λ e. omega arith)))
 
-  on-close : (p : ℕ) → on (closeT p) ≡ only (ends inside closeCode) closeCode ++ closeCode ∷ codesOf (groupedOn (insideOf outer) (outer / 2) r)
+  on-close : (p : ℕ) → on (closeT p) ≡ only (ends inside closeCode) closeCode ++ closeCode ∷ codesOf (groupedOn (innermost outer) (outer / 2) r)
   unfolding groupedOn codesOf
   on-close p =
-      close-first inside (closeT p ∷ groupedOn (insideOf outer) (outer / 2) r)
-      ∙ ap (λ (b : Bool). only b closeCode ++ closeCode ∷ codesOf (groupedOn (insideOf outer) (outer / 2) r)) (sym (ends-close inside))
+      close-first inside (closeT p ∷ groupedOn (innermost outer) (outer / 2) r)
+      ∙ ap (λ (b : Bool). only b closeCode ++ closeCode ∷ codesOf (groupedOn (innermost outer) (outer / 2) r)) (sym (ends-close inside))
 
   -- any other
   plain : (t : Tok) → (codeOf t ≡ orCode → ⊥) → (codeOf t ≡ openCode → ⊥) → (codeOf t ≡ closeCode → ⊥) →
@@ -192,15 +190,15 @@ module _ {codes : List ℕ} {i : ℕ} (within : i < length codes) (at : Grouping
         ∙ ap₂ (λ (x y : ℕ). only (ends (at .inside) x) closeCode ++ x ∷ codesOf (groupedOn false y (drop (i + 1) toks))) (sym c) (sym m));
   }
 
-  pub group-close : code ≡ closeCode → {inner : Bool} {levels : ℕ} → inner ≡ insideOf (at .outer) → levels ≡ at .outer / 2 →
+  pub group-close : code ≡ closeCode → {inner : Bool} {levels : ℕ} → inner ≡ innermost (at .outer) → levels ≡ at .outer / 2 →
       GroupsCode codes i at out out₂ (record { inside = inner; outer = levels; count = n₂ })
   group-close c {inner} {levels} b m = rw (b, m) record {
     long = second .long ∙ first .long;
     few = put-two first second;
-    same = λ toks e. left-same toks e (codesOf (groupedOn (insideOf (at .outer)) (at .outer / 2) (drop (i + 1) toks)))
+    same = λ toks e. left-same toks e (codesOf (groupedOn (innermost (at .outer)) (at .outer / 2) (drop (i + 1) toks)))
         (λ t f. let o = code-close t (f ∙ c) in
         ap (on (at .inside) (at .outer) (drop (i + 1) toks)) (o .1) ∙ on-close (at .inside) (at .outer) (drop (i + 1) toks) (o .0)
-        ∙ ap (λ (x : ℕ). only (ends (at .inside) x) closeCode ++ x ∷ codesOf (groupedOn (insideOf (at .outer)) (at .outer / 2) (drop (i + 1) toks))) (sym c));
+        ∙ ap (λ (x : ℕ). only (ends (at .inside) x) closeCode ++ x ∷ codesOf (groupedOn (innermost (at .outer)) (at .outer / 2) (drop (i + 1) toks))) (sym c));
   }
 
   pub group-else : (code ≡ orCode → ⊥) → (code ≡ openCode → ⊥) → (code ≡ closeCode → ⊥) →

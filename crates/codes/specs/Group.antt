@@ -39,8 +39,8 @@ closing inside ts = cond inside (closeT 0 ∷ ts) ts
 abbrev pub entered : Bool → ℕ → ℕ
 entered inside outer = outer % 256 * 2 + cond inside 1 0
 
-abbrev pub insideOf : ℕ → Bool
-insideOf outer = eqb (outer % 2) 1
+abbrev pub innermost : ℕ → Bool
+innermost outer = eqb (outer % 2) 1
 
 -- the tokens from here on, where a group in brackets is open on this level, or none
 unfoldable pub groupedOn : Bool → ℕ → List Tok → List Tok
@@ -50,7 +50,7 @@ groupedOn inside outer (opT And p ∷ r) = opT And p ∷ groupedOn inside outer 
 groupedOn inside outer (opT Or p ∷ r) = closing inside (opT Or p ∷ opening (isWide r) (groupedOn (isWide r) outer r))
 groupedOn inside outer (opT Not p ∷ r) = opT Not p ∷ groupedOn inside outer r
 groupedOn inside outer (openT p ∷ r) = openT p ∷ groupedOn false (entered inside outer) r
-groupedOn inside outer (closeT p ∷ r) = closing inside (closeT p ∷ groupedOn (insideOf outer) (outer / 2) r)
+groupedOn inside outer (closeT p ∷ r) = closing inside (closeT p ∷ groupedOn (innermost outer) (outer / 2) r)
 groupedOn inside outer (otherT p ∷ r) = otherT p ∷ groupedOn inside outer r
 
 abbrev pub grouped : List Tok → List Tok

@@ -2,7 +2,7 @@
 use Prim.Native.Nat.{ℕ}
 use mathlib.Core.Path.{_≡_, refl, sym, ap, ap₂, _∙_}
 use mathlib.Core.List.{List, [], _∷_, _++_, append-assoc, append-nil}
-use mathlib.Core.Bool.{Bool, true, false, cond, _||_}
+use mathlib.Core.Bool.{Bool, true, false, cond, _||_, or-false, or-assoc}
 use lib.Dec.{eqb}
 use borrow.Author.Tests.{eq-eqb, ne-eqb}
 use Rattle.question.specs.declared.token.Op.{Op}
@@ -101,14 +101,6 @@ and-first-plain t (link Not u ∷ ls) h = and-first-plain (pair Not t u) ls h
 abbrev some : (List ℕ → ℕ → Bool) → List Link → ℕ → Bool
 some has [] x = false
 some has (link o t ∷ ls) x = satisfies has t x || some has ls x
-
-or-false : (a : Bool) → a || false ≡ a
-or-false true = refl
-or-false false = refl
-
-or-assoc : (a b c : Bool) → (a || b) || c ≡ a || (b || c)
-or-assoc true b c = refl
-or-assoc false b c = refl
 
 -- the groups of a row, of which one has to be satisfied
 groups-some : (has : List ℕ → ℕ → Bool) (t : Tree) (ls : List Link) (x : ℕ) →
