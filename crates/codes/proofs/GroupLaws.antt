@@ -14,7 +14,7 @@ use Rattle.question.specs.Grammar.{Tree, word, pair, part, Link, link, Out, goo
 use Rattle.question.specs.Rules.{firstGroup, laterGroups, andFirst}
 use Rattle.question.specs.Meaning.{satisfies}
 use Rattle.question.specs.Limits.{tokenWords}
-use Rattle.codes.specs.Group.{goesOn, isWide, opening, closing, entered, innermost, groupedOn, grouped, groupedBrackets}
+use Rattle.codes.specs.Group.{goesOn, isWide, opening, closing, levelsAround, innermost, groupedOn, grouped, groupedBrackets}
 use Rattle.codes.proofs.BareLaws.{bare, bareLinks, bare-append, from-left-bare, bare-same, bare-words}
 
 -- ---- a reading from the left that succeeds at each bound on its calls from some bound on; and of what parts it is made up
@@ -81,17 +81,17 @@ fits-bound zero m h = h
 fits-bound (suc d) m h = let g = fits-bound d (2 * m + 1) h in omega arith
 
 -- one level further in, and back
-entered-fits : (d m : ℕ) (b : Bool) → Fits (suc d) m → Fits d (entered b m)
-entered-fits d m true h = fits-less d (entered true m) (2 * m + 1) (omega arith) h
-entered-fits d m false h = fits-less d (entered false m) (2 * m + 1) (omega arith) h
+levels-fit : (d m : ℕ) (b : Bool) → Fits (suc d) m → Fits d (levelsAround b m)
+levels-fit d m true h = fits-less d (levelsAround true m) (2 * m + 1) (omega arith) h
+levels-fit d m false h = fits-less d (levelsAround false m) (2 * m + 1) (omega arith) h
 
-entered-inside : (m : ℕ) (b : Bool) → innermost (entered b m) ≡ b
-entered-inside m true = eq-eqb (entered true m % 2) 1 (omega arith)
-entered-inside m false = ne-eqb (entered false m % 2) 1 (λ (e : entered false m % 2 ≡ 1). omega arith)
+levels-innermost : (m : ℕ) (b : Bool) → innermost (levelsAround b m) ≡ b
+levels-innermost m true = eq-eqb (levelsAround true m % 2) 1 (omega arith)
+levels-innermost m false = ne-eqb (levelsAround false m % 2) 1 (λ (e : levelsAround false m % 2 ≡ 1). omega arith)
 
-entered-outer : (m : ℕ) (b : Bool) → m < 256 → entered b m / 2 ≡ m
-entered-outer m true h = omega arith
-entered-outer m false h = omega arith
+levels-outer : (m : ℕ) (b : Bool) → m < 256 → levelsAround b m / 2 ≡ m
+levels-outer m true h = omega arith
+levels-outer m false h = omega arith
 
 -- ---- the links before the first `or`
 
@@ -291,7 +291,7 @@ unfolding groupedOn
 word-as true D b m k w p r e = ((λ h. h), record { got = word w; same = refl; reads = surely-word D k w p (groupedOn b m r) e })
 word-as false D b m k w p r e = tt
 
-part-as : (D : ℕ) (b : Bool) (m k p : ℕ) (ts : List Tok) (o : Out Tree) → m < 256 → Told (LevelAs D (entered b m) k ts) o →
+part-as : (D : ℕ) (b : Bool) (m k p : ℕ) (ts : List Tok) (o : Out Tree) → m < 256 → Told (LevelAs D (levelsAround b m) k ts) o →
     Told (OperandAs (suc D) b m k (openT p ∷ ts)) (bind o closed)
 unfolding groupedOn bare
 part-as D b m k p ts (bad c r) h x = tt
@@ -305,7 +305,7 @@ part-as D b m k p ts (good t (closeT q ∷ r) j) h x =
       record {
         got = part (v .got);
         same = v .same;
-        reads = surely-part D k p (groupedOn false (entered b m) ts) (rw (entered-inside m b, entered-outer m b h) at (v .reads));
+        reads = surely-part D k p (groupedOn false (levelsAround b m) ts) (rw (levels-innermost m b, levels-outer m b h) at (v .reads));
       },
     )
 part-as D b m k p ts (good t (otherT q ∷ r) j) h x = tt
@@ -331,7 +331,7 @@ mutual
   operand-as (suc f) (suc d) (suc zero) b m k (openT p ∷ r) l h = absurd (omega arith)
   operand-as (suc f) (suc d) (suc (suc D)) b m k (openT p ∷ r) l h =
       rw (not-none d, back d) (part-as (suc D) b m k p r (question andFirst f d k r) (fits-bound (suc d) m h)
-      (level-as f d D (entered b m) k r (omega arith) (entered-fits d m b h)))
+      (level-as f d D (levelsAround b m) k r (omega arith) (levels-fit d m b h)))
   operand-as (suc f) d D b m k (closeT p ∷ r) l h = tt
   operand-as (suc f) d D b m k (otherT p ∷ r) l h = tt
 
@@ -393,7 +393,7 @@ grouped-on-words b m (opT Or p ∷ r) =
     let w = isWide r in
     closing-words b (opT Or p ∷ opening w (groupedOn w m r)) ∙ opening-words w (groupedOn w m r) ∙ grouped-on-words w m r
 grouped-on-words b m (opT Not p ∷ r) = grouped-on-words b m r
-grouped-on-words b m (openT p ∷ r) = grouped-on-words false (entered b m) r
+grouped-on-words b m (openT p ∷ r) = grouped-on-words false (levelsAround b m) r
 grouped-on-words b m (closeT p ∷ r) = closing-words b (closeT p ∷ groupedOn (innermost m) (m / 2) r) ∙ grouped-on-words (innermost m) (m / 2) r
 grouped-on-words b m (otherT p ∷ r) = grouped-on-words b m r
 

@@ -15,7 +15,7 @@ use Rattle.question.specs.declared.token.Op.the-variants.{And, Or, Not}
 use Rattle.question.specs.Token.{Tok, wordT, opT, openT, closeT, otherT}
 use Rattle.codes.specs.declared.group.Grouping.{Grouping}
 use Rattle.codes.specs.Code.{wordCode, andCode, orCode, notCode, openCode, closeCode, noCode, opCode, codeOf, codesOf}
-use Rattle.codes.specs.Group.{goesOn, isWide, opening, closing, entered, innermost, groupedOn, grouped}
+use Rattle.codes.specs.Group.{goesOn, isWide, opening, closing, levelsAround, innermost, groupedOn, grouped}
 use Rattle.codes.specs.Grouping.{WideAt, PutsCode, GroupsCode, GroupsCodes}
 use Rattle.codes.proofs.CodeLaws.{getD-within}
 use Rattle.codes.proofs.ReadsLaws.{stands, stands-end, code-within, code-word, code-open, code-close, code-operator}
@@ -77,10 +77,10 @@ module _ (inside : Bool) (outer : ℕ) (r : List Tok) where
       close-first inside (opT Or p ∷ opening (isWide r) (groupedOn (isWide r) outer r))
       ∙ ap₂ (λ (b : Bool) (cs : List ℕ). only b closeCode ++ orCode ∷ cs) (sym (ends-or inside)) (open-first (isWide r) (groupedOn (isWide r) outer r))
 
-  on-open : (p : ℕ) → on (openT p) ≡ only (ends inside openCode) closeCode ++ openCode ∷ codesOf (groupedOn false (entered inside outer) r)
+  on-open : (p : ℕ) → on (openT p) ≡ only (ends inside openCode) closeCode ++ openCode ∷ codesOf (groupedOn false (levelsAround inside outer) r)
   unfolding groupedOn codesOf
   on-open p =
-      ap (λ (b : Bool). only b closeCode ++ openCode ∷ codesOf (groupedOn false (entered inside outer) r))
+      ap (λ (b : Bool). only b closeCode ++ openCode ∷ codesOf (groupedOn false (levelsAround inside outer) r))
       (sym (ends-none inside openCode (λ e. omega arith) (λ e. omega arith)))
 
   on-close : (p : ℕ) → on (closeT p) ≡ only (ends inside closeCode) closeCode ++ closeCode ∷ codesOf (groupedOn (innermost outer) (outer / 2) r)
@@ -179,7 +179,7 @@ module _ {codes : List ℕ} {i : ℕ} (within : i < length codes) (at : Grouping
         (sym c) (sym (w toks e)));
   }
 
-  pub group-open : code ≡ openCode → {levels : ℕ} → levels ≡ entered (at .inside) (at .outer) →
+  pub group-open : code ≡ openCode → {levels : ℕ} → levels ≡ levelsAround (at .inside) (at .outer) →
       GroupsCode codes i at out out₂ (record { inside = false; outer = levels; count = n₂ })
   group-open c {levels} m = record {
     long = second .long ∙ first .long;

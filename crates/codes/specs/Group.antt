@@ -36,8 +36,8 @@ abbrev pub closing : Bool → List Tok → List Tok
 closing inside ts = cond inside (closeT 0 ∷ ts) ts
 
 -- the levels around a part, as one number with a bit for each, the innermost the lowest: whether a group of it stands in brackets; there are eight at most
-abbrev pub entered : Bool → ℕ → ℕ
-entered inside outer = outer % 256 * 2 + cond inside 1 0
+abbrev pub levelsAround : Bool → ℕ → ℕ
+levelsAround inside outer = outer % 256 * 2 + cond inside 1 0
 
 abbrev pub innermost : ℕ → Bool
 innermost outer = eqb (outer % 2) 1
@@ -49,7 +49,7 @@ groupedOn inside outer (wordT w p ∷ r) = wordT w p ∷ groupedOn inside outer 
 groupedOn inside outer (opT And p ∷ r) = opT And p ∷ groupedOn inside outer r
 groupedOn inside outer (opT Or p ∷ r) = closing inside (opT Or p ∷ opening (isWide r) (groupedOn (isWide r) outer r))
 groupedOn inside outer (opT Not p ∷ r) = opT Not p ∷ groupedOn inside outer r
-groupedOn inside outer (openT p ∷ r) = openT p ∷ groupedOn false (entered inside outer) r
+groupedOn inside outer (openT p ∷ r) = openT p ∷ groupedOn false (levelsAround inside outer) r
 groupedOn inside outer (closeT p ∷ r) = closing inside (closeT p ∷ groupedOn (innermost outer) (outer / 2) r)
 groupedOn inside outer (otherT p ∷ r) = otherT p ∷ groupedOn inside outer r
 

@@ -5,7 +5,7 @@ ghost use Prim.Native.Nat.{_+_, _*_, _≤_, _<_};
 ghost use lib.Dec.{eqb};
 ghost use lib.ListN.{length};
 ghost use Rattle.codes.specs.Code.{orCode, closeCode};
-ghost use Rattle.codes.specs.Group.{entered};
+ghost use Rattle.codes.specs.Group.{levelsAround};
 ghost use Rattle.codes.specs.Grouping.{WideAt, PutsCode, GroupsCode, GroupsCodes};
 use crate::code::AND_CODE;
 use crate::code::CLOSE_CODE;
@@ -46,7 +46,7 @@ fn is_wide(codes: &[u8], i: usize) -> bool
 
 // The levels around a part that opens.
 fn enter(inside: bool, outer: usize) -> usize
-    ensures { λ r. ⌜ r ≡ entered inside outer ⌝ }
+    ensures { λ r. ⌜ r ≡ levelsAround inside outer ⌝ }
 {
     if inside {
         outer % 256 * 2 + 1
