@@ -56,6 +56,6 @@ groupedOn inside outer (otherT p ∷ r) = otherT p ∷ groupedOn inside outer r
 abbrev pub grouped : List Tok → List Tok
 grouped ts = groupedOn false 0 ts
 
--- the brackets that are open at one place, where there are the question's own: of each level one more, and one for the whole
+-- the most brackets that are open at one place: the question's own, and one around a group of each level, that outside all brackets too
 abbrev pub groupedBrackets : ℕ
 groupedBrackets = 2 * bracketsMax + 1

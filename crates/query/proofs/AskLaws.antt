@@ -34,12 +34,12 @@ use Rattle.codes.specs.Grouping.{GroupsCodes}
 use Rattle.codes.proofs.CodeLaws.{codes-words}
 use Rattle.codes.proofs.GroupLaws.{GroupedAs, grouped-reads, grouped-same, grouped-words, grouped-token-words}
 use Rattle.slots.specs.Slots.{slotHas}
-use Rattle.slots.specs.Compile.{WritesCodes, FillsSlots}
+use Rattle.slots.specs.Compile.{WritesCodes, FillsSlots, TreeSlots}
 use Rattle.query.specs.Drive.{TreeOf, testOf, AskedBy}
 use Rattle.query.specs.Prepared.{MadeReady, Prepared}
 use Rattle.query.proofs.SatisfyLaws.{satisfying-same}
 use Rattle.query.proofs.QuestionBound.{question-bound}
-use Rattle.slots.proofs.WholeLaws.{slot-satisfies, TreeSlots, compiled-slots}
+use Rattle.slots.proofs.WholeLaws.{slot-satisfies, compiled-slots}
 
 -- ---- an accepted question made ready
 
@@ -67,11 +67,14 @@ module _ {index s codes codes′ entries entries′ : List ℕ} {n slots : ℕ} 
   compiled-ready =
       let slotted = compiled-slots (c .1) (ruleOf rule) (rule-keeps rule) t k accepted in
       record {
-        toks = tokens s;
-        are = sym compiled-codes;
-        fuel = 2 * length s + 2;
-        words = k;
-        reads = asked-accepts (ruleOf rule) s t k accepted .reads;
+        reads =
+            record {
+              toks = tokens s;
+              are = sym compiled-codes;
+              fuel = 2 * length s + 2;
+              words = k;
+              reads = asked-accepts (ruleOf rule) s t k accepted .reads;
+            };
         all = slotted .0;
         have = slotted .1;
       }
@@ -99,24 +102,25 @@ reads-prepared {codes} {index} {entries} {slots} {t} sound reads all have = reco
 pub plain-prepared : {codes index entries : List ℕ} {slots : ℕ} {t : Tree} → Sound index → MadeReady fromLeft codes index entries slots t →
     Prepared codes index entries slots t
 plain-prepared {t = t} sound m =
+    let by = m .reads in
     reads-prepared sound
     (record {
-      toks = m .toks;
-      are = m .are;
-      fuel = m .fuel;
-      words = m .words;
-      reads = deeper-reads fromLeft (m .fuel) 8 groupedBrackets 0 (m .toks) t [] (m .words) (omega arith) (m .reads);
+      toks = by .toks;
+      are = by .are;
+      fuel = by .fuel;
+      words = by .words;
+      reads = deeper-reads fromLeft (by .fuel) 8 groupedBrackets 0 (by .toks) t [] (by .words) (omega arith) (by .reads);
     })
     (m .all) (m .have)
 
 -- by the second rule, with their groups in brackets
 module _ {codes index entries lent grouped′ : List ℕ} {slots n : ℕ} {t : Tree} (m : MadeReady andFirst codes index entries slots t)
     (g : GroupsCodes codes lent grouped′ n) where
-  pub regrouped : GroupedAs (m .toks) t (m .words)
-  regrouped = grouped-reads (m .fuel) (m .toks) t (m .words) (m .reads)
+  pub regrouped : GroupedAs (m .reads .toks) t (m .reads .words)
+  regrouped = grouped-reads (m .reads .fuel) (m .reads .toks) t (m .reads .words) (m .reads .reads)
 
-  grouped-codes : take (n - 0) grouped′ ≡ codesOf (grouped (m .toks))
-  grouped-codes = rw (sub-zero n) (g .coded (m .toks) (m .are))
+  grouped-codes : take (n - 0) grouped′ ≡ codesOf (grouped (m .reads .toks))
+  grouped-codes = rw (sub-zero n) (g .coded (m .reads .toks) (m .reads .are))
 
   pub grouped-asked : AskedBy codes index entries slots → AskedBy (take (n - 0) grouped′) index entries slots
   grouped-asked a = record {
@@ -124,14 +128,14 @@ module _ {codes index entries lent grouped′ : List ℕ} {slots n : ℕ} {t : T
     entries-long = a .entries-long;
     few = a .few;
     all =
-        a .all ∙ sym (ap wordCodes (m .are)) ∙ codes-words (m .toks) ∙ sym (ap length (grouped-token-words (m .toks))) ∙ sym (codes-words (grouped (m .toks)))
+        a .all ∙ sym (ap wordCodes (m .reads .are)) ∙ codes-words (m .reads .toks) ∙ sym (ap length (grouped-token-words (m .reads .toks))) ∙ sym (codes-words (grouped (m .reads .toks)))
         ∙ ap wordCodes (sym grouped-codes);
   }
 
   pub grouped-prepared : Sound index → Prepared (take (n - 0) grouped′) index entries slots (regrouped .tree)
   grouped-prepared sound =
       reads-prepared sound
-      (record { toks = grouped (m .toks); are = sym grouped-codes; fuel = regrouped .fuel; words = m .words; reads = regrouped .reads })
+      (record { toks = grouped (m .reads .toks); are = sym grouped-codes; fuel = regrouped .fuel; words = m .reads .words; reads = regrouped .reads })
       (m .all ∙ ap length (sym (grouped-words regrouped))) (rw (grouped-words regrouped) (m .have))
 
   -- its answer is that of the question's tree

@@ -15,7 +15,8 @@ use Rattle.question.specs.Meaning.{satisfies}
 use Rattle.slots.specs.Slots.{slotHas, slotSatisfies}
 use Rattle.slots.specs.Bound.{slotsIntervals}
 use Rattle.slots.proofs.SlotLaws.{slots-none}
-use Rattle.slots.proofs.WholeLaws.{slot-satisfies, TreeSlots}
+use Rattle.slots.specs.Compile.{TreeSlots}
+use Rattle.slots.proofs.WholeLaws.{slot-satisfies}
 use Rattle.slots.proofs.SlotBound.{slot-zero, tests, tests-still, tests-out, tests-together, satisfies-still}
 use Rattle.query.specs.Ask.{satisfying}
 

@@ -15,7 +15,7 @@ use Rattle.window.specs.Tuning.{windowMost}
 use Rattle.window.specs.Flips.{odd, flips}
 use Rattle.window.specs.Steps.{Stepped}
 use Rattle.question.specs.Token.{Tok}
-use Rattle.question.specs.Grammar.{Tree, good, fromLeft, question}
+use Rattle.question.specs.Grammar.{Tree, Rule, good, fromLeft, question}
 use Rattle.codes.specs.Code.{codesOf, wordCodes}
 use Rattle.codes.specs.Group.{groupedBrackets}
 use Rattle.slots.specs.Slots.{slotHas, slotSatisfies}
@@ -25,13 +25,17 @@ use Rattle.query.specs.declared.drive.At.{At}
 
 -- ---- the question's test, by its codes
 
--- the codes read as a whole question whose tree is t
-pub record TreeOf (codes : List ℕ) (t : Tree) : Type 0 where
+-- by a rule, and with room for so many brackets, the codes read as a whole question whose tree is t
+pub record TreeBy (rule : Rule) (brackets : ℕ) (codes : List ℕ) (t : Tree) : Type 0 where
   pub toks : List Tok
   pub are : codesOf toks ≡ codes
   pub fuel : ℕ
   pub words : ℕ
-  pub reads : question fromLeft fuel groupedBrackets 0 toks ≡ good t [] words
+  pub reads : question rule fuel brackets 0 toks ≡ good t [] words
+
+-- as the driver reads them
+abbrev pub TreeOf : List ℕ → Tree → Type 0
+TreeOf codes t = TreeBy fromLeft groupedBrackets codes t
 
 -- which records satisfy it, by what its slots have
 abbrev pub testOf : List ℕ → List ℕ → Tree → ℕ → Bool

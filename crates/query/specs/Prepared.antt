@@ -1,22 +1,20 @@
 -- An accepted question made ready for the driver: what its codes and its slots' entries are to its tree.
-use Prim.Native.Nat.{ℕ, _≤_, _<_}
+use Prim.Native.Nat.{ℕ, _≤_}
 use mathlib.Core.Path.{_≡_}
-use mathlib.Core.List.{List, []}
-use lib.ListN.{length, getD}
+use mathlib.Core.List.{List}
+use lib.ListN.{length}
 use Rattle.limits.specs.Limits.{bracketsMax}
 use Rattle.list.specs.declared.answer.Answer.{Answer}
 use Rattle.list.specs.Interval.{intervals}
 use Rattle.list.specs.Answer.{Listing}
 use Rattle.directory.specs.Has.{has}
-use Rattle.question.specs.Token.{Tok}
-use Rattle.question.specs.Grammar.{Tree, Rule, good, question, treeWords}
+use Rattle.question.specs.Grammar.{Tree, Rule, treeWords}
 use Rattle.question.specs.Meaning.{satisfies}
 use Rattle.question.specs.Reading.{parses, asked}
-use Rattle.codes.specs.Code.{codesOf}
-use Rattle.slots.specs.Slots.{slotHas}
+use Rattle.slots.specs.Compile.{TreeSlots}
 use Rattle.slots.specs.Bound.{slotsIntervals}
 use Rattle.query.specs.Ask.{satisfying}
-use Rattle.query.specs.Drive.{TreeOf, testOf}
+use Rattle.query.specs.Drive.{TreeBy, TreeOf, testOf}
 
 -- the question is accepted
 pub record IsAsked (rule : ℕ) (question : List ℕ) : Type 0 where
@@ -26,13 +24,9 @@ pub record IsAsked (rule : ℕ) (question : List ℕ) : Type 0 where
 
 -- by the rule the codes read as t, and each of its slots has what the index has of its word
 pub record MadeReady (rule : Rule) (codes index entries : List ℕ) (slots : ℕ) (t : Tree) : Type 0 where
-  pub toks : List Tok
-  pub are : codesOf toks ≡ codes
-  pub fuel : ℕ
-  pub words : ℕ
-  pub reads : question rule fuel bracketsMax 0 toks ≡ good t [] words
+  pub reads : TreeBy rule bracketsMax codes t
   pub all : slots ≡ length (treeWords t)
-  pub have : (i : ℕ) → i < length (treeWords t) → (x : ℕ) → slotHas index entries i x ≡ has index (getD (treeWords t) i []) x
+  pub have : TreeSlots index entries t
 
 -- so they are of some question
 pub record IsReady (rule : Rule) (codes index entries : List ℕ) (slots : ℕ) : Type 0 where

@@ -48,5 +48,5 @@ abbrev pub ReadsWhole : List ℕ → Verdict → Type 0
 ReadsWhole s r = (rule : Rule) → r ≡ answer (outcome (length s) (whole rule s))
 
 -- and of the refusals before it
-abbrev pub ReadsText : List ℕ → Verdict → Type 0
-ReadsText s r = (rule : Rule) → r ≡ answer (parsed rule s)
+abbrev pub ReadsAnyRule : List ℕ → Verdict → Type 0
+ReadsAnyRule s r = (rule : Rule) → r ≡ answer (parsed rule s)

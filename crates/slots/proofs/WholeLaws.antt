@@ -13,7 +13,7 @@ use Rattle.question.proofs.RuleLaws.{Keeps}
 use Rattle.question.proofs.TreeWords.{accepted-words}
 use Rattle.question.proofs.MeaningLaws.{satisfiesBy, satisfies-by}
 use Rattle.slots.specs.Slots.{slotHas, slotSatisfies}
-use Rattle.slots.specs.Compile.{FillsSlots}
+use Rattle.slots.specs.Compile.{FillsSlots, TreeSlots}
 
 -- what satisfies by the slots is what satisfies by the words, where each slot has what is said of its word
 
@@ -28,10 +28,6 @@ pub slot-satisfies : (v : ℕ → ℕ → Bool) (had : List ℕ → ℕ → Bool
     slotSatisfies v t 0 x ≡ satisfies had t x
 slot-satisfies v had t x h =
     slot-satisfies-by v t 0 x ∙ satisfies-by had x (λ i. v i x) 0 t (λ i l. let z : 0 + i ≡ i = omega arith in ap (λ (n : ℕ). v n x) z ∙ h i l)
-
--- each slot has what the index has of the tree's word
-abbrev pub TreeSlots : List ℕ → List ℕ → Tree → Type 0
-TreeSlots index entries t = (i : ℕ) → i < length (treeWords t) → (x : ℕ) → slotHas index entries i x ≡ has index (getD (treeWords t) i []) x
 
 pub compiled-slots : {index s entries entries′ : List ℕ} {slots : ℕ} → FillsSlots index s entries entries′ slots → (rule : Rule) → Keeps rule →
     (t : Tree) (n : ℕ) → parsed rule s ≡ parses t n →

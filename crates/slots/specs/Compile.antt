@@ -6,6 +6,7 @@ use lib.ListN.{length, getD, take}
 use Rattle.directory.specs.Has.{has}
 use Rattle.question.specs.Token.{tokens}
 use Rattle.question.specs.Limits.{tokenWords}
+use Rattle.question.specs.Grammar.{Tree, treeWords}
 use Rattle.codes.specs.Code.{codesOf}
 use Rattle.slots.specs.Slots.{entryHas, slotHas}
 
@@ -24,3 +25,7 @@ pub record FillsSlots (index question entries entries′ : List ℕ) (n : ℕ) :
   pub long : length entries′ ≡ length entries
   pub count : n ≡ length (tokenWords (tokens question))
   pub have : (k : ℕ) → k < n → (x : ℕ) → slotHas index entries′ k x ≡ has index (getD (tokenWords (tokens question)) k []) x
+
+-- each slot has what the index has of the tree's word
+abbrev pub TreeSlots : List ℕ → List ℕ → Tree → Type 0
+TreeSlots index entries t = (i : ℕ) → i < length (treeWords t) → (x : ℕ) → slotHas index entries i x ≡ has index (getD (treeWords t) i []) x

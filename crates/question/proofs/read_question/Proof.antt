@@ -10,7 +10,7 @@ returns : tie.Need-returns
 returns c =
     let test = c .before in
     let a = test .before .before .before .args in
-    c .read-text .ensures (ruleOf (a .rule)) ∙ sym (verdict-reads (a .rule) (a .question .now) (sym (test .before .is-rule .ensures) ∙ test .if1 .taken))
+    c .read-any-rule .ensures (ruleOf (a .rule)) ∙ sym (verdict-reads (a .rule) (a .question .now) (sym (test .before .is-rule .ensures) ∙ test .if1 .taken))
 
 returns-2 : tie.Need-returns-2
 returns-2 c =

@@ -2,8 +2,8 @@
 use mathlib.Core.Path.{sym, _∙_}
 use Rattle.question.proofs.FaultLaws.{reading-length, reading-foreign, reading-long, reading-else}
 use borrow.Author.Needs.{needs}
-use Rattle.question.proofs.read_text.Statement.{statement}
-use Rattle.question.proofs.read_text.Tie as tie
+use Rattle.question.proofs.read_any_rule.Statement.{statement}
+use Rattle.question.proofs.read_any_rule.Tie as tie
 
 returns : tie.Need-returns
 returns c rule = sym (reading-length rule (c .before .before .args .question .now) (c .if1 .taken))
@@ -30,8 +30,8 @@ returns-4 c rule =
     ∙ sym (reading-else rule (c .before .before .before .before .before .before .before .before .before .args .question .now)
     (c .before .before .before .before .before .before .before .if1 .left) proper none)
 
-pub read-text-spec : {M : Type 1} → statement M
-read-text-spec =
+pub read-any-rule-spec : {M : Type 1} → statement M
+read-any-rule-spec =
     tie.close
     (tie.spec
     returns (λ c κs. search needs) (λ c. search needs) (λ c. search needs) (λ c κs. search needs) (λ c. search needs)
