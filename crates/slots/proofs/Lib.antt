@@ -1,3 +1,5 @@
+pub mod EntriesLaws
+pub mod RowLaws
 pub mod SlotLaws
 pub mod CompileLaws
 pub mod WholeLaws

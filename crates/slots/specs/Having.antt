@@ -1,0 +1,39 @@
+-- What a slot has: the records that its entries have, in either of two indexes.
+use Prim.Native.Nat.{ℕ, zero, suc, _+_, _-_, _*_}
+use mathlib.Core.Path.{_≡_}
+use mathlib.Core.Bool.{Bool, false, cond, _||_}
+use mathlib.Core.List.{List}
+use lib.Dec.{ltb}
+use lib.ListN.{length}
+use Rattle.list.specs.Interval.{names}
+use Rattle.index.specs.Format.{wordCount, listOf}
+use Rattle.index.specs.Sound.{Sound}
+use Rattle.slots.specs.Row.{rowLong, slotsIn, firstIn, endIn}
+
+-- whether record x is in the list of an entry; a number that is no entry's has none
+abbrev pub entryHas : List ℕ → ℕ → ℕ → Bool
+entryHas index e x = cond (ltb e (wordCount index)) (names (listOf index e) x) false
+
+-- whether it is in that of one of the n entries from i on
+unfoldable pub inEntries : List ℕ → ℕ → ℕ → ℕ → Bool
+inEntries index i zero x = false
+inEntries index i (suc n) x = entryHas index i x || inEntries index (i + 1) n x
+
+-- whether it is in that of one of the entries from `first` up to `end`
+abbrev pub entriesHave : List ℕ → ℕ → ℕ → ℕ → Bool
+entriesHave index first end x = inEntries index first (end - first) x
+
+-- whether the word of slot k stands in record x, by the entries that the slot has in the main index and in the arrivals
+unfoldable pub slotHas : List ℕ → List ℕ → List ℕ → ℕ → ℕ → Bool
+slotHas main arrivals slots k x =
+    entriesHave main (firstIn slots (2 * k)) (endIn slots (2 * k)) x || entriesHave arrivals (firstIn slots (2 * k + 1)) (endIn slots (2 * k + 1)) x
+
+-- what the slots of a row have
+abbrev pub having : List ℕ → List ℕ → List ℕ → ℕ → ℕ → Bool
+having main arrivals row = slotHas main arrivals (slotsIn row)
+
+-- what slots are read by: two sound indexes, and a row
+pub record ReadBy (main arrivals row : List ℕ) : Type 0 where
+  pub main-sound : Sound main
+  pub arrivals-sound : Sound arrivals
+  pub long : length row ≡ rowLong

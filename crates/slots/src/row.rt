@@ -1,0 +1,127 @@
+// The row of a question, one lent slice of numbers. Its ranges and its senses are made and taken apart here alone; its hints are places as `list::hints` keeps
+// them, by the numbers that are told here.
+ghost use mathlib.Core.Path.{_≡_};
+ghost use Prim.Native.Nat.{_+_, _*_, _≤_, _<_};
+ghost use lib.ListN.{length, set, replicate};
+ghost use Rattle.limits.specs.Limits.{questionWordsMax, recordMax};
+ghost use Rattle.slots.specs.Row.{
+  rowLong,
+  firstHint,
+  hintsMax,
+  slotsIn,
+  sensesIn,
+  firstIn,
+  endIn,
+  withRange,
+  untilOf,
+  insideOf,
+  NearEnd,
+  packed,
+  SlotsStay,
+};
+use limits::QUESTION_WORDS_MAX;
+use list::sense::Sense;
+
+// Two ranges a slot, three numbers a range.
+const RANGES: usize = 6 * QUESTION_WORDS_MAX;
+
+// The hints stand behind the ranges and the senses, two numbers each.
+const FIRST_HINT: usize = 56;
+
+// As many lists as a question's words have in two indexes.
+const HINTS: usize = 32;
+
+pub const ROW: usize = RANGES + QUESTION_WORDS_MAX + 2 * HINTS;
+
+// A range of entries of an index: the first, the end, and the number of the first one's hint.
+pub struct Entries {
+    pub first: usize,
+    pub end: usize,
+    pub hint: usize,
+}
+
+// Range j: of slot k it is range 2 * k in the main index, and 2 * k + 1 in the arrivals.
+pub fn entries_of(row: &[usize], j: usize) -> Entries
+    requires long { ⌜ length (now row) ≡ rowLong ⌝ }
+    requires range { ⌜ j < 2 * questionWordsMax ⌝ }
+    ensures first { λ r. ⌜ r .first ≡ firstIn (slotsIn (now (row .entry))) j ⌝ }
+    ensures end { λ r. ⌜ r .end ≡ endIn (slotsIn (now (row .entry))) j ⌝ }
+{
+    Entries {
+        first: row[3 * j],
+        end: row[3 * j + 1],
+        hint: row[3 * j + 2],
+    }
+}
+
+pub fn keep_entries(row: &mut [usize], j: usize, entries: Entries)
+    requires long { ⌜ length (now row) ≡ rowLong ⌝ }
+    requires range { ⌜ j < 2 * questionWordsMax ⌝ }
+    ensures long { λ _. ⌜ length (now (row .exit)) ≡ length (now (row .entry)) ⌝ }
+    ensures slots { λ _. ⌜ slotsIn (now (row .exit)) ≡ withRange (slotsIn (now (row .entry))) j entries ⌝ }
+{
+    row[3 * j] = entries.first;
+    row[3 * j + 1] = entries.end;
+    row[3 * j + 2] = entries.hint;
+}
+
+// The number of the hint of entry i of a range; behind the last hint all lists share it.
+pub fn hint_number(entries: Entries, i: usize) -> usize
+    requires { ⌜ entries .first ≤ i ⌝ }
+    ensures from { λ r. ⌜ firstHint ≤ r ⌝ }
+    ensures below { λ r. ⌜ r < firstHint + hintsMax ⌝ }
+{
+    let last = HINTS - 1;
+    if entries.hint < last {
+        if i - entries.first < last - entries.hint {
+            return FIRST_HINT + entries.hint + (i - entries.first);
+        }
+    }
+    FIRST_HINT + last
+}
+
+// The sense that is kept of slot k.
+pub fn sense_of(row: &[usize], k: usize) -> Sense
+    requires long { ⌜ length (now row) ≡ rowLong ⌝ }
+    requires slot { ⌜ k < questionWordsMax ⌝ }
+    requires near { ⌜ NearEnd (sensesIn (now row)) ⌝ }
+    ensures until { λ r. ⌜ r .until ≡ untilOf (sensesIn (now (row .entry))) k ⌝ }
+    ensures inside { λ r. ⌜ r .inside ≡ insideOf (sensesIn (now (row .entry))) k ⌝ }
+{
+    let sense = row[RANGES + k];
+    Sense {
+        inside: sense % 2 == 1,
+        until: (sense / 2) as u32,
+    }
+}
+
+fn pack(sense: Sense) -> usize
+    requires { ⌜ sense .until ≤ recordMax + 1 ⌝ }
+    ensures { λ r. ⌜ r ≡ packed sense ⌝ }
+{
+    let twice = 2 * sense.until as usize;
+    if sense.inside { twice + 1 } else { twice }
+}
+
+pub fn keep_sense(row: &mut [usize], k: usize, sense: Sense)
+    requires long { ⌜ length (now row) ≡ rowLong ⌝ }
+    requires slot { ⌜ k < questionWordsMax ⌝ }
+    requires near { ⌜ sense .until ≤ recordMax + 1 ⌝ }
+    ensures slots { λ _. ⌜ SlotsStay (now (row .entry)) (now (row .exit)) ⌝ }
+    ensures senses { λ _. ⌜ sensesIn (now (row .exit)) ≡ set (sensesIn (now (row .entry))) k (packed sense) ⌝ }
+{
+    row[RANGES + k] = pack(sense);
+}
+
+// At first no sense says anything.
+pub fn forget_senses(row: &mut [usize])
+    requires { ⌜ length (now row) ≡ rowLong ⌝ }
+    ensures slots { λ _. ⌜ SlotsStay (now (row .entry)) (now (row .exit)) ⌝ }
+    ensures senses { λ _. ⌜ sensesIn (now (row .exit)) ≡ replicate questionWordsMax 0 ⌝ }
+{
+    let mut k = 0;
+    while k < QUESTION_WORDS_MAX {
+        row[RANGES + k] = 0;
+        k += 1;
+    }
+}
