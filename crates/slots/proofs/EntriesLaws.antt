@@ -1,5 +1,5 @@
 -- Laws of a range of entries: what it has entry by entry, and what two ranges have together.
-use Prim.Native.Nat.{ℕ, zero, suc, _+_, _-_, _≤_, _<_}
+use Prim.Native.Nat.{ℕ, zero, suc, _+_, _-_, _*_, _≤_, _<_}
 use native.Mathlib.Omega.{arith}
 use mathlib.Core.Path.{_≡_, refl, sym, ap, ap₂, _∙_}
 use mathlib.Core.Bool.{Bool, false, _||_, or-false, or-assoc}
@@ -7,7 +7,8 @@ use mathlib.Core.List.{List}
 use borrow.Author.Tests.{lt-ltb, le-ltb}
 use Rattle.list.specs.Interval.{names}
 use Rattle.index.specs.Format.{wordCount, listOf}
-use Rattle.slots.specs.Having.{entryHas, inEntries, entriesHave}
+use Rattle.slots.specs.Row.{firstIn, endIn}
+use Rattle.slots.specs.Having.{entryHas, inEntries, entriesHave, slotHas}
 
 module _ (index : List ℕ) where
   -- ---- one entry
@@ -76,3 +77,11 @@ range-none index first end x h = let e : end - first ≡ 0 = omega arith in rw e
 
 pub range-one : (index : List ℕ) (i x : ℕ) → entriesHave index i (i + 1) x ≡ entryHas index i x
 range-one index i x = let e : i + 1 - i ≡ 1 = omega arith in ap (λ (k : ℕ). inEntries index i k x) e ∙ one-entry index i x
+
+-- ---- a slot has what its two ranges have
+
+pub slot-either : (main arrivals slots : List ℕ) (k x : ℕ) →
+    slotHas main arrivals slots k x ≡
+        entriesHave main (firstIn slots (2 * k)) (endIn slots (2 * k)) x || entriesHave arrivals (firstIn slots (2 * k + 1)) (endIn slots (2 * k + 1)) x
+unfolding slotHas
+slot-either main arrivals slots k x = refl

@@ -19,21 +19,26 @@ use Rattle.slots.specs.Row.{slotsIn, sensesIn, firstIn, endIn, withRange
 
 module _ (row : List ℕ) (j : ℕ) (h : j < 32) where
   pub range-first : getD row (3 * j) 0 ≡ firstIn (slotsIn row) j
+  unfolding slotsIn
   range-first = sym (getD-take 96 row (3 * j) 0 (omega arith))
 
   pub range-end : getD row (3 * j + 1) 0 ≡ endIn (slotsIn row) j
+  unfolding slotsIn
   range-end = sym (getD-take 96 row (3 * j + 1) 0 (omega arith))
 
 pub sense-read : (row : List ℕ) (k : ℕ) → k < 16 → getD row (96 + k) 0 ≡ getD (sensesIn row) k 0
+unfolding sensesIn
 sense-read row k h = sym (getD-take 16 (drop 96 row) k 0 h ∙ getD-drop 96 row k 0)
 
 pub senses-long : (row : List ℕ) → length row ≡ 176 → length (sensesIn row) ≡ 16
+unfolding sensesIn
 senses-long row e = length-take-le 16 (drop 96 row) (omega (arith, length-drop 96 row))
 
 -- ---- what is stored
 
 pub range-kept : (row : List ℕ) (j : ℕ) (e : Entries) → j < 32 →
     slotsIn (set (set (set row (3 * j) (e .first)) (3 * j + 1) (e .end)) (3 * j + 2) (e .hint)) ≡ withRange (slotsIn row) j e
+unfolding slotsIn
 range-kept row j e h =
     take-set-lt 96 (set (set row (3 * j) (e .first)) (3 * j + 1) (e .end)) (3 * j + 2) (e .hint) (omega arith)
     ∙ ap (λ (l : List ℕ). set l (3 * j + 2) (e .hint))
@@ -42,16 +47,20 @@ range-kept row j e h =
 
 module _ (row : List ℕ) (k n : ℕ) where
   pub sense-slots : SlotsStay row (set row (96 + k) n)
+  unfolding slotsIn
   sense-slots = record { long = length-set row (96 + k) n; slots = take-set-le 96 row (96 + k) n (omega arith) }
 
   pub sense-kept : k < 16 → sensesIn (set row (96 + k) n) ≡ set (sensesIn row) k n
+  unfolding sensesIn
   sense-kept h = ap (λ (l : List ℕ). take 16 l) (drop-set-add 96 row k n) ∙ take-set-lt 16 (drop 96 row) k n h
 
 -- a number behind the senses
 behind-senses : (row : List ℕ) (i n : ℕ) → 16 ≤ i → sensesIn (set row (96 + i) n) ≡ sensesIn row
+unfolding sensesIn
 behind-senses row i n h = ap (λ (l : List ℕ). take 16 l) (drop-set-add 96 row i n) ∙ take-set-le 16 (drop 96 row) i n h
 
 pub behind-moved : (row : List ℕ) (i n : ℕ) → 112 ≤ i → HintsMoved row (set row i n)
+unfolding slotsIn
 behind-moved row i n h =
     let e : 96 + (i - 96) ≡ i = omega arith in
     record {

@@ -24,11 +24,11 @@ abbrev pub rowLong : ℕ
 rowLong = rangesLong + questionWordsMax + 2 * hintsMax
 
 -- the ranges of all slots
-abbrev pub slotsIn : List ℕ → List ℕ
+unfoldable pub slotsIn : List ℕ → List ℕ
 slotsIn row = take rangesLong row
 
 -- the senses
-abbrev pub sensesIn : List ℕ → List ℕ
+unfoldable pub sensesIn : List ℕ → List ℕ
 sensesIn row = take questionWordsMax (drop rangesLong row)
 
 -- ---- a range: slot k has 2 * k in the main index and 2 * k + 1 in the arrivals
