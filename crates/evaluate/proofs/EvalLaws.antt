@@ -1,8 +1,8 @@
 -- What a window holds of a word, of a part and of two sides, by the slots of their words.
 use mathlib.Core.Path.{_≡_, refl, sym, ap, _∙_}
-use Prim.Native.Nat.{ℕ, zero, suc, _+_, _≤_}
+use Prim.Native.Nat.{ℕ, zero, suc, _+_, _*_, _≤_}
 use native.Mathlib.Omega.{arith}
-use mathlib.Core.Bool.{Bool}
+use mathlib.Core.Bool.{Bool, _||_}
 use mathlib.Core.List.{List, [], _∷_, _++_}
 use lib.ListN.{length, take, replicate}
 use Rattle.window.specs.Window.{Holds, Combined}
@@ -12,10 +12,15 @@ use Rattle.question.specs.Token.{Tok}
 use Rattle.question.specs.Grammar.{Tree, Out, word, pair, part, treeWords}
 use Rattle.question.specs.Meaning.{combine}
 use Rattle.fill.specs.Added.{Added}
-use Rattle.slots.specs.Slots.{slotHas, slotSatisfies}
+use Rattle.slots.specs.Slots.{slotSatisfies}
+use Rattle.slots.specs.Row.{slotsIn, firstIn, endIn, HintsMoved}
+use Rattle.slots.specs.Having.{entriesHave, having}
+use Rattle.slots.proofs.RowLaws.{moved-none}
+use Rattle.slots.proofs.EntriesLaws.{slot-either}
 use Rattle.codes.specs.Reads.{Reads}
-use Rattle.evaluate.specs.Evaluated.{SameLengths, Evaluated}
-use Rattle.fill.proofs.AddedLaws.{added-holds}
+use Rattle.evaluate.specs.Evaluated.{Evaluated}
+use Rattle.evaluate.specs.declared.eval.Step.{Step}
+use Rattle.fill.proofs.AddedLaws.{added-agree, added-both, added-holds}
 use Rattle.slots.proofs.SlotLaws.{slot-word, slot-part, slot-pair}
 
 -- ---- a window that is the front of a longer one
@@ -34,10 +39,11 @@ front-back (suc m) (v ∷ vs) r e = ap (λ (l : List ℕ). v ∷ l) (front-back 
 -- ---- what an evaluation comes to
 
 -- nothing could be read, and nothing is changed
-pub evaluated-none : {reading : ℕ → List Tok → Out Tree} {codes : List ℕ} {i k : ℕ} {index entries : List ℕ} {base : ℕ} {hints ws : List ℕ} → i ≤ length codes →
-    ((f : ℕ) → Reads (reading f) codes i i k (λ t. Holds (slotSatisfies (slotHas index entries) t k) base ws)) →
-    SameLengths hints ws hints ws × Evaluated reading codes i k index entries base ws (record { code = i; slot = k })
-evaluated-none h r = (record { hints-long = refl; ws-long = refl }, record { ahead = omega arith; inside = h; reads = r })
+pub evaluated-none : {reading : ℕ → ℕ → List Tok → Out Tree} {codes : List ℕ} {at : Step} {v : ℕ → ℕ → Bool} {base : ℕ} {row ws : List ℕ} →
+    at .code ≤ length codes →
+    ((f : ℕ) → Reads (reading (at .slot) f) codes (at .code) (at .code) (at .slot) (λ t. Holds (slotSatisfies v t (at .slot)) base ws)) →
+    HintsMoved row row × (length ws ≡ length ws) × Evaluated reading codes at v base ws at
+evaluated-none {row = row} h r = (moved-none row, refl, record { ahead = omega arith; inside = h; reads = r })
 
 -- ---- what the windows hold
 
@@ -56,3 +62,12 @@ module _ (v : ℕ → ℕ → Bool) (k : ℕ) {base : ℕ} where
       holds-agree (λ x. combine o (slotSatisfies v a k x) (slotSatisfies v b j x)) (slotSatisfies v (pair o a b) k) base zs
       (λ n w. sym (slot-pair v k (base + n) o a b j e))
       (holds-combined (combine o) (slotSatisfies v a k) (slotSatisfies v b j) base xs ys zs l c h g)
+
+-- ---- the ranges of a slot, filled one after the other
+
+pub added-slot : (main arrivals row row₁ : List ℕ) (k : ℕ) {base : ℕ} {xs ys zs : List ℕ} {f g h i : ℕ} → slotsIn row₁ ≡ slotsIn row →
+    f ≡ firstIn (slotsIn row) (2 * k) → g ≡ endIn (slotsIn row) (2 * k) → h ≡ firstIn (slotsIn row₁) (2 * k + 1) → i ≡ endIn (slotsIn row₁) (2 * k + 1) →
+    Added (entriesHave main f g) base xs ys → Added (entriesHave arrivals h i) base ys zs → Added (having main arrivals row k) base xs zs
+added-slot main arrivals row row₁ k {f = f} {g} {h} {i} same e₁ e₂ e₃ e₄ a b =
+    added-agree (λ x. entriesHave main f g x || entriesHave arrivals h i x) (having main arrivals row k) _ _ _
+    (λ x. rw (e₁, e₂, e₃, e₄, same) (sym (slot-either main arrivals (slotsIn row) k x))) (added-both a b)

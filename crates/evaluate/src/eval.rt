@@ -1,83 +1,83 @@
 // A question answered for a window, by its codes: a level evaluates its first operand into the window, and each further one into a window of
 // its own, which is then combined with it. The bracket depth left falls at each call.
+ghost use mathlib.Core.Path.{_≡_};
+ghost use lib.ListN.{length};
 ghost use Rattle.codes.specs.Reads.{asLevel, asOperand};
-ghost use Rattle.evaluate.specs.Evaluated.{Ready, SameLengths, Evaluated};
+ghost use Rattle.slots.specs.Row.{HintsMoved};
+ghost use Rattle.slots.specs.Having.{having};
+ghost use Rattle.evaluate.specs.Evaluated.{Ready, Evaluated};
 use crate::combine::combine_into;
+use crate::slot::fill_slot;
 use codes::code::CLOSE_CODE;
 use codes::code::OPEN_CODE;
 use codes::code::WORD_CODE;
 use codes::read::code_at;
+use codes::read::is_operator;
+use limits::QUESTION_WORDS_MAX;
 use window::tuning::MOST;
 
-// The code behind what was evaluated, and the slot of the next word.
+// Where an evaluation stands: the next code, and the slot of the next word.
 pub struct Step {
     pub code: usize,
     pub slot: usize,
 }
 
-// Evaluates the level whose codes begin at i, where k words stand before it and d brackets may still open, for the records from base on.
+// Evaluates the level that begins at a step, where d brackets may still open, for the records from base on.
 pub fn eval_level(
     codes: &[u8],
-    i: usize,
-    k: usize,
+    at: Step,
     d: usize,
-    index: &[u8],
-    entries: &[usize],
+    main: &[u8],
+    arrivals: &[u8],
     base: u32,
-    hints: &mut [usize],
+    row: &mut [usize],
     ws: &mut [u64],
 ) -> Step
-    requires { ⌜ Ready (now codes) i (now index) (now entries) base (now hints) (now ws) ⌝ }
-    ensures keeps { λ _. ⌜ SameLengths (now (hints .entry)) (now (ws .entry)) (now (hints .exit)) (now (ws .exit)) ⌝ }
-    ensures reads { λ r. ⌜ Evaluated (asLevel d k) (now (codes .entry)) i k (now (index .entry)) (now (entries .entry)) base (now (ws .exit)) r ⌝ }
+    requires { ⌜ Ready (now codes) at (now main) (now arrivals) base (now row) (now ws) ⌝ }
+    ensures moved { λ _. ⌜ HintsMoved (now (row .entry)) (now (row .exit)) ⌝ }
+    ensures long { λ _. ⌜ length (now (ws .exit)) ≡ length (now (ws .entry)) ⌝ }
+    ensures reads { λ r. ⌜ Evaluated (asLevel d) (now (codes .entry)) at (having (now (main .entry)) (now (arrivals .entry)) (now (row .entry))) base (now (ws .exit)) r ⌝ }
 {
-    let first = eval_operand(codes, i, k, d, index, entries, base, hints, ws);
-    let mut at = first.code;
-    let mut slot = first.slot;
+    let Step { code: i, slot: k } = at;
+    let first = Step { code: i, slot: k };
+    let mut next = eval_operand(codes, first, d, main, arrivals, base, row, ws);
     let n = ws.len();
     loop {
-        let code = code_at(codes, at);
-        if !codes::read::is_operator(code) {
-            return Step { code: at, slot };
+        let code = code_at(codes, next.code);
+        if !is_operator(code) {
+            return next;
         }
         let mut other: [u64; MOST] = [0; MOST];
-        let next = eval_operand(
-            codes,
-            at + 1,
-            slot,
-            d,
-            index,
-            entries,
-            base,
-            hints,
-            &mut other[0..n],
-        );
+        let behind = Step {
+            code: next.code + 1,
+            slot: next.slot,
+        };
+        next = eval_operand(codes, behind, d, main, arrivals, base, row, &mut other[0..n]);
         combine_into(code, ws, &other[0..n]);
-        at = next.code;
-        slot = next.slot;
     }
 }
 
-// Evaluates the operand that begins at i: a word, or a level in brackets. Where none can stand there, the answer says nothing.
+// Evaluates the operand that begins at a step: a word, or a level in brackets. Where none can stand there, the answer says nothing.
 fn eval_operand(
     codes: &[u8],
-    i: usize,
-    k: usize,
+    at: Step,
     d: usize,
-    index: &[u8],
-    entries: &[usize],
+    main: &[u8],
+    arrivals: &[u8],
     base: u32,
-    hints: &mut [usize],
+    row: &mut [usize],
     ws: &mut [u64],
 ) -> Step
-    requires { ⌜ Ready (now codes) i (now index) (now entries) base (now hints) (now ws) ⌝ }
-    ensures keeps { λ _. ⌜ SameLengths (now (hints .entry)) (now (ws .entry)) (now (hints .exit)) (now (ws .exit)) ⌝ }
-    ensures reads { λ r. ⌜ Evaluated (asOperand d k) (now (codes .entry)) i k (now (index .entry)) (now (entries .entry)) base (now (ws .exit)) r ⌝ }
+    requires { ⌜ Ready (now codes) at (now main) (now arrivals) base (now row) (now ws) ⌝ }
+    ensures moved { λ _. ⌜ HintsMoved (now (row .entry)) (now (row .exit)) ⌝ }
+    ensures long { λ _. ⌜ length (now (ws .exit)) ≡ length (now (ws .entry)) ⌝ }
+    ensures reads { λ r. ⌜ Evaluated (asOperand d) (now (codes .entry)) at (having (now (main .entry)) (now (arrivals .entry)) (now (row .entry))) base (now (ws .exit)) r ⌝ }
 {
+    let Step { code: i, slot: k } = at;
     let code = code_at(codes, i);
     if code == WORD_CODE {
-        if k < entries.len() {
-            crate::slot::fill_slot(index, entries, k, base, hints, ws);
+        if k < QUESTION_WORDS_MAX {
+            fill_slot(main, arrivals, row, k, base, ws);
             return Step {
                 code: i + 1,
                 slot: k + 1,
@@ -91,7 +91,11 @@ fn eval_operand(
     if d == 0 {
         return Step { code: i, slot: k };
     }
-    let inside = eval_level(codes, i + 1, k, d - 1, index, entries, base, hints, ws);
+    let opened = Step {
+        code: i + 1,
+        slot: k,
+    };
+    let inside = eval_level(codes, opened, d - 1, main, arrivals, base, row, ws);
     let end = inside.code;
     if code_at(codes, end) != CLOSE_CODE {
         return Step { code: i, slot: k };

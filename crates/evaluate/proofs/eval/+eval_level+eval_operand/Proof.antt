@@ -10,7 +10,10 @@ use borrow.Rule.Slice.PartMut.{same-len-mid}
 use borrow.Author.Needs.{needs}
 use Rattle.window.specs.Tuning.{windowMost}
 use Rattle.window.specs.Window.{Holds}
-use Rattle.slots.specs.Slots.{slotHas, slotSatisfies}
+use Rattle.slots.specs.Slots.{slotSatisfies}
+use Rattle.slots.specs.Row.{HintsMoved}
+use Rattle.slots.specs.Having.{having}
+use Rattle.slots.proofs.RowLaws.{moved-none, moved-both, moved-having, read-again}
 use Rattle.codes.proofs.ReadsLaws.{Here, code-here, operator-here, Level, level-start, level-step, level-end, operand-none, operand-word, operand-many, operand-deep, operand-part, operand-unclosed}
 use Rattle.evaluate.proofs.EvalLaws.{front-blank, front-back, evaluated-none, holds-word, holds-part, holds-pair}
 use Rattle.codes.specs.Code.{wordCode, openCode, closeCode, opCode, opOf}
@@ -31,10 +34,10 @@ use Rattle.evaluate.proofs.eval.+eval_level+eval_operand.{statement}
 use Rattle.evaluate.proofs.eval.+eval_level+eval_operand.Tie.{close}
 
 abbrev μ-eval-level : Measures 5 eval-level-kinds.ps ℕ
-μ-eval-level κs a = 2 * (a .1 .1 .1 .0) + 1
+μ-eval-level κs a = 2 * (a .1 .1 .0) + 1
 
 abbrev μ-eval-operand : Measures 5 eval-operand-kinds.ps ℕ
-μ-eval-operand κs a = 2 * (a .1 .1 .1 .0)
+μ-eval-operand κs a = 2 * (a .1 .1 .0)
 
 abbrev eval-level-at : ℕ → In 5 eval-level-kinds.ps
 eval-level-at t = and 5 eval-level-kinds.ps (is 5 eval-level-kinds.ps μ-eval-level t) eval-level.Pre
@@ -65,12 +68,12 @@ abbrev operand-claims : ℕ → eval-operand-lts.Claims
 operand-claims t = (code-at.Asked, code-at.Learnt, fill-slot.Asked, fill-slot.Learnt, eval-level-below t, eval-level.Post)
 
 abbrev eval-level-Inv-loop : eval-level-lts.InvT-loop
-eval-level-Inv-loop codes i k d index entries base hints₀ ws₀ at₀ slot₀ n hints ws at slot =
-    (i ≤ at) × (at ≤ length codes) × (length hints ≡ 32) × (length ws ≡ length ws₀)
-    × Level codes d k i at slot (λ t. Holds (slotSatisfies (slotHas index entries) t k) base ws)
+eval-level-Inv-loop codes d main arrivals base row₀ ws₀ i k next₀ n row ws next =
+    (i ≤ next .code) × (next .code ≤ length codes) × HintsMoved row₀ row × (length ws ≡ length ws₀)
+    × Level codes d k i (next .code) (next .slot) (λ t. Holds (slotSatisfies (having main arrivals row₀) t k) base ws)
 
 abbrev eval-level-μ-loop : eval-level-lts.MeasureT-loop
-eval-level-μ-loop codes i k d index entries base hints₀ ws₀ at₀ slot₀ n hints ws at slot = length codes - at
+eval-level-μ-loop codes d main arrivals base row₀ ws₀ i k next₀ n row ws next = length codes - next .code
 
 -- ---- a level
 
@@ -78,26 +81,37 @@ module _ (t : ℕ) where
   abbrev Loop : Type 0
   Loop = eval-level-lts.At-loop (level-claims t) (eval-level-at t) eval-level.Post eval-level-Inv-loop eval-level-μ-loop
 
-  -- where the level begins, and its first operand
+  -- where the level begins, its first operand, and what that left of the row
   abbrev begun : Loop → eval-level-lts.Start (level-claims t) (eval-level-at t) eval-level.Post eval-level-Inv-loop eval-level-μ-loop
   begun c = c .before .before .before .before .before .before .before .before .before .before .before .before .before
 
   abbrev first : Loop → eval-level-lts.After-eval-operand (level-claims t) (eval-level-at t) eval-level.Post eval-level-Inv-loop eval-level-μ-loop
   first c = c .before .before .before .before .before
 
-  -- what is lent stays as long as it was
-  lengths : (c : Loop) → (length (c .loop .hints) ≡ length (begun c .args .hints .now)) × (length (c .loop .ws) ≡ length (begun c .args .ws .now))
-  lengths c = (c .loop .inv .2 ∙ sym (begun c .pre .1 .lent .hints-long), c .loop .inv .3 ∙ first c .eval-operand .ensures .0 .ws-long)
+  abbrev row : Loop → List ℕ
+  row c = first c .eval-operand .last .1 .1 .1 .1 .1 .1 .0
+
+  -- of what is lent hints alone were moved, and the window is as long as it was
+  moved : (c : Loop) → HintsMoved (begun c .args .row .now) (c .loop .row)
+  moved c = moved-both (first c .eval-operand .ensures .0) (c .loop .inv .2)
+
+  long : (c : Loop) → length (c .loop .ws) ≡ length (begun c .args .ws .now)
+  long c = c .loop .inv .3 ∙ first c .eval-operand .ensures .1 .0
+
+  -- so the slots have before the loop what they had at the start
+  had : (c : Loop) → let a = begun c .args in
+      having (a .main .now) (a .arrivals .now) (row c) ≡ having (a .main .now) (a .arrivals .now) (a .row .now)
+  had c = let a = begun c .args in moved-having (a .main .now) (a .arrivals .now) (first c .eval-operand .ensures .0)
 
   -- where the loop goes on an operator stands
   abbrev GoesOn : Type 0
   GoesOn = eval-level-lts.Else1 (level-claims t) (eval-level-at t) eval-level.Post eval-level-Inv-loop eval-level-μ-loop
 
   operator : (c : GoesOn) → let l = c .before .before .before in
-      Here (begun l .args .codes .now) (l .loop .at) (opCode (opOf (c .before .before .code-at .result)))
+      Here (begun l .args .codes .now) (l .loop .next .code) (opCode (opOf (c .before .before .code-at .result)))
   operator c =
       let l = c .before .before .before in
-      operator-here (begun l .args .codes .now) (l .loop .at) (c .before .before .code-at .ensures)
+      operator-here (begun l .args .codes .now) (l .loop .next .code) (c .before .before .code-at .ensures)
       (sym (c .before .is-operator .ensures) ∙ not-false (c .before .is-operator .result) (c .if1 .left))
 
   -- the window of the right side is as long as the left one, and no longer than any
@@ -105,28 +119,28 @@ module _ (t : ℕ) where
   RightRead = eval-level-lts.After-eval-operand2 (level-claims t) (eval-level-at t) eval-level.Post eval-level-Inv-loop eval-level-μ-loop
 
   abbrev loop : RightRead → Loop
-  loop c = c .before .before .before .before .before .before
+  loop c = c .before .before .before .before .before .before .before
 
   abbrev right : RightRead → List ℕ
-  right c = c .eval-operand2 .last .1 .1 .1 .1 .1 .1 .1 .1 .0
+  right c = c .eval-operand2 .last .1 .1 .1 .1 .1 .1 .1 .0
 
   abbrev size : Loop → ℕ
-  size c = length (first c .eval-operand .last .1 .1 .1 .1 .1 .1 .1 .1 .0)
+  size c = length (first c .eval-operand .last .1 .1 .1 .1 .1 .1 .1 .0)
 
   size-most : (c : Loop) → size c ≤ windowMost
-  size-most c = omega (arith, first c .eval-operand .ensures .0 .ws-long, begun c .pre .1 .size)
+  size-most c = omega (arith, first c .eval-operand .ensures .1 .0, begun c .pre .1 .size)
 
   right-long : (c : RightRead) → length (right c) ≡ size (loop c) - 0
-  right-long c = c .eval-operand2 .ensures .0 .ws-long ∙ length-take-le (size (loop c) - 0) (replicate windowMost 0) (omega (arith, size-most (loop c)))
+  right-long c = c .eval-operand2 .ensures .1 .0 ∙ length-take-le (size (loop c) - 0) (replicate windowMost 0) (omega (arith, size-most (loop c)))
 
   level-loop-holds : eval-level-lts.Need-loop-holds (level-claims t) (eval-level-at t) eval-level.Post eval-level-Inv-loop eval-level-μ-loop
   level-loop-holds c =
       let start = c .before .before .before .before .before .before .before .before .before .before .before .before in
       let a = start .args in
       let r = c .before .before .before .before .eval-operand in
-      let e = r .ensures .1 in
-      let started = level-start (a .codes .now) (a .d) (a .k) (a .i) (r .result .code) (r .result .slot) _ (e .reads) in
-      (e .ahead, e .inside, r .ensures .0 .hints-long ∙ start .pre .1 .lent .hints-long, refl, started)
+      let e = r .ensures .1 .1 in
+      let started = level-start (a .codes .now) (a .d) (a .at .slot) (a .at .code) (r .result .code) (r .result .slot) _ (e .reads) in
+      (e .ahead, e .inside, moved-none _, refl, rw (← moved-having (a .main .now) (a .arrivals .now) (r .ensures .0)) started)
 
   level-returns : eval-level-lts.Need-returns (level-claims t) (eval-level-at t) eval-level.Post eval-level-Inv-loop eval-level-μ-loop
   level-returns c =
@@ -135,26 +149,28 @@ module _ (t : ℕ) where
       let l = here .loop in
       let code = c .before .before .code-at in
       let none = operator-none (code .result) (sym (c .before .is-operator .ensures) ∙ not-true (c .before .is-operator .result) (c .if1 .taken)) in (
-        record { hints-long = lengths here .0; ws-long = lengths here .1 },
+        moved here,
+        long here,
         record {
           ahead = l .inv .0;
           inside = l .inv .1;
-          reads = level-end (a .codes .now) (a .d) (a .k) (a .i) (l .at) (l .slot) _ (l .inv .4) (λ o h. none o (code .ensures ∙ h));
+          reads = rw (had here) at
+              (level-end (a .codes .now) (a .d) (a .at .slot) (a .at .code) (l .next .code) (l .next .slot) _ (l .inv .4) (λ o h. none o (code .ensures ∙ h)));
         },
       )
 
   level-operand-requires-2 : eval-level-lts.Need-eval-operand-requires-2 (level-claims t)
       (eval-level-at t) eval-level.Post eval-level-Inv-loop eval-level-μ-loop
   level-operand-requires-2 c κs =
-      let looped = c .before .before .before .before .before in
+      let looped = c .before .before .before .before .before .before in
       let start = begun looped in
       let p = start .pre .1 in
       let most = size-most looped in
       let m = start .pre .0 in (
         omega arith,
         record {
-          lent = record { sound = p .lent .sound; entries-long = p .lent .entries-long; hints-long = looped .loop .inv .2 };
-          inside = omega (arith, operator (c .before .before) .1);
+          lent = read-again (p .lent) (moved looped .stay);
+          inside = omega (arith, operator (c .before .before .before) .1);
           blank = front-blank (size looped - 0) windowMost;
           size = rw (length-take-le {A = ℕ} (size looped - 0) (replicate windowMost 0) (omega arith)) (omega arith);
           near = p .near;
@@ -168,7 +184,7 @@ module _ (t : ℕ) where
       let n = size (loop read) in
       let most = size-most (loop read) in
       let whole : length (right read ++ drop (n - 0) (replicate windowMost 0)) ≡ windowMost =
-      same-len-mid 0 (n - 0) (replicate windowMost 0) (right read) (read .eval-operand2 .ensures .0 .ws-long) in
+      same-len-mid 0 (n - 0) (replicate windowMost 0) (right read) (read .eval-operand2 .ensures .1 .0) in
       omega arith
 
   level-combine-into-requires : eval-level-lts.Need-combine-into-requires (level-claims t)
@@ -184,19 +200,19 @@ module _ (t : ℕ) where
       let read = c .before .before .before .before .before .before .before .before .before in
       let a = begun (loop read) .args in
       let l = loop read .loop in
-      let o = opOf (read .before .before .before .before .before .code-at .result) in
+      let o = opOf (read .before .before .before .before .before .before .code-at .result) in
       let r = read .eval-operand2 in
-      let f = r .ensures .1 in
+      let f = rw (moved-having (a .main .now) (a .arrivals .now) (l .inv .2)) at (r .ensures .1 .1) in
       let long = right-long read in
       let both = rw (front-back (size (loop read) - 0) (right read) _ long) at (c .before .before .combine-into .ensures) in
       let w = l .inv .3 in (
         omega (arith, f .ahead, l .inv .0),
         f .inside,
-        r .ensures .0 .hints-long ∙ l .inv .2,
+        moved-both (l .inv .2) (r .ensures .0),
         both .long ∙ w,
-        level-step (a .codes .now) (a .d) (a .k) (a .i) (l .at) (l .slot) (r .result .code) (r .result .slot) _ _ _ o
-            (operator (read .before .before .before) .0) (l .inv .4) (f .reads)
-            (λ u v g h m. holds-pair (slotHas (a .index .now) (a .entries .now)) (a .k) o u v g (omega arith) both h m),
+        level-step (a .codes .now) (a .d) (a .at .slot) (a .at .code) (l .next .code) (l .next .slot) (r .result .code) (r .result .slot) _ _ _ o
+            (operator (read .before .before .before .before) .0) (l .inv .4) (f .reads)
+            (λ u v g h m. holds-pair (having (a .main .now) (a .arrivals .now) (row (loop read))) (a .at .slot) o u v g (omega arith) both h m),
       )
 
 -- ---- an operand
@@ -209,8 +225,8 @@ module _ (t : ℕ) where
   abbrev word-start : AtWord → eval-operand-lts.Start (operand-claims t) (eval-operand-at t) eval-operand.Post
   word-start c = c .before .before .before .before .before .before .before
 
-  word-here : (c : AtWord) → let a = word-start c .args in Here (a .codes .now) (a .i) wordCode
-  word-here c = let a = word-start c .args in code-here (a .codes .now) (a .i) (c .before .code-at .ensures) (c .if1 .taken) (omega arith)
+  word-here : (c : AtWord) → let a = word-start c .args in Here (a .codes .now) (a .at .code) wordCode
+  word-here c = let a = word-start c .args in code-here (a .codes .now) (a .at .code) (c .before .code-at .ensures) (c .if1 .taken) (omega arith)
 
   -- a bracket opens there
   abbrev AtOpen : Type 0
@@ -219,8 +235,8 @@ module _ (t : ℕ) where
   abbrev open-start : AtOpen → eval-operand-lts.Start (operand-claims t) (eval-operand-at t) eval-operand.Post
   open-start c = c .before .before .before .before .before .before .before .before
 
-  open-here : (c : AtOpen) → let a = open-start c .args in Here (a .codes .now) (a .i) openCode
-  open-here c = let a = open-start c .args in code-here (a .codes .now) (a .i) (c .before .before .code-at .ensures) (c .if3 .left) (omega arith)
+  open-here : (c : AtOpen) → let a = open-start c .args in Here (a .codes .now) (a .at .code) openCode
+  open-here c = let a = open-start c .args in code-here (a .codes .now) (a .at .code) (c .before .before .code-at .ensures) (c .if3 .left) (omega arith)
 
   -- and closes where the part ends
   abbrev AtClose : Type 0
@@ -239,19 +255,20 @@ module _ (t : ℕ) where
   operand-fill-slot-requires c κs =
       let p = word-start (c .before .before .before) .pre .1 in
       let h = c .before .before .if2 .taken in
-      (p .lent, (omega (arith, p .lent .entries-long), (p .size, p .near)))
+      (p .lent, (h, (p .size, p .near)))
 
   operand-returns : eval-operand-lts.Need-returns (operand-claims t) (eval-operand-at t) eval-operand.Post
   operand-returns c =
       let at = c .before .before .before .before .before .before .before .before in
       let a = word-start at .args in
       let f = c .before .before .before .before .fill-slot .ensures in (
-        record { hints-long = f .0; ws-long = f .1 .long },
+        f .0,
+        f .1 .long,
         record {
           ahead = omega arith;
           inside = omega (arith, word-here at .1);
-          reads = λ n. operand-word (a .codes .now) n (a .d) (a .k) (a .i) (word-here at .0) _
-              (λ u. holds-word (slotHas (a .index .now) (a .entries .now)) (a .k) u (word-start at .pre .1 .blank) (f .1));
+          reads = λ n. operand-word (a .codes .now) n (a .d) (a .at .slot) (a .at .code) (word-here at .0) _
+              (λ u. holds-word (having (a .main .now) (a .arrivals .now) (a .row .now)) (a .at .slot) u (word-start at .pre .1 .blank) (f .1));
         },
       )
 
@@ -260,8 +277,7 @@ module _ (t : ℕ) where
       let start = word-start (c .before) in
       let a = start .args in
       let h = c .if2 .left in
-      let w = start .pre .1 .lent .entries-long in
-      evaluated-none (start .pre .1 .inside) (λ n. operand-many (a .codes .now) n (a .d) (a .k) (a .i) (word-here (c .before) .0) (a .i) (a .k) _ (omega arith))
+      evaluated-none (start .pre .1 .inside) (λ n. operand-many (a .codes .now) n (a .d) (a .at .slot) (a .at .code) (word-here (c .before) .0) (a .at .code) (a .at .slot) _ (omega arith))
 
   operand-returns-3 : eval-operand-lts.Need-returns-3 (operand-claims t) (eval-operand-at t) eval-operand.Post
   operand-returns-3 c =
@@ -269,14 +285,14 @@ module _ (t : ℕ) where
       let a = start .args in
       let read = c .before .before .code-at .ensures in
       evaluated-none (start .pre .1 .inside)
-      (λ n. operand-none (a .codes .now) n (a .d) (a .k) (a .i) (a .i) (a .k) _ (λ e. c .before .if1 .left (read ∙ e)) (λ e. c .if3 .taken (read ∙ e)))
+      (λ n. operand-none (a .codes .now) n (a .d) (a .at .slot) (a .at .code) (a .at .code) (a .at .slot) _ (λ e. c .before .if1 .left (read ∙ e)) (λ e. c .if3 .taken (read ∙ e)))
 
   operand-returns-4 : eval-operand-lts.Need-returns-4 (operand-claims t) (eval-operand-at t) eval-operand.Post
   operand-returns-4 c =
       let start = open-start (c .before) in
       let a = start .args in
       evaluated-none (start .pre .1 .inside)
-      (λ n. operand-deep (a .codes .now) n (a .d) (a .k) (a .i) (open-here (c .before) .0) (a .i) (a .k) _ (c .if4 .taken))
+      (λ n. operand-deep (a .codes .now) n (a .d) (a .at .slot) (a .at .code) (open-here (c .before) .0) (a .at .code) (a .at .slot) _ (c .if4 .taken))
 
   operand-eval-level-requires : eval-operand-lts.Need-eval-level-requires (operand-claims t) (eval-operand-at t) eval-operand.Post
   operand-eval-level-requires c κs =
@@ -291,13 +307,14 @@ module _ (t : ℕ) where
       let at = c .before .before .before .before .before .before .before .before .before .before in
       let a = open-start at .args in
       let r = c .before .before .before .before .before .before .eval-level in
-      let e = r .ensures .1 in (
+      let e = r .ensures .1 .1 in (
         r .ensures .0,
+        r .ensures .1 .0,
         record {
           ahead = omega arith;
           inside = open-start at .pre .1 .inside;
-          reads = λ n. operand-unclosed (a .codes .now) n (a .d) (a .k) (a .i) (open-here at .0) (r .result .code) (r .result .slot) _ (e .reads) (a .i)
-              (a .k) _
+          reads = λ n. operand-unclosed (a .codes .now) n (a .d) (a .at .slot) (a .at .code) (open-here at .0) (r .result .code) (r .result .slot) _ (e .reads) (a .at .code)
+              (a .at .slot) _
               (λ h. c .if5 .taken (c .before .code-at2 .ensures ∙ h));
         },
       )
@@ -306,14 +323,15 @@ module _ (t : ℕ) where
   operand-returns-6 c =
       let a = open-start (opened c) .args in
       let r = c .before .before .before .before .before .before .eval-level in
-      let e = r .ensures .1 in (
+      let e = r .ensures .1 .1 in (
         r .ensures .0,
+        r .ensures .1 .0,
         record {
           ahead = omega (arith, e .ahead);
           inside = omega (arith, close-here c .1);
-          reads = λ n. operand-part (a .codes .now) n (a .d) (a .k) (a .i) (open-here (opened c) .0) (r .result .code) (r .result .slot) _ (e .reads) _
+          reads = λ n. operand-part (a .codes .now) n (a .d) (a .at .slot) (a .at .code) (open-here (opened c) .0) (r .result .code) (r .result .slot) _ (e .reads) _
               (close-here c .0)
-              (λ u h. holds-part (slotHas (a .index .now) (a .entries .now)) (a .k) u h);
+              (λ u h. holds-part (having (a .main .now) (a .arrivals .now) (a .row .now)) (a .at .slot) u h);
         },
       )
 
@@ -323,13 +341,13 @@ pub +eval-level+eval-operand-spec : {M : Type 1} → statement M
     (λ t. eval-level-lts.spec
     (level-claims t) (eval-level-at t) eval-level.Post eval-level-Inv-loop eval-level-μ-loop
     (λ c κs. let start = c .before .before .before .before .before .before .before in let m = start .pre .0 in (omega arith, start .pre .1))
-    (level-loop-holds t) (λ c κs. search needs) (λ c κs. search needs) (λ c. lengths t (c .before .before .before) .0)
-    (λ c. lengths t (c .before .before .before) .1) (level-returns t)
+    (level-loop-holds t) (λ c κs. search needs) (λ c κs. search needs) (λ c. moved t (c .before .before .before) .stay .long)
+    (λ c. long t (c .before .before .before)) (level-returns t)
     (λ c. let b = begun t (c .before .before .before) .good in omega (arith, operator t c .1)) (λ c. omega arith) (λ c. omega arith)
     (λ c. omega (arith, size-most t (c .before .before .before .before))) (level-operand-requires-2 t) (λ c. omega arith)
     (λ c. omega arith) (level-part-combine-into-end t) (level-combine-into-requires t)
     (λ c. let read = c .before .before .before .before .before .before .before .before .before in
-    let e = read .eval-operand2 .ensures .1 in omega (arith, operator t (read .before .before .before) .1, e .ahead, e .inside))
+    let e = read .eval-operand2 .ensures .1 .1 in omega (arith, operator t (read .before .before .before .before) .1, e .ahead, e .inside))
     (level-loop-again t))
     λ t. eval-operand-lts.spec
     (operand-claims t) (eval-operand-at t) eval-operand.Post
@@ -337,12 +355,12 @@ pub +eval-level+eval-operand-spec : {M : Type 1} → statement M
     (λ c. let at = c .before .before .before .before .before .before .before .before in let b = word-start t at .good in omega (arith, word-here t at .1))
     (λ c. let start = word-start t (c .before .before .before .before .before .before .before .before) in
     let b = start .good in let h = c .before .before .before .before .before .before .before .if2 .taken in omega arith)
-    (λ c. c .before .before .before .before .fill-slot .ensures .0) (λ c. c .before .before .before .before .fill-slot .ensures .1 .long)
+    (λ c. c .before .before .before .before .fill-slot .ensures .0 .stay .long) (λ c. c .before .before .before .before .fill-slot .ensures .1 .long)
     (operand-returns t) (operand-returns-2 t) (operand-returns-3 t) (operand-returns-4 t)
     (λ c. let b = open-start t (c .before) .good in omega (arith, open-here t (c .before) .1)) (λ c. search needs)
     (operand-eval-level-requires t) (λ c κs. search needs)
-    (λ c. c .before .before .before .before .before .before .eval-level .ensures .0 .hints-long)
-    (λ c. c .before .before .before .before .before .before .eval-level .ensures .0 .ws-long) (operand-returns-5 t)
+    (λ c. c .before .before .before .before .before .before .eval-level .ensures .0 .stay .long)
+    (λ c. c .before .before .before .before .before .before .eval-level .ensures .1 .0) (operand-returns-5 t)
     (λ c. let b = open-start t (opened t c) .good in omega (arith, close-here t c .1))
-    (λ c. c .before .before .before .before .before .before .eval-level .ensures .0 .hints-long)
-    (λ c. c .before .before .before .before .before .before .eval-level .ensures .0 .ws-long) (operand-returns-6 t)
+    (λ c. c .before .before .before .before .before .before .eval-level .ensures .0 .stay .long)
+    (λ c. c .before .before .before .before .before .before .eval-level .ensures .1 .0) (operand-returns-6 t)
