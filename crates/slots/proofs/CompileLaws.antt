@@ -1,18 +1,19 @@
 -- Laws of the pass over a question's tokens: what is written so far, with what the tokens left come to, is the question's codes and words.
-use Prim.Native.Nat.{ℕ, zero, suc, _+_, _≤_, _<_}
+use Prim.Native.Nat.{ℕ, zero, suc, _+_, _-_, _*_, _≤_, _<_}
 use native.Mathlib.Omega.{arith}
-use native.Mathlib.Nat.{lt-of-not-le}
 use native.Mathlib.Numerals.{add-one}
-use native.Mathlib.Decide.{decLe, ℕ-discrete}
+use native.Mathlib.Decide.{ℕ-discrete}
 use mathlib.Core.Path.{_≡_, refl, sym, ap, _∙_, subst}
 use mathlib.Core.List.{List, [], _∷_, _++_, append-assoc, append-nil}
 use lib.ListN.{length, getD, take, drop, set, length-set, length-drop}
-use lib.Seq.{getD-set-same, getD-set-other, take-suc-set}
-use borrow.Author.Tests.{lt-ltb, le-ltb}
+use lib.Seq.{take-suc-set}
 use types.Run.{OneOf, miss}
 use denote.Enum.Declared.{tagOf}
-use Rattle.index.specs.Format.{wordCount}
+use Rattle.laws.proofs.Tests.{leb-cases}
+use Rattle.limits.specs.Limits.{wordsMax}
 use Rattle.index.specs.Sound.{Sound}
+use Rattle.index.proofs.SoundLaws.{sound-trailer}
+use Rattle.directory.specs.Has.{has}
 use Rattle.directory.specs.declared.Standing.the-variants.{Here, Absent}
 use Rattle.directory.specs.Standing.{standingOf}
 use Rattle.directory.proofs.StandingLaws.{stands-at, here-has, absent-has}
@@ -24,17 +25,25 @@ use Rattle.question.specs.Token.{cut, tokensAt, tokens}
 use Rattle.question.specs.Next.{headed, TokenWithin, NextToken, endOf}
 use Rattle.question.specs.Limits.{tokenWords}
 use Rattle.codes.specs.Code.{wordCode, codesOf, tokenCode}
-use Rattle.slots.specs.Slots.{slotHas}
+use Rattle.slots.specs.declared.row.Entries.{Entries}
+use Rattle.slots.specs.Row.{slotsIn, firstIn, endIn, withRange}
+use Rattle.slots.specs.Having.{entriesHave}
 use Rattle.slots.specs.Compile.{StandsFor, WritesCodes, FillsSlots}
+use Rattle.slots.proofs.EntriesLaws.{entry-lists, range-none, range-one}
+use Rattle.slots.proofs.RowLaws.{slots-long, ranged-first, ranged-end, other-first, other-end}
 
--- ---- an entry number for a word
+-- ---- the entries for a word
 
 module _ (index : List ℕ) (sound : Sound index) (w : List ℕ) where
-  pub entry-here : (i : ℕ) → standingOf index w ≡ Here i → StandsFor index w i
-  entry-here i e x = rw (lt-ltb i (wordCount index) (stands-at index sound w (Here i) e .1)) (sym (here-has index sound w i x e))
+  pub entries-here : (i : ℕ) → standingOf index w ≡ Here i → StandsFor index w i (i + 1)
+  entries-here i e x =
+      range-one index i x ∙ entry-lists index i x (stands-at index sound w (Here i) e .1) ∙ sym (here-has index sound w i x e)
 
-  pub entry-absent : (i p : ℕ) → standingOf index w ≡ Absent p → i ≡ wordCount index → StandsFor index w i
-  entry-absent i p e h x = rw (le-ltb i (wordCount index) (omega arith)) (sym (absent-has index sound w p x e))
+  pub entries-absent : (p : ℕ) → standingOf index w ≡ Absent p → StandsFor index w p p
+  entries-absent p e x = range-none index p p x (omega arith) ∙ sym (absent-has index sound w p x e)
+
+  pub here-below : (i : ℕ) → standingOf index w ≡ Here i → i < wordsMax
+  here-below i e = omega (arith, stands-at index sound w (Here i) e .1, sound-trailer index sound .count-bound)
 
 -- ---- the next token
 
@@ -93,80 +102,105 @@ drop-head (v ∷ l) (suc k) w r e =
     let h = drop-head l k w r e in
     (omega (arith, h .0), h .1, rw i (h .2))
 
--- the first k slots have what the index has of the words
-abbrev Filled : List ℕ → List (List ℕ) → List ℕ → ℕ → Type 0
-Filled index words entries k = (j : ℕ) → j < k → StandsFor index (getD words j []) (getD entries j 0)
+-- one half of the first n slots has what the index has of the words
+abbrev Filled : ℕ → List ℕ → List (List ℕ) → List ℕ → ℕ → Type 0
+Filled half index words slots n =
+    (k : ℕ) → k < n → StandsFor index (getD words k []) (firstIn slots (2 * k + half)) (endIn slots (2 * k + half))
 
-filled-next : (index : List ℕ) (words : List (List ℕ)) (entries : List ℕ) (k e : ℕ) → k < length entries → Filled index words entries k →
-    StandsFor index (getD words k []) e →
-    Filled index words (set entries k e) (k + 1)
-filled-next index words entries k e h f new j l = go (ℕ-discrete j k)
-  where
-    go : Dec (j ≡ k) → StandsFor index (getD words j []) (getD (set entries k e) j 0)
-    go (yes q) = rw (q, getD-set-same entries k e 0 h) new
-    go (no q) = rw (getD-set-other entries k j e 0 q) (f j (below (decLe k j)))
-      where
-        below : Dec (k ≤ j) → j < k
-        below (yes d) = absurd (q (omega arith))
-        below (no d) = lt-of-not-le d
+-- the ranges of the other half stay
+pub record OthersStay (half : ℕ) (slots slots′ : List ℕ) : Type 0 where
+  pub firsts : (k : ℕ) → let j = 2 * k + (1 - half) in firstIn slots′ j ≡ firstIn slots j
+  pub ends : (k : ℕ) → let j = 2 * k + (1 - half) in endIn slots′ j ≡ endIn slots j
+
+-- a range for slot n
+module _ (half n j : ℕ) (low : half ≤ 1) (is : j ≡ 2 * n + half) (e : Entries) where
+  filled-next : (index : List ℕ) (words : List (List ℕ)) (slots : List ℕ) → 3 * j + 1 < length slots → Filled half index words slots n →
+      StandsFor index (getD words n []) (e .first) (e .end) → Filled half index words (withRange slots j e) (n + 1)
+  filled-next index words slots room f new k l x = go (ℕ-discrete k n)
+    where
+      go : Dec (k ≡ n) → entriesHave index (firstIn (withRange slots j e) (2 * k + half)) (endIn (withRange slots j e) (2 * k + half)) x
+          ≡ has index (getD words k []) x
+      go (yes q) = rw (q, ← is, ranged-first slots j e (omega arith), ranged-end slots j e room) (new x)
+      go (no q) =
+          let other : 2 * k + half ≡ j → ⊥ = λ h. q (omega arith) in
+          rw (other-first slots j e (2 * k + half) other, other-end slots j e (2 * k + half) other)
+          (f k (leb-cases n k (λ g. absurd (q (omega arith))) (λ g. g)) x)
+
+  others-next : {slots₀ slots : List ℕ} → OthersStay half slots₀ slots → OthersStay half slots₀ (withRange slots j e)
+  others-next {slots₀} {slots} s = record {
+    firsts = λ k. other-first slots j e (2 * k + (1 - half)) (apart k) ∙ s .firsts k;
+    ends = λ k. other-end slots j e (2 * k + (1 - half)) (apart k) ∙ s .ends k;
+  }
+    where
+      apart : (k : ℕ) → 2 * k + (1 - half) ≡ j → ⊥
+      apart k q = omega arith
 
 -- ---- the pass
 
 -- before the token at `at`
-pub record Compiling (index s codes₀ entries₀ codes entries : List ℕ) (count slots at : ℕ) : Type 0 where
+pub record Compiling (half : ℕ) (index s codes₀ row₀ codes row : List ℕ) (count slots at : ℕ) : Type 0 where
   pub near : count ≤ at
   pub inside : at ≤ length s
   pub codes-long : length codes ≡ length codes₀
-  pub entries-long : length entries ≡ length entries₀
+  pub row-long : length row ≡ length row₀
   pub coded : take count codes ++ codesOf (tokensAt s at) ≡ codesOf (tokens s)
   pub some : slots ≤ length (tokenWords (tokens s))
   pub left : drop slots (tokenWords (tokens s)) ≡ tokenWords (tokensAt s at)
-  pub filled : Filled index (tokenWords (tokens s)) entries slots
+  pub filled : Filled half index (tokenWords (tokens s)) (slotsIn row) slots
+  pub others : OthersStay half (slotsIn row₀) (slotsIn row)
 
-pub compile-start : (index s codes entries : List ℕ) → Compiling index s codes entries codes entries 0 0 0
+pub compile-start : (half : ℕ) (index s codes row : List ℕ) → Compiling half index s codes row codes row 0 0 0
 unfolding tokens
-compile-start index s codes entries = record {
+compile-start half index s codes row = record {
   near = omega arith;
   inside = omega arith;
   codes-long = refl;
-  entries-long = refl;
+  row-long = refl;
   coded = refl;
   some = omega arith;
   left = refl;
   filled = λ j h. absurd (omega arith);
+  others = record { firsts = λ k. refl; ends = λ k. refl };
 }
 
-module _ {index s codes₀ entries₀ codes entries : List ℕ} {count slots at : ℕ} (c : Compiling index s codes₀ entries₀ codes entries count slots at) where
+module _ {half : ℕ} {index s codes₀ row₀ codes row : List ℕ} {count slots at : ℕ} (c : Compiling half index s codes₀ row₀ codes row count slots at) where
   module _ {n v : ℕ} (room : length s ≤ length codes₀) (next : Coded s at n v) where
     code-written : take (count + 1) (set codes count v) ++ codesOf (tokensAt s n) ≡ codesOf (tokens s)
     code-written = write-next codes (codesOf (tokensAt s at)) (codesOf (tokensAt s n)) (codesOf (tokens s)) count v (omega arith) (next .codes) (c .coded)
 
     pub compile-other : tokenWords (tokensAt s at) ≡ tokenWords (tokensAt s n) →
-        Compiling index s codes₀ entries₀ (set codes count v) entries (count + 1) slots n
+        Compiling half index s codes₀ row₀ (set codes count v) row (count + 1) slots n
     compile-other e = record {
       near = omega arith;
       inside = next .inside;
       codes-long = length-set codes count v ∙ c .codes-long;
-      entries-long = c .entries-long;
+      row-long = c .row-long;
       coded = code-written;
       some = c .some;
       left = c .left ∙ e;
       filled = c .filled;
+      others = c .others;
     }
 
-    pub compile-word : {w : List ℕ} (e : ℕ) → length (tokenWords (tokens s)) ≤ length entries₀ → tokenWords (tokensAt s at) ≡ w ∷ tokenWords (tokensAt s n) →
-        StandsFor index w e → Compiling index s codes₀ entries₀ (set codes count v) (set entries slots e) (count + 1) (slots + 1) n
-    compile-word {w} e enough is stands =
+    -- the slot's range j is kept, and the row is row′
+    pub compile-word : {w row′ : List ℕ} {j : ℕ} (e : Entries) → half ≤ 1 → j ≡ 2 * slots + half → length row₀ ≡ 176 → length (tokenWords (tokens s)) ≤ 16 →
+        tokenWords (tokensAt s at) ≡ w ∷ tokenWords (tokensAt s n) → StandsFor index w (e .first) (e .end) →
+        length row′ ≡ length row → slotsIn row′ ≡ withRange (slotsIn row) j e →
+        Compiling half index s codes₀ row₀ (set codes count v) row′ (count + 1) (slots + 1) n
+    compile-word {w} {row′} {j} e low range whole few is stands long kept =
         let head = drop-head (tokenWords (tokens s)) slots w (tokenWords (tokensAt s n)) (c .left ∙ is) in
+        let ranges = slots-long row (c .row-long ∙ whole) in
         record {
           near = omega arith;
           inside = next .inside;
           codes-long = length-set codes count v ∙ c .codes-long;
-          entries-long = length-set entries slots e ∙ c .entries-long;
+          row-long = long ∙ c .row-long;
           coded = code-written;
           some = omega (arith, head .0);
           left = head .2;
-          filled = filled-next index (tokenWords (tokens s)) entries slots e (omega (arith, head .0)) (c .filled) (rw (head .1) stands);
+          filled = rw kept
+              (filled-next half slots j low range e index (tokenWords (tokens s)) (slotsIn row) (omega (arith, head .0, ranges)) (c .filled) (rw (head .1) stands));
+          others = rw kept (others-next half slots j low range e (c .others));
         }
 
   -- there is a slot for a word that is left
@@ -182,10 +216,12 @@ module _ {index s codes₀ entries₀ codes entries : List ℕ} {count slots at 
       coded = sym (append-nil (take count codes)) ∙ ap (λ (r : List ℕ). take count codes ++ r) (sym (ap codesOf e)) ∙ c .coded;
     }
 
-    pub slots-filled : FillsSlots index s entries₀ entries slots
-    unfolding tokenWords slotHas
+    pub slots-filled : FillsSlots half index s row₀ row slots
+    unfolding tokenWords
     slots-filled = record {
-      long = c .entries-long;
+      long = c .row-long;
       count = omega (arith, length-drop slots (tokenWords (tokens s)), ap length (c .left ∙ ap tokenWords e));
-      have = λ k h x. c .filled k h x;
+      have = c .filled;
+      other-first = c .others .firsts;
+      other-end = c .others .ends;
     }

@@ -3,17 +3,15 @@ use Prim.Native.Nat.{ℕ, _+_, _-_, _*_, _≤_, _<_}
 use native.Mathlib.Omega.{arith}
 use native.Mathlib.Decide.{ℕ-discrete}
 use mathlib.Core.Path.{_≡_, refl, sym, ap, _∙_}
-use mathlib.Core.Bool.{Bool, true, false}
 use mathlib.Core.List.{List}
 use lib.ListN.{length, getD, take, drop, set, replicate, length-set, length-drop, length-replicate}
 use lib.Seq.{length-take-le, take-set-le, take-set-lt, drop-set-add, getD-take, getD-drop, getD-set-same, getD-set-other, ext-getD}
 use Rattle.laws.proofs.Tests.{leb-cases}
 use Rattle.laws.proofs.Lists.{zeros-at}
 use Rattle.list.specs.declared.Place.{Place}
-use Rattle.list.specs.declared.sense.Sense.{Sense}
 use Rattle.list.specs.Hints.{withHint}
 use Rattle.slots.specs.declared.row.Entries.{Entries}
-use Rattle.slots.specs.Row.{slotsIn, sensesIn, firstIn, endIn, withRange, inIt, packed, SlotsStay, HintsMoved}
+use Rattle.slots.specs.Row.{rowLong, slotsIn, sensesIn, firstIn, endIn, withRange, SlotsStay, HintsMoved}
 
 -- ---- what is read
 
@@ -25,6 +23,9 @@ module _ (row : List ℕ) (j : ℕ) (h : j < 32) where
   pub range-end : getD row (3 * j + 1) 0 ≡ endIn (slotsIn row) j
   unfolding slotsIn
   range-end = sym (getD-take 96 row (3 * j + 1) 0 (omega arith))
+
+pub slots-long : (row : List ℕ) → length row ≡ 176 → length (slotsIn row) ≡ 96
+slots-long row e = length-take-le 96 row (omega arith)
 
 pub sense-read : (row : List ℕ) (k : ℕ) → k < 16 → getD row (96 + k) 0 ≡ getD (sensesIn row) k 0
 unfolding sensesIn
@@ -44,6 +45,33 @@ range-kept row j e h =
     ∙ ap (λ (l : List ℕ). set l (3 * j + 2) (e .hint))
     (take-set-lt 96 (set row (3 * j) (e .first)) (3 * j + 1) (e .end) (omega arith)
     ∙ ap (λ (l : List ℕ). set l (3 * j + 1) (e .end)) (take-set-lt 96 row (3 * j) (e .first) (omega arith)))
+
+-- another range for range j: what is read of it, and that the others stay
+module _ (slots : List ℕ) (j : ℕ) (e : Entries) where
+  pub ranged-first : 3 * j < length slots → firstIn (withRange slots j e) j ≡ e .first
+  ranged-first h =
+      getD-set-other (set (set slots (3 * j) (e .first)) (3 * j + 1) (e .end)) (3 * j + 2) (3 * j) (e .hint) 0 (λ q. omega arith)
+      ∙ getD-set-other (set slots (3 * j) (e .first)) (3 * j + 1) (3 * j) (e .end) 0 (λ q. omega arith)
+      ∙ getD-set-same slots (3 * j) (e .first) 0 h
+
+  pub ranged-end : 3 * j + 1 < length slots → endIn (withRange slots j e) j ≡ e .end
+  ranged-end h =
+      getD-set-other (set (set slots (3 * j) (e .first)) (3 * j + 1) (e .end)) (3 * j + 2) (3 * j + 1) (e .hint) 0 (λ q. omega arith)
+      ∙ getD-set-same (set slots (3 * j) (e .first)) (3 * j + 1) (e .end) 0 (omega (arith, length-set slots (3 * j) (e .first)))
+
+  module _ (i : ℕ) (n : i ≡ j → ⊥) where
+    -- none of the three numbers is read at m
+    unset : (m : ℕ) → (m ≡ 3 * j → ⊥) → (m ≡ 3 * j + 1 → ⊥) → (m ≡ 3 * j + 2 → ⊥) → getD (withRange slots j e) m 0 ≡ getD slots m 0
+    unset m f g h =
+        getD-set-other (set (set slots (3 * j) (e .first)) (3 * j + 1) (e .end)) (3 * j + 2) m (e .hint) 0 h
+        ∙ getD-set-other (set slots (3 * j) (e .first)) (3 * j + 1) m (e .end) 0 g
+        ∙ getD-set-other slots (3 * j) m (e .first) 0 f
+
+    pub other-first : firstIn (withRange slots j e) i ≡ firstIn slots i
+    other-first = unset (3 * i) (λ q. n (omega arith)) (λ q. omega arith) (λ q. omega arith)
+
+    pub other-end : endIn (withRange slots j e) i ≡ endIn slots i
+    other-end = unset (3 * i + 1) (λ q. omega arith) (λ q. n (omega arith)) (λ q. omega arith)
 
 module _ (row : List ℕ) (k n : ℕ) where
   pub sense-slots : SlotsStay row (set row (96 + k) n)
@@ -83,6 +111,12 @@ moved-both s t = record { stay = stay-both (s .stay) (t .stay); senses = t .sens
 pub hint-moved : (row : List ℕ) (n : ℕ) (place : Place) → 56 ≤ n → HintsMoved row (withHint row n place)
 hint-moved row n place h =
     moved-both (behind-moved row (2 * n) (place .p .0) (omega arith)) (behind-moved (set row (2 * n) (place .p .0)) (2 * n + 1) (place .q .0) (omega arith))
+
+-- ---- a row of zeros
+
+-- it has no entries of arrivals
+pub blank-alone : (k : ℕ) → endIn (slotsIn (replicate rowLong 0)) (2 * k + 1) ≤ firstIn (slotsIn (replicate rowLong 0)) (2 * k + 1)
+blank-alone k = omega (arith, zeros-at 96 (3 * (2 * k + 1) + 1))
 
 -- ---- no sense that says anything
 

@@ -1,79 +1,99 @@
--- How many intervals the slots' lists have together, and that what fits by the slots only changes where one of them does.
-use Prim.Native.Nat.{ℕ, zero, suc, _+_, _-_, _≤_, _<_}
+-- What fits a question by its slots only changes where the list of one of their entries does: it has no more intervals than those lists together.
+use Prim.Native.Nat.{ℕ, zero, suc, _+_, _-_, _*_, _≤_, _<_}
 use native.Mathlib.Omega.{arith}
 use mathlib.Core.Path.{_≡_, refl, sym, ap, ap₂, _∙_}
-use mathlib.Core.Bool.{Bool, false}
-use mathlib.Core.List.{List, [], _∷_}
-use lib.Dec.{ltb}
-use lib.ListN.{length, getD, length-append}
-use borrow.Author.Tests.{ltb-true, lt-ltb, le-ltb}
-use Rattle.laws.proofs.Tests.{by-test, leb-cases}
+use mathlib.Core.Bool.{Bool, false, _||_}
+use mathlib.Core.List.{List, [], _∷_, _++_}
+use lib.ListN.{length, length-append}
+use Rattle.laws.proofs.Tests.{leb-cases}
 use Rattle.list.specs.Interval.{properFrom, isProper, names, intervals}
 use Rattle.list.specs.Stretches.{cellsOf}
-use Rattle.list.proofs.NamesLaws.{proper-names-zero}
-use Rattle.list.proofs.StretchLaws.{cells-same, proper-cells, is-cells}
-use Rattle.list.proofs.BoundLaws.{Still, AllOut, together}
+use Rattle.list.proofs.NamesLaws.{proper-names-zero, proper-names-above}
+use Rattle.list.proofs.StretchLaws.{cells-same, cells-limit, proper-cells, is-cells}
+use Rattle.list.proofs.BoundLaws.{Still, AllOut, together, cells-bound}
 use Rattle.index.specs.Format.{wordCount, highest, listOf}
 use Rattle.index.specs.Sound.{Sound}
 use Rattle.directory.proofs.HasLaws.{list-proper}
 use Rattle.question.specs.Grammar.{Tree, word, pair, part, treeWords}
 use Rattle.question.specs.Meaning.{combine}
-use Rattle.slots.specs.Slots.{slotHas, slotSatisfies}
-use Rattle.slots.specs.Bound.{slotIntervals, slotsIntervals}
+use Rattle.slots.specs.Row.{firstIn, endIn}
+use Rattle.slots.specs.Having.{entryHas, inEntries, slotHas}
+use Rattle.slots.specs.Slots.{slotSatisfies}
+use Rattle.slots.specs.Bound.{entryIntervals, rangeIntervals, slotIntervals, slotsIntervals}
+use Rattle.slots.proofs.EntriesLaws.{entry-lists, entry-lacks}
+use Rattle.slots.proofs.SlotLaws.{slots-none}
+use Rattle.slots.proofs.SumLaws.{entry-intervals-in, entry-intervals-out}
 
--- ---- one slot
+-- ---- two lists of tests in one
 
-module _ (index entries : List ℕ) (s : Sound index) (k : ℕ) where
-  pub slot-intervals-in : getD entries k 0 < wordCount index → slotIntervals index entries k ≡ intervals (listOf index (getD entries k 0))
-  unfolding slotIntervals
-  slot-intervals-in h = rw (lt-ltb (getD entries k 0) (wordCount index) h)
+still-both : (ps qs : List (ℕ → Bool)) (x : ℕ) → Still (ps ++ qs) x → Still ps x × Still qs x
+still-both [] qs x w = (tt, w)
+still-both (p ∷ ps) qs x w = let both = still-both ps qs x (w .1) in ((w .0, both .0), both .1)
 
-  pub slot-intervals-out : wordCount index ≤ getD entries k 0 → slotIntervals index entries k ≡ 0
-  unfolding slotIntervals
-  slot-intervals-out h = rw (le-ltb (getD entries k 0) (wordCount index) h)
+out-both : (ps qs : List (ℕ → Bool)) (x : ℕ) → AllOut ps x → AllOut qs x → AllOut (ps ++ qs) x
+out-both [] qs x f g = g
+out-both (p ∷ ps) qs x f g = (f .0, out-both ps qs x (f .1) g)
 
-  pub slot-zero : slotHas index entries k 0 ≡ false
-  unfolding slotHas
-  slot-zero =
-      by-test (ltb (getD entries k 0) (wordCount index))
-      (λ e. rw e (proper-names-zero (highest index) (listOf index (getD entries k 0))
-      (list-proper index s (getD entries k 0) (ltb-true (getD entries k 0) (wordCount index) e))))
-      (λ e. rw e)
+together-both : (ps qs : List (ℕ → Bool)) (n : ℕ) → together (ps ++ qs) n ≡ together ps n + together qs n
+unfolding together
+together-both [] qs n = omega arith
+together-both (p ∷ ps) qs n = omega (arith, together-both ps qs n)
 
-  slot-list : intervals (cellsOf (slotHas index entries k) (highest index)) ≡ slotIntervals index entries k
-  unfolding slotHas slotIntervals names isProper properFrom
-  slot-list =
-      by-test (ltb (getD entries k 0) (wordCount index))
-      (λ e. rw e (ap intervals
-      (cells-same (slotHas index entries k) (names (listOf index (getD entries k 0))) (highest index) (λ x l m. rw e)
-      ∙ sym (proper-cells (highest index) (listOf index (getD entries k 0))
-      (list-proper index s (getD entries k 0) (ltb-true (getD entries k 0) (wordCount index) e))))))
-      (λ e. rw e (ap intervals (sym (is-cells (slotHas index entries k) (highest index) [] refl (λ x l m. rw e)))))
+-- ---- the entries of a range
 
--- ---- the slots' tests
+unfoldable entryTests : List ℕ → ℕ → ℕ → List (ℕ → Bool)
+entryTests index i zero = []
+entryTests index i (suc n) = (λ x. entryHas index i x) ∷ entryTests index (i + 1) n
 
-unfoldable pub tests : (ℕ → ℕ → Bool) → ℕ → ℕ → List (ℕ → Bool)
-tests v k zero = []
-tests v k (suc n) = v k ∷ tests v (k + 1) n
+-- a record that no entry has
+entries-none : (index : List ℕ) (x : ℕ) → ((i : ℕ) → entryHas index i x ≡ false) → (i n : ℕ) → inEntries index i n x ≡ false
+unfolding inEntries
+entries-none index x f i zero = refl
+entries-none index x f i (suc n) = rw (f i) (entries-none index x f (i + 1) n)
 
-pub tests-still : (v : ℕ → ℕ → Bool) (k n x j : ℕ) → Still (tests v k n) x → k ≤ j → j < k + n → v j x ≡ v j (x + 1)
-unfolding tests
-tests-still v k zero x j w h l = absurd (omega arith)
-tests-still v k (suc n) x j w h l =
-    leb-cases j k (λ g. let e : j ≡ k = omega arith in rw e (w .0)) (λ g. tests-still v (k + 1) n x j (w .1) (omega arith) (omega arith))
+entries-still : (index : List ℕ) (i n x : ℕ) → Still (entryTests index i n) x → inEntries index i n x ≡ inEntries index i n (x + 1)
+unfolding entryTests inEntries
+entries-still index i zero x w = refl
+entries-still index i (suc n) x w = ap₂ (λ (a b : Bool). a || b) (w .0) (entries-still index (i + 1) n x (w .1))
 
-pub tests-out : (v : ℕ → ℕ → Bool) (k n : ℕ) → ((j : ℕ) → v j 0 ≡ false) → AllOut (tests v k n) 0
-unfolding tests
-tests-out v k zero f = tt
-tests-out v k (suc n) f = (f k, tests-out v (k + 1) n f)
+module _ (index : List ℕ) (s : Sound index) where
+  entry-zero : (i : ℕ) → entryHas index i 0 ≡ false
+  entry-zero i =
+      leb-cases (wordCount index) i (entry-lacks index i 0)
+      (λ l. entry-lists index i 0 l ∙ proper-names-zero (highest index) (listOf index i) (list-proper index s i l))
 
-pub tests-together : (index entries : List ℕ) → Sound index → (k n : ℕ) →
-    together (tests (slotHas index entries) k n) (highest index) ≡ slotsIntervals index entries k n
-unfolding tests together slotsIntervals
-tests-together index entries s k zero = refl
-tests-together index entries s k (suc n) = ap₂ (λ (a b : ℕ). a + b) (slot-list index entries s k) (tests-together index entries s (k + 1) n)
+  entries-out : (i n : ℕ) → AllOut (entryTests index i n) 0
+  unfolding entryTests
+  entries-out i zero = tt
+  entries-out i (suc n) = (entry-zero i, entries-out (i + 1) n)
 
--- ---- what fits changes only where a slot does, and nothing fits where no slot has it
+  module _ (m : ℕ) (h : highest index ≤ m) where
+    entry-above : (i x : ℕ) → m < x → entryHas index i x ≡ false
+    entry-above i x g =
+        leb-cases (wordCount index) i (entry-lacks index i x)
+        (λ l. entry-lists index i x l ∙ proper-names-above (highest index) x (listOf index i) (list-proper index s i l) (omega arith))
+
+    -- the list of what a list up to N names is that list, also up to more
+    list-cells : (i : ℕ) → i < wordCount index → listOf index i ≡ cellsOf (names (listOf index i)) m
+    list-cells i l =
+        let proper = list-proper index s i l in
+        proper-cells (highest index) (listOf index i) proper
+        ∙ cells-limit (names (listOf index i)) (highest index) m h (λ x g k. proper-names-above (highest index) x (listOf index i) proper g)
+
+    entry-list : (i : ℕ) → intervals (cellsOf (λ x. entryHas index i x) m) ≡ entryIntervals index i
+    unfolding names isProper properFrom
+    entry-list i =
+        leb-cases (wordCount index) i
+        (λ l. ap intervals (sym (is-cells (λ x. entryHas index i x) m [] refl (λ x a b. sym (entry-lacks index i x l)))) ∙ sym (entry-intervals-out index i l))
+        (λ l. ap intervals (cells-same (λ x. entryHas index i x) (names (listOf index i)) m (λ x a b. entry-lists index i x l) ∙ sym (list-cells i l))
+        ∙ sym (entry-intervals-in index i l))
+
+    entries-together : (i n : ℕ) → together (entryTests index i n) m ≡ rangeIntervals index i n
+    unfolding entryTests together rangeIntervals
+    entries-together i zero = refl
+    entries-together i (suc n) = ap₂ (λ (a b : ℕ). a + b) (entry-list i) (entries-together (i + 1) n)
+
+-- ---- what fits changes only where a slot does
 
 pub satisfies-still : (v : ℕ → ℕ → Bool) (t : Tree) (k x : ℕ) → ((j : ℕ) → k ≤ j → j < k + length (treeWords t) → v j x ≡ v j (x + 1)) →
     slotSatisfies v t k x ≡ slotSatisfies v t k (x + 1)
@@ -86,16 +106,70 @@ satisfies-still v (pair o a b) k x f =
     (satisfies-still v b (k + length (treeWords a)) x (λ j h g. f j (omega arith) (omega arith)))
 satisfies-still v (part t) k x f = satisfies-still v t k x f
 
--- ---- the sum, slot by slot
+-- ---- slots in two indexes
 
-pub slots-whole : (index entries : List ℕ) (count : ℕ) → slotsIntervals index entries 0 (count - 0) ≡ slotsIntervals index entries 0 count
-slots-whole index entries count = let e : count - 0 ≡ count = omega arith in rw e
+module _ (main arrivals slots : List ℕ) where
+  -- the entries of slot k in the one and in the other
+  abbrev mainTests : ℕ → List (ℕ → Bool)
+  mainTests k = entryTests main (firstIn slots (2 * k)) (endIn slots (2 * k) - firstIn slots (2 * k))
 
-pub slots-next : (index entries : List ℕ) (k count : ℕ) → k < count →
-    slotsIntervals index entries k (count - k) ≡ slotIntervals index entries k + slotsIntervals index entries (k + 1) (count - (k + 1))
-unfolding slotsIntervals
-slots-next index entries k count h = let e : count - k ≡ suc (count - (k + 1)) = omega arith in rw e
+  abbrev arrivalsTests : ℕ → List (ℕ → Bool)
+  arrivalsTests k = entryTests arrivals (firstIn slots (2 * k + 1)) (endIn slots (2 * k + 1) - firstIn slots (2 * k + 1))
 
-pub slots-end : (index entries : List ℕ) (k count : ℕ) → count ≤ k → slotsIntervals index entries k (count - k) ≡ 0
-unfolding slotsIntervals
-slots-end index entries k count h = let e : count - k ≡ 0 = omega arith in rw e
+  unfoldable slotsTests : ℕ → ℕ → List (ℕ → Bool)
+  slotsTests k zero = []
+  slotsTests k (suc n) = (mainTests k ++ arrivalsTests k) ++ slotsTests (k + 1) n
+
+  slot-still : (k x : ℕ) → Still (mainTests k ++ arrivalsTests k) x → slotHas main arrivals slots k x ≡ slotHas main arrivals slots k (x + 1)
+  unfolding slotHas
+  slot-still k x w =
+      let both = still-both (mainTests k) (arrivalsTests k) x w in
+      ap₂ (λ (a b : Bool). a || b) (entries-still main _ _ x (both .0)) (entries-still arrivals _ _ x (both .1))
+
+  slots-still : (k n x j : ℕ) → Still (slotsTests k n) x → k ≤ j → j < k + n → slotHas main arrivals slots j x ≡ slotHas main arrivals slots j (x + 1)
+  unfolding slotsTests
+  slots-still k zero x j w h l = absurd (omega arith)
+  slots-still k (suc n) x j w h l =
+      let both = still-both (mainTests k ++ arrivalsTests k) (slotsTests (k + 1) n) x w in
+      leb-cases j k (λ g. let e : j ≡ k = omega arith in rw e (slot-still k x (both .0)))
+      (λ g. slots-still (k + 1) n x j (both .1) (omega arith) (omega arith))
+
+  module _ (s : Sound main) (r : Sound arrivals) where
+    pub slot-zero : (k : ℕ) → slotHas main arrivals slots k 0 ≡ false
+    unfolding slotHas
+    slot-zero k = rw (entries-none main 0 (entry-zero main s) (firstIn slots (2 * k)) (endIn slots (2 * k) - firstIn slots (2 * k)))
+        (entries-none arrivals 0 (entry-zero arrivals r) (firstIn slots (2 * k + 1)) (endIn slots (2 * k + 1) - firstIn slots (2 * k + 1)))
+
+    slots-out : (k n : ℕ) → AllOut (slotsTests k n) 0
+    unfolding slotsTests
+    slots-out k zero = tt
+    slots-out k (suc n) =
+        out-both (mainTests k ++ arrivalsTests k) (slotsTests (k + 1) n) 0
+        (out-both (mainTests k) (arrivalsTests k) 0 (entries-out main s _ _) (entries-out arrivals r _ _)) (slots-out (k + 1) n)
+
+    module _ (n : ℕ) (h : highest main ≤ n) (g : highest arrivals ≤ n) where
+      pub slot-above : (k x : ℕ) → n < x → slotHas main arrivals slots k x ≡ false
+      unfolding slotHas
+      slot-above k x l =
+          rw (entries-none main x (λ i. entry-above main s n h i x l) (firstIn slots (2 * k)) (endIn slots (2 * k) - firstIn slots (2 * k)))
+          (entries-none arrivals x (λ i. entry-above arrivals r n g i x l) (firstIn slots (2 * k + 1)) (endIn slots (2 * k + 1) - firstIn slots (2 * k + 1)))
+
+      slots-together : (k m : ℕ) → together (slotsTests k m) n ≡ slotsIntervals main arrivals slots k m
+      unfolding slotsTests together slotsIntervals slotIntervals
+      slots-together k zero = refl
+      slots-together k (suc m) =
+          together-both (mainTests k ++ arrivalsTests k) (slotsTests (k + 1) m) n
+          ∙ ap₂ (λ (a b : ℕ). a + b)
+          (together-both (mainTests k) (arrivalsTests k) n
+          ∙ ap₂ (λ (a b : ℕ). a + b) (entries-together main s n h _ _) (entries-together arrivals r n g _ _))
+          (slots-together (k + 1) m)
+
+      -- an answer with room for that many intervals needs no counting first
+      pub slots-bound : (t : Tree) → intervals (cellsOf (slotSatisfies (slotHas main arrivals slots) t 0) n)
+          ≤ slotsIntervals main arrivals slots 0 (length (treeWords t))
+      slots-bound t =
+          let v = slotHas main arrivals slots in
+          let words = length (treeWords t) in
+          rw (← slots-together 0 words)
+          (cells-bound (slotSatisfies v t 0) (slotsTests 0 words) n (slots-none v 0 slot-zero t 0) (slots-out 0 words)
+          (λ x l w. satisfies-still v t 0 x (λ j a b. slots-still 0 words x j w a b)))

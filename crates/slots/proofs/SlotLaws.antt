@@ -1,28 +1,14 @@
--- Laws of slots: the list of a slot's word, and what satisfies a tree by what its slots have.
+-- Laws of what satisfies a tree by what its slots have.
 use mathlib.Core.Path.{_≡_, refl}
-use Prim.Native.Nat.{ℕ, _+_, _≤_, _<_}
+use Prim.Native.Nat.{ℕ, _+_}
 use mathlib.Core.Bool.{Bool, false}
 use mathlib.Core.List.{List}
-use lib.ListN.{length, getD}
-use borrow.Author.Tests.{lt-ltb, le-ltb}
-use Rattle.list.specs.Interval.{names}
-use Rattle.index.specs.Format.{wordCount, listOf}
+use lib.ListN.{length}
 use Rattle.question.specs.declared.token.Op.{Op}
 use Rattle.question.specs.declared.token.Op.the-variants.{And, Or, Not}
 use Rattle.question.specs.Grammar.{Tree, word, pair, part, treeWords}
 use Rattle.question.specs.Meaning.{combine}
-use Rattle.slots.specs.Slots.{slotHas, slotSatisfies}
-
--- ---- the list of a slot
-
-module _ (index entries : List ℕ) (k : ℕ) where
-  pub slot-lists : getD entries k 0 < wordCount index → (x : ℕ) → slotHas index entries k x ≡ names (listOf index (getD entries k 0)) x
-  unfolding slotHas
-  slot-lists h x = rw (lt-ltb (getD entries k 0) (wordCount index) h)
-
-  pub slot-lacks : wordCount index ≤ getD entries k 0 → (x : ℕ) → slotHas index entries k x ≡ false
-  unfolding slotHas
-  slot-lacks h x = rw (le-ltb (getD entries k 0) (wordCount index) h)
+use Rattle.slots.specs.Slots.{slotSatisfies}
 
 -- ---- what satisfies a tree
 

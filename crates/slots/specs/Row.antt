@@ -1,6 +1,6 @@
 -- The row of a question, one lent slice of numbers: two ranges of entries for each slot, one in the main index and one in the arrivals, then the sense that
 -- is kept of each slot, then the hints, where lists were read last.
-use Prim.Native.Nat.{ℕ, _+_, _*_, _/_, _%_, _≤_, _<_}
+use Prim.Native.Nat.{ℕ, _+_, _*_, _/_, _%_, _≤_}
 use mathlib.Core.Path.{_≡_}
 use mathlib.Core.Bool.{Bool, cond}
 use mathlib.Core.List.{List}

@@ -1,37 +1,56 @@
 // How many intervals the lists of a question's words have together: its answer never has more.
 ghost use mathlib.Core.Path.{_≡_};
-ghost use Prim.Native.Nat.{_≤_, _<_};
-ghost use lib.ListN.{length};
-ghost use Rattle.limits.specs.Limits.{questionWordsMax};
+ghost use Prim.Native.Nat.{_*_, _≤_, _<_};
+ghost use Rattle.limits.specs.Limits.{questionWordsMax, wordsMax};
 ghost use Rattle.index.specs.Sound.{Sound};
-ghost use Rattle.slots.specs.Bound.{slotIntervals, slotsIntervals};
+ghost use Rattle.slots.specs.Row.{slotsIn};
+ghost use Rattle.slots.specs.Having.{ReadBy};
+ghost use Rattle.slots.specs.Bound.{entriesIntervals, slotIntervals, slotsIntervals};
+use crate::row::Entries;
+use crate::row::entries_of;
 use directory::parts::interval_count;
 use index::trailer::word_count;
 
-fn slot_intervals(index: &[u8], entries: &[usize], k: usize) -> usize
-    requires sound { ⌜ Sound (now index) ⌝ }
-    requires slot { ⌜ k < length (now entries) ⌝ }
-    ensures is { λ r. ⌜ r ≡ slotIntervals (now (index .entry)) (now (entries .entry)) k ⌝ }
-    ensures few { λ r. ⌜ r ≤ 4194304 ⌝ }
+// A range may end behind the last entry.
+fn entries_sum(index: &[u8], entries: Entries) -> usize
+    requires { ⌜ Sound (now index) ⌝ }
+    ensures is { λ r. ⌜ r ≡ entriesIntervals (now (index .entry)) (entries .first) (entries .end) ⌝ }
+    ensures few { λ r. ⌜ r ≤ wordsMax * 4194304 ⌝ }
 {
-    let entry = entries[k];
-    if word_count(index) <= entry {
-        return 0;
+    let count = word_count(index);
+    let mut sum = 0;
+    let mut i = entries.first;
+    while i < entries.end {
+        if count <= i {
+            return sum;
+        }
+        sum += interval_count(index, i);
+        i += 1;
     }
-    interval_count(index, entry)
+    sum
+}
+
+fn slot_intervals(main: &[u8], arrivals: &[u8], row: &[usize], k: usize) -> usize
+    requires read { ⌜ ReadBy (now main) (now arrivals) (now row) ⌝ }
+    requires slot { ⌜ k < questionWordsMax ⌝ }
+    ensures is { λ r. ⌜ r ≡ slotIntervals (now (main .entry)) (now (arrivals .entry)) (slotsIn (now (row .entry))) k ⌝ }
+    ensures few { λ r. ⌜ r ≤ 2 * wordsMax * 4194304 ⌝ }
+{
+    let of_main = entries_sum(main, entries_of(row, 2 * k));
+    let of_arrivals = entries_sum(arrivals, entries_of(row, 2 * k + 1));
+    of_main + of_arrivals
 }
 
 // Of the first `count` slots.
-pub fn slots_sum(index: &[u8], entries: &[usize], count: usize) -> usize
-    requires sound { ⌜ Sound (now index) ⌝ }
-    requires slots { ⌜ count ≤ length (now entries) ⌝ }
+pub fn slots_sum(main: &[u8], arrivals: &[u8], row: &[usize], count: usize) -> usize
+    requires read { ⌜ ReadBy (now main) (now arrivals) (now row) ⌝ }
     requires few { ⌜ count ≤ questionWordsMax ⌝ }
-    ensures { λ r. ⌜ r ≡ slotsIntervals (now (index .entry)) (now (entries .entry)) 0 count ⌝ }
+    ensures { λ r. ⌜ r ≡ slotsIntervals (now (main .entry)) (now (arrivals .entry)) (slotsIn (now (row .entry))) 0 count ⌝ }
 {
     let mut sum = 0;
     let mut k = 0;
     while k < count {
-        sum += slot_intervals(index, entries, k);
+        sum += slot_intervals(main, arrivals, row, k);
         k += 1;
     }
     sum

@@ -1,15 +1,19 @@
-// An accepted question made ready: one pass over its tokens writes the code of each, and the entry of each word into its slot.
+// An accepted question made ready: one pass over its tokens writes the code of each, and the entries of each word into its slot.
+ghost use mathlib.Core.Path.{_≡_};
 ghost use Prim.Native.Nat.{_≤_};
 ghost use lib.ListN.{length};
+ghost use Rattle.limits.specs.Limits.{questionWordsMax};
 ghost use Rattle.index.specs.Sound.{Sound};
 ghost use Rattle.question.specs.Token.{tokens};
 ghost use Rattle.question.specs.Limits.{tokenWords};
+ghost use Rattle.slots.specs.Row.{rowLong};
 ghost use Rattle.slots.specs.Compile.{StandsFor, WritesCodes, FillsSlots};
+use crate::row::Entries;
+use crate::row::keep_entries;
 use codes::code::WORD_CODE;
 use codes::code::token_code;
 use directory::Standing;
 use directory::find::find_word;
-use index::trailer::word_count;
 use question::token::Token;
 use question::token::next_token;
 use question::token::token_end;
@@ -20,23 +24,32 @@ pub struct Compiled {
     pub slots: usize,
 }
 
-// The entry whose word it is; where the index has no such word, a number that is no entry's.
-fn entry_for(index: &[u8], word: &[u8]) -> usize
+// The one entry whose word it is; where the index has no such word, none.
+fn entries_for(index: &[u8], word: &[u8], hint: usize) -> Entries
     requires { ⌜ Sound (now index) ⌝ }
-    ensures { λ r. ⌜ StandsFor (now (index .entry)) (now (word .entry)) r ⌝ }
+    ensures { λ r. ⌜ StandsFor (now (index .entry)) (now (word .entry)) (r .first) (r .end) ⌝ }
 {
     match find_word(index, word) {
-        Standing::Here(i) => i,
-        Standing::Absent(_) => word_count(index),
+        Standing::Here(i) => Entries {
+            first: i,
+            end: i + 1,
+            hint,
+        },
+        Standing::Absent(place) => Entries {
+            first: place,
+            end: place,
+            hint,
+        },
     }
 }
 
-pub fn compile(index: &[u8], question: &[u8], codes: &mut [u8], entries: &mut [usize]) -> Compiled
+pub fn compile(index: &[u8], question: &[u8], codes: &mut [u8], row: &mut [usize]) -> Compiled
     requires sound { ⌜ Sound (now index) ⌝ }
     requires room { ⌜ length (now question) ≤ length (now codes) ⌝ }
-    requires slots { ⌜ length (tokenWords (tokens (now question))) ≤ length (now entries) ⌝ }
+    requires long { ⌜ length (now row) ≡ rowLong ⌝ }
+    requires few { ⌜ length (tokenWords (tokens (now question))) ≤ questionWordsMax ⌝ }
     ensures codes { λ r. ⌜ WritesCodes (now (question .entry)) (now (codes .entry)) (now (codes .exit)) (r .codes) ⌝ }
-    ensures slots { λ r. ⌜ FillsSlots (now (index .entry)) (now (question .entry)) (now (entries .entry)) (now (entries .exit)) (r .slots) ⌝ }
+    ensures slots { λ r. ⌜ FillsSlots 0 (now (index .entry)) (now (question .entry)) (now (row .entry)) (now (row .exit)) (r .slots) ⌝ }
 {
     let mut count = 0;
     let mut slots = 0;
@@ -51,7 +64,8 @@ pub fn compile(index: &[u8], question: &[u8], codes: &mut [u8], entries: &mut [u
                 };
             }
             Token::Word(start, end) => {
-                entries[slots] = entry_for(index, &question[start..end]);
+                let entries = entries_for(index, &question[start..end], slots);
+                keep_entries(row, 2 * slots, entries);
                 slots += 1;
                 codes[count] = WORD_CODE;
                 count += 1;

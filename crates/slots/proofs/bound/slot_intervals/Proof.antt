@@ -1,30 +1,25 @@
--- An entry number that is no entry's has no list.
+-- The two ranges of the slot, one in each index.
 use native.Mathlib.Omega.{arith}
-use mathlib.Core.Path.{sym, _∙_}
-use Rattle.slots.proofs.SlotBound.{slot-intervals-in, slot-intervals-out}
+use Rattle.slots.specs.Row.{slotsIn}
+use Rattle.slots.proofs.SumLaws.{slot-sum}
 use Rattle.slots.proofs.bound.slot_intervals.Statement.{statement}
 use Rattle.slots.proofs.bound.slot_intervals.Tie as tie
 use borrow.Author.Needs.{needs}
 
 returns : tie.Need-returns
 returns c =
-    let start = c .before .before .before .before .before in (
-      sym (slot-intervals-out (start .args .index .now) (start .args .entries .now) (start .pre .0) (start .args .k)
-          (omega (arith, c .before .word-count .ensures .0))),
-      search needs,
-    )
-
-returns-2 : tie.Need-returns-2
-returns-2 c =
-    let start = c .before .before .before .before .before .before in (
-      c .interval-count .ensures .0
-          ∙ sym (slot-intervals-in (start .args .index .now) (start .args .entries .now) (start .pre .0) (start .args .k)
-          (omega (arith, c .before .before .word-count .ensures .0))),
-      c .interval-count .ensures .1,
+    let main = c .before .before in
+    let a = main .before .before .before .before .before .args in
+    let of-main = main .entries-sum .ensures in
+    let of-arrivals = c .entries-sum2 .ensures in (
+      slot-sum (a .main .now) (a .arrivals .now) (slotsIn (a .row .now)) (a .k) (main .before .entries-of .result) (c .before .entries-of2 .result)
+          (main .before .entries-of .ensures) (c .before .entries-of2 .ensures) (of-main .0) (of-arrivals .0),
+      omega (arith, of-main .1, of-arrivals .1),
     )
 
 pub slot-intervals-spec : {M : Type 1} → statement M
 slot-intervals-spec =
     tie.close
     (tie.spec
-    (λ c. search needs) (λ c. search needs) (λ c κs. search needs) returns (λ c κs. search needs) returns-2)
+    (λ c. search needs) (λ c κs. search needs) (λ c κs. search needs) (λ c. search needs) (λ c. search needs) (λ c κs. search needs)
+    (λ c κs. search needs) (λ c. search needs) returns)

@@ -3,23 +3,25 @@ use borrow.Author.Needs.{needs}
 use Prim.Native.Nat.{_-_, _<_}
 use native.Mathlib.Omega.{arith}
 use lib.ListN.{length}
+use mathlib.Core.Path.{_∙_}
 use Rattle.question.specs.Token.{tokens}
 use Rattle.question.specs.Limits.{tokenWords}
-use Rattle.slots.proofs.CompileLaws.{NextWord, NextOther, next-word, next-other, next-none, Compiling, compile-start, compile-other, compile-word, slot-left, codes-written, slots-filled}
+use Rattle.slots.proofs.CompileLaws.{NextWord, NextOther, next-word, next-other, next-none}
+use Rattle.slots.proofs.CompileLaws.{Compiling, compile-start, compile-other, compile-word, slot-left, codes-written, slots-filled}
 use Rattle.slots.proofs.compile.compile.Statement.{statement}
 use Rattle.slots.proofs.compile.compile.Tie as tie
 
 abbrev Inv-loop : tie.InvT-loop
-Inv-loop index question codes₀ entries₀ count₀ slots₀ at₀ codes entries count slots at = Compiling index question codes₀ entries₀ codes entries count slots at
+Inv-loop index question codes₀ row₀ count₀ slots₀ at₀ codes row count slots at = Compiling 0 index question codes₀ row₀ codes row count slots at
 
 abbrev μ-loop : tie.MeasureT-loop
-μ-loop index question codes₀ entries₀ count₀ slots₀ at₀ codes entries count slots at = length question - at
+μ-loop index question codes₀ row₀ count₀ slots₀ at₀ codes row count slots at = length question - at
 
 abbrev asked : tie.At-loop Inv-loop μ-loop → tie.Start Inv-loop μ-loop
 asked c = c .before .before .before .before .before
 
 loop-holds : tie.Need-loop-holds Inv-loop μ-loop
-loop-holds c = let a = c .before .before .before .before .args in compile-start (a .index .now) (a .question .now) (a .codes .now) (a .entries .now)
+loop-holds c = let a = c .before .before .before .before .args in compile-start 0 (a .index .now) (a .question .now) (a .codes .now) (a .row .now)
 
 returns : tie.Need-returns Inv-loop μ-loop
 returns c =
@@ -36,11 +38,23 @@ slot : (c : tie.After-known-told Inv-loop μ-loop) → let here = c .before .bef
     here .loop .slots < length (tokenWords (tokens (asked here .args .question .now)))
 slot c = slot-left (c .before .before .before .before .loop .inv) (word c .words)
 
+-- behind the two calls, which leave the word and the slot as they are
+abbrev told : tie.After-slice-known3 Inv-loop μ-loop → tie.After-known-told Inv-loop μ-loop
+told c = c .before .before .before .before .before .before
+
+keep-entries-requires : tie.Need-keep-entries-requires Inv-loop μ-loop
+keep-entries-requires c κs =
+    let here = c .before .before .before .before .before .before .before in
+    (here .loop .inv .row-long ∙ asked here .pre .1 .1 .0, omega (arith, slot (c .before .before .before), asked here .pre .1 .1 .1))
+
 loop-again : tie.Need-loop-again Inv-loop μ-loop
 loop-again c =
-    let here = c .before .before .before .before .before .before in
-    let found = word (c .before .before) in
-    compile-word (here .loop .inv) (asked here .pre .1 .0) (found .coded) (c .entry-for .result) (asked here .pre .1 .1) (found .words) (c .entry-for .ensures)
+    let kept = c .before .before in
+    let made = kept .before .before in
+    let here = told c .before .before .before .before in
+    let found = word (told c) in
+    compile-word (here .loop .inv) (asked here .pre .1 .0) (found .coded) (made .entries-for .result) (omega arith) (omega arith) (asked here .pre .1 .1 .0)
+    (asked here .pre .1 .1 .1) (found .words) (made .entries-for .ensures) (kept .keep-entries .ensures .0) (kept .keep-entries .ensures .1)
 
 -- the token of a turn that is neither a word nor the end
 other : (c : tie.At-match-keys3 Inv-loop μ-loop) → let here = c .before .before in
@@ -59,9 +73,8 @@ compile-spec =
     (tie.spec
     Inv-loop μ-loop loop-holds (λ c κs. search needs) (λ c. search needs) (λ c. search needs) (λ c. search needs) returns
     (λ c. search needs) (λ c. let found = word c in omega arith) (λ c. let found = word c in omega arith)
-    (λ c. let found = word c in omega arith) (λ c κs. search needs) (λ c. search needs)
-    (λ c. let free = slot (c .before .before) in omega arith) (λ c. let free = slot (c .before .before) in omega arith)
-    (λ c. let found = word (c .before .before) in omega arith) (λ c. let found = word (c .before .before) in omega arith)
-    (λ c. let found = word (c .before .before) in omega arith) loop-again (λ c κs. search needs)
+    (λ c. let found = word c in omega arith) (λ c κs. search needs) (λ c. let free = slot (c .before .before .before) in omega arith)
+    keep-entries-requires (λ c. let free = slot (told c) in omega arith) (λ c. let found = word (told c) in omega arith)
+    (λ c. let found = word (told c) in omega arith) (λ c. let found = word (told c) in omega arith) loop-again (λ c κs. search needs)
     (λ c. let found = other (c .before) in omega arith) (λ c. let found = other (c .before) in omega arith)
     (λ c κs. let found = other (c .before) in omega arith) (λ c. let found = other (c .before .before) in omega (arith, c .token-end .ensures)) loop-again-2)

@@ -22,7 +22,8 @@ loop-again : tie.Need-loop-again Inv-loop μ-loop
 loop-again c =
     let l = c .before .loop in
     let stays = l .inv .1 in
-    (omega arith, stay-both stays (sense-slots (l .row) (l .k) 0), none-more (l .row) (l .k) (stays .long ∙ c .before .before .pre) (c .loop-test .taken) (l .inv .2))
+    let long = stays .long ∙ c .before .before .pre in
+    (omega arith, stay-both stays (sense-slots (l .row) (l .k) 0), none-more (l .row) (l .k) long (c .loop-test .taken) (l .inv .2))
 
 returns : tie.Need-returns Inv-loop μ-loop
 returns c =

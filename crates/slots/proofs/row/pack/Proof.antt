@@ -1,6 +1,4 @@
 -- A sense is in or out.
-use native.Mathlib.Omega.{arith}
-use mathlib.Core.Path.{refl}
 use borrow.Author.Needs.{needs}
 use Rattle.slots.proofs.row.pack.Statement.{statement}
 use Rattle.slots.proofs.row.pack.Tie as tie
