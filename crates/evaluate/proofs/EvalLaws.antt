@@ -42,8 +42,8 @@ front-back (suc m) (v ∷ vs) r e = ap (λ (l : List ℕ). v ∷ l) (front-back 
 pub evaluated-none : {reading : ℕ → ℕ → List Tok → Out Tree} {codes : List ℕ} {at : Step} {v : ℕ → ℕ → Bool} {base : ℕ} {row ws : List ℕ} →
     at .code ≤ length codes →
     ((f : ℕ) → Reads (reading (at .slot) f) codes (at .code) (at .code) (at .slot) (λ t. Holds (slotSatisfies v t (at .slot)) base ws)) →
-    HintsMoved row row × (length ws ≡ length ws) × Evaluated reading codes at v base ws at
-evaluated-none {row = row} h r = (moved-none row, refl, record { ahead = omega arith; inside = h; reads = r })
+    HintsMoved row row × ((length ws ≡ length ws) × Evaluated reading codes at v base ws at)
+evaluated-none {row = row} h r = (moved-none row, (refl, record { ahead = omega arith; inside = h; reads = r }))
 
 -- ---- what the windows hold
 

@@ -52,7 +52,16 @@ pub fn eval_level(
             code: next.code + 1,
             slot: next.slot,
         };
-        next = eval_operand(codes, behind, d, main, arrivals, base, row, &mut other[0..n]);
+        next = eval_operand(
+            codes,
+            behind,
+            d,
+            main,
+            arrivals,
+            base,
+            row,
+            &mut other[0..n],
+        );
         combine_into(code, ws, &other[0..n]);
     }
 }

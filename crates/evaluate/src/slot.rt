@@ -21,14 +21,7 @@ use slots::row::entries_of;
 use slots::row::hint_number;
 
 // Sets the bits of the records that are in the list of entry i, and moves its hint on.
-fn fill_entry(
-    index: &[u8],
-    i: usize,
-    hint: usize,
-    base: u32,
-    row: &mut [usize],
-    ws: &mut [u64],
-)
+fn fill_entry(index: &[u8], i: usize, hint: usize, base: u32, row: &mut [usize], ws: &mut [u64])
     requires entry { ⌜ EntryIn (now index) i ⌝ }
     requires long { ⌜ length (now row) ≡ rowLong ⌝ }
     requires from { ⌜ firstHint ≤ hint ⌝ }

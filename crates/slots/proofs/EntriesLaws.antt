@@ -82,6 +82,6 @@ range-one index i x = let e : i + 1 - i ≡ 1 = omega arith in ap (λ (k : ℕ).
 
 pub slot-either : (main arrivals slots : List ℕ) (k x : ℕ) →
     slotHas main arrivals slots k x ≡
-        entriesHave main (firstIn slots (2 * k)) (endIn slots (2 * k)) x || entriesHave arrivals (firstIn slots (2 * k + 1)) (endIn slots (2 * k + 1)) x
+    entriesHave main (firstIn slots (2 * k)) (endIn slots (2 * k)) x || entriesHave arrivals (firstIn slots (2 * k + 1)) (endIn slots (2 * k + 1)) x
 unfolding slotHas
 slot-either main arrivals slots k x = refl

@@ -11,6 +11,7 @@ use Rattle.laws.proofs.Lists.{zeros-at}
 use Rattle.list.specs.declared.Place.{Place}
 use Rattle.list.specs.Hints.{withHint}
 use Rattle.slots.specs.declared.row.Entries.{Entries}
+use Rattle.slots.specs.Having.{slotHas, having, ReadBy}
 use Rattle.slots.specs.Row.{rowLong, slotsIn, sensesIn, firstIn, endIn, withRange, SlotsStay, HintsMoved}
 
 -- ---- what is read
@@ -25,6 +26,7 @@ module _ (row : List ℕ) (j : ℕ) (h : j < 32) where
   range-end = sym (getD-take 96 row (3 * j + 1) 0 (omega arith))
 
 pub slots-long : (row : List ℕ) → length row ≡ 176 → length (slotsIn row) ≡ 96
+unfolding slotsIn
 slots-long row e = length-take-le 96 row (omega arith)
 
 pub sense-read : (row : List ℕ) (k : ℕ) → k < 16 → getD row (96 + k) 0 ≡ getD (sensesIn row) k 0
@@ -116,6 +118,7 @@ hint-moved row n place h =
 
 -- it has no entries of arrivals
 pub blank-alone : (k : ℕ) → endIn (slotsIn (replicate rowLong 0)) (2 * k + 1) ≤ firstIn (slotsIn (replicate rowLong 0)) (2 * k + 1)
+unfolding slotsIn
 blank-alone k = omega (arith, zeros-at 96 (3 * (2 * k + 1) + 1))
 
 -- ---- no sense that says anything
@@ -132,3 +135,14 @@ none-more row k e h f j l = ap (λ (s : List ℕ). getD s j 0) (sense-kept row k
     go : Dec (j ≡ k) → getD (set (sensesIn row) k 0) j 0 ≡ 0
     go (yes q) = ap (λ (i : ℕ). getD (set (sensesIn row) k 0) i 0) q ∙ getD-set-same (sensesIn row) k 0 0 (omega (arith, senses-long row e))
     go (no q) = getD-set-other (sensesIn row) k j 0 0 q ∙ f j (leb-cases {A = j < k} k j (λ g. absurd (q (omega arith))) (λ g. g))
+
+-- ---- what slots have and are read by, where they stay
+
+pub stay-having : (main arrivals : List ℕ) {row row′ : List ℕ} → SlotsStay row row′ → having main arrivals row′ ≡ having main arrivals row
+stay-having main arrivals s = ap (λ (l : List ℕ). slotHas main arrivals l) (s .slots)
+
+pub moved-having : (main arrivals : List ℕ) {row row′ : List ℕ} → HintsMoved row row′ → having main arrivals row′ ≡ having main arrivals row
+moved-having main arrivals m = stay-having main arrivals (m .stay)
+
+pub read-again : {main arrivals row row′ : List ℕ} → ReadBy main arrivals row → SlotsStay row row′ → ReadBy main arrivals row′
+read-again r s = record { main-sound = r .main-sound; arrivals-sound = r .arrivals-sound; long = s .long ∙ r .long }

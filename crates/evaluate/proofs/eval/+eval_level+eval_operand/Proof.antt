@@ -140,7 +140,7 @@ module _ (t : ℕ) where
       let r = c .before .before .before .before .eval-operand in
       let e = r .ensures .1 .1 in
       let started = level-start (a .codes .now) (a .d) (a .at .slot) (a .at .code) (r .result .code) (r .result .slot) _ (e .reads) in
-      (e .ahead, e .inside, moved-none _, refl, rw (← moved-having (a .main .now) (a .arrivals .now) (r .ensures .0)) started)
+      (e .ahead, e .inside, moved-none _, refl, rw (moved-having (a .main .now) (a .arrivals .now) (r .ensures .0)) started)
 
   level-returns : eval-level-lts.Need-returns (level-claims t) (eval-level-at t) eval-level.Post eval-level-Inv-loop eval-level-μ-loop
   level-returns c =
@@ -150,13 +150,15 @@ module _ (t : ℕ) where
       let code = c .before .before .code-at in
       let none = operator-none (code .result) (sym (c .before .is-operator .ensures) ∙ not-true (c .before .is-operator .result) (c .if1 .taken)) in (
         moved here,
-        long here,
-        record {
-          ahead = l .inv .0;
-          inside = l .inv .1;
-          reads = rw (had here) at
-              (level-end (a .codes .now) (a .d) (a .at .slot) (a .at .code) (l .next .code) (l .next .slot) _ (l .inv .4) (λ o h. none o (code .ensures ∙ h)));
-        },
+        (
+          long here,
+          record {
+            ahead = l .inv .0;
+            inside = l .inv .1;
+            reads = rw (had here) at
+                (level-end (a .codes .now) (a .d) (a .at .slot) (a .at .code) (l .next .code) (l .next .slot) _ (l .inv .4) (λ o h. none o (code .ensures ∙ h)));
+          },
+        ),
       )
 
   level-operand-requires-2 : eval-level-lts.Need-eval-operand-requires-2 (level-claims t)
@@ -263,13 +265,15 @@ module _ (t : ℕ) where
       let a = word-start at .args in
       let f = c .before .before .before .before .fill-slot .ensures in (
         f .0,
-        f .1 .long,
-        record {
-          ahead = omega arith;
-          inside = omega (arith, word-here at .1);
-          reads = λ n. operand-word (a .codes .now) n (a .d) (a .at .slot) (a .at .code) (word-here at .0) _
-              (λ u. holds-word (having (a .main .now) (a .arrivals .now) (a .row .now)) (a .at .slot) u (word-start at .pre .1 .blank) (f .1));
-        },
+        (
+          f .1 .long,
+          record {
+            ahead = omega arith;
+            inside = omega (arith, word-here at .1);
+            reads = λ n. operand-word (a .codes .now) n (a .d) (a .at .slot) (a .at .code) (word-here at .0) _
+                (λ u. holds-word (having (a .main .now) (a .arrivals .now) (a .row .now)) (a .at .slot) u (word-start at .pre .1 .blank) (f .1));
+          },
+        ),
       )
 
   operand-returns-2 : eval-operand-lts.Need-returns-2 (operand-claims t) (eval-operand-at t) eval-operand.Post
@@ -309,14 +313,16 @@ module _ (t : ℕ) where
       let r = c .before .before .before .before .before .before .eval-level in
       let e = r .ensures .1 .1 in (
         r .ensures .0,
-        r .ensures .1 .0,
-        record {
-          ahead = omega arith;
-          inside = open-start at .pre .1 .inside;
-          reads = λ n. operand-unclosed (a .codes .now) n (a .d) (a .at .slot) (a .at .code) (open-here at .0) (r .result .code) (r .result .slot) _ (e .reads) (a .at .code)
-              (a .at .slot) _
-              (λ h. c .if5 .taken (c .before .code-at2 .ensures ∙ h));
-        },
+        (
+          r .ensures .1 .0,
+          record {
+            ahead = omega arith;
+            inside = open-start at .pre .1 .inside;
+            reads = λ n. operand-unclosed (a .codes .now) n (a .d) (a .at .slot) (a .at .code) (open-here at .0) (r .result .code) (r .result .slot) _ (e .reads) (a .at .code)
+                (a .at .slot) _
+                (λ h. c .if5 .taken (c .before .code-at2 .ensures ∙ h));
+          },
+        ),
       )
 
   operand-returns-6 : eval-operand-lts.Need-returns-6 (operand-claims t) (eval-operand-at t) eval-operand.Post
@@ -325,14 +331,16 @@ module _ (t : ℕ) where
       let r = c .before .before .before .before .before .before .eval-level in
       let e = r .ensures .1 .1 in (
         r .ensures .0,
-        r .ensures .1 .0,
-        record {
-          ahead = omega (arith, e .ahead);
-          inside = omega (arith, close-here c .1);
-          reads = λ n. operand-part (a .codes .now) n (a .d) (a .at .slot) (a .at .code) (open-here (opened c) .0) (r .result .code) (r .result .slot) _ (e .reads) _
-              (close-here c .0)
-              (λ u h. holds-part (having (a .main .now) (a .arrivals .now) (a .row .now)) (a .at .slot) u h);
-        },
+        (
+          r .ensures .1 .0,
+          record {
+            ahead = omega (arith, e .ahead);
+            inside = omega (arith, close-here c .1);
+            reads = λ n. operand-part (a .codes .now) n (a .d) (a .at .slot) (a .at .code) (open-here (opened c) .0) (r .result .code) (r .result .slot) _ (e .reads) _
+                (close-here c .0)
+                (λ u h. holds-part (having (a .main .now) (a .arrivals .now) (a .row .now)) (a .at .slot) u h);
+          },
+        ),
       )
 
 pub +eval-level+eval-operand-spec : {M : Type 1} → statement M
@@ -343,8 +351,8 @@ pub +eval-level+eval-operand-spec : {M : Type 1} → statement M
     (λ c κs. let start = c .before .before .before .before .before .before .before in let m = start .pre .0 in (omega arith, start .pre .1))
     (level-loop-holds t) (λ c κs. search needs) (λ c κs. search needs) (λ c. moved t (c .before .before .before) .stay .long)
     (λ c. long t (c .before .before .before)) (level-returns t)
-    (λ c. let b = begun t (c .before .before .before) .good in omega (arith, operator t c .1)) (λ c. omega arith) (λ c. omega arith)
-    (λ c. omega (arith, size-most t (c .before .before .before .before))) (level-operand-requires-2 t) (λ c. omega arith)
+    (λ c. let b = begun t (c .before .before .before .before) .good in omega (arith, operator t (c .before) .1)) (λ c. omega arith) (λ c. omega arith)
+    (λ c. omega (arith, size-most t (c .before .before .before .before .before))) (level-operand-requires-2 t) (λ c. omega arith)
     (λ c. omega arith) (level-part-combine-into-end t) (level-combine-into-requires t)
     (λ c. let read = c .before .before .before .before .before .before .before .before .before in
     let e = read .eval-operand2 .ensures .1 .1 in omega (arith, operator t (read .before .before .before .before) .1, e .ahead, e .inside))
