@@ -9,7 +9,7 @@ use Rattle.refusal.specs.declared.Refusal.{Refusal}
 use Rattle.list.specs.declared.answer.Answer.{Answer}
 use Rattle.list.specs.declared.answer.Answer.the-variants as answer
 use Rattle.list.specs.Interval.{intervals}
-use Rattle.list.specs.Answer.{Listing}
+use Rattle.list.specs.Sweeps.{Listing}
 use Rattle.list.specs.Ginix.{unionOf, intersectionOf}
 use Rattle.list.proofs.StretchLaws.{proper-length}
 use Rattle.list.proofs.JoinLaws.{union-proper, intersection-proper}
@@ -46,7 +46,7 @@ join-whole Probing cs = proper-length recordMax (intersectionOf cs) (intersectio
 
 -- ---- by what the check of the request answers
 
-module _ {method : List (List ℕ) → List ℕ} {index entries out : List ℕ} where
+module _ (method : List (List ℕ) → List ℕ) (index entries : List ℕ) {out : List ℕ} where
   pub joins-refused : {r : Refusal} → requestOf index entries ≡ Refused r → Joins method index entries out out (answer.Refused r)
   joins-refused e = record { answer = rw e; cells = rw e }
 

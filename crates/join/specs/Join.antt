@@ -1,6 +1,5 @@
 -- Reference 8.5 and 9.2: what a join answers, and what it writes.
 use Prim.Native.Nat.{ℕ, _/_}
-use mathlib.Core.Path.{_≡_}
 use mathlib.Core.Bool.{Bool, cond, _||_}
 use mathlib.Core.List.{List}
 use lib.Dec.{eqb, leb, ltb}
@@ -11,8 +10,8 @@ use Rattle.refusal.specs.declared.Found.the-variants.{At, Nowhere}
 use Rattle.refusal.specs.declared.Refusal.the-variants.{Lists, EntryNumber}
 use Rattle.refusal.specs.First.{first}
 use Rattle.list.specs.declared.answer.Answer.{Answer}
-use Rattle.list.specs.declared.answer.Answer.the-variants as answer
-use Rattle.list.specs.Answer.{listAnswer, listCells}
+use Rattle.list.specs.Outcome.{Outcome, refused}
+use Rattle.list.specs.Answer.{inRoom, Gives}
 use Rattle.index.specs.declared.Checked.{Checked}
 use Rattle.index.specs.declared.Checked.the-variants.{Good, Refused}
 use Rattle.index.specs.Format.{wordCount}
@@ -45,16 +44,10 @@ unfoldable pub requestOf : List ℕ → List ℕ → Checked
 requestOf index entries = requestAfter (checkOf index) (entriesOf index entries)
 
 -- Reference 9.2: then 12, or the list
-abbrev pub joinAnswer : Checked → List ℕ → ℕ → Answer
-joinAnswer (Refused r) c room = answer.Refused r
-joinAnswer Good c room = listAnswer c room
-
--- Reference 7: what the cells hold then
-abbrev pub joinCells : Checked → List ℕ → ℕ → List ℕ → List ℕ
-joinCells (Refused r) c room out = out
-joinCells Good c room out = listCells c room out
+abbrev pub joinOutcome : Checked → List ℕ → ℕ → Outcome
+joinOutcome (Refused r) c room = refused r
+joinOutcome Good c room = inRoom room c
 
 -- Reference 8.5: the promise of a join, where `method` is the union or the intersection
-pub record Joins (method : List (List ℕ) → List ℕ) (index entries out out′ : List ℕ) (r : Answer) : Type 0 where
-  pub answer : r ≡ joinAnswer (requestOf index entries) (method (listsOf index entries)) (length out / 2)
-  pub cells : out′ ≡ joinCells (requestOf index entries) (method (listsOf index entries)) (length out / 2) out
+abbrev pub Joins : (List (List ℕ) → List ℕ) → List ℕ → List ℕ → List ℕ → List ℕ → Answer → Type 0
+Joins method index entries out out′ r = Gives (joinOutcome (requestOf index entries) (method (listsOf index entries)) (length out / 2)) out out′ r

@@ -1,5 +1,5 @@
 // The joins, and the frame that they share: check, count where the room may not do, write.
-ghost use Rattle.list.specs.Answer.{Listing, HasRoom, Sweeps};
+ghost use Rattle.list.specs.Sweeps.{Listing, HasRoom, Sweeps};
 ghost use Rattle.list.specs.Ginix.{unionOf, intersectionOf};
 ghost use Rattle.merge.specs.Request.{SoundRequest, listsOf};
 ghost use Rattle.join.specs.Join.{Joins};

@@ -5,7 +5,9 @@ pub mod Ginix
 pub mod Cell
 pub mod Kept
 pub mod Front
+pub mod Outcome
 pub mod Answer
+pub mod Sweeps
 pub mod Seek
 pub mod Passed
 pub mod Reading

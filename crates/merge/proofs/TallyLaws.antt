@@ -13,7 +13,7 @@ use Rattle.list.specs.Stretches.{cellsOf}
 use Rattle.list.proofs.SweepLaws.{Swept, swept-start, swept-cells-few, swept-records-few, swept-length, swept-skip, swept-room, swept-put}
 use Rattle.list.proofs.SweepLaws.{swept-count, swept-records, swept-written}
 use Rattle.merge.specs.Put.{Fitting, Put}
-use Rattle.list.specs.Answer.{HasRoom, Sweeps}
+use Rattle.list.specs.Sweeps.{HasRoom, Sweeps}
 
 pub record Tallied (p : ℕ → Bool) (writing : Bool) (out₀ out : List ℕ) (t : Tally) (x : ℕ) : Type 0 where
   pub swept : Swept p recordMax writing out₀ out false x (2 * t .intervals) (t .records)

@@ -6,7 +6,7 @@ use Rattle.list.specs.declared.Written.{Written}
 use Rattle.list.specs.declared.answer.Answer.{Answer}
 use Rattle.convert.specs.Convert.{ToIntervals, ToNumbers}
 use Rattle.join.specs.Join.{Joins}
-use Rattle.query.specs.Ask.{Asks}
+use Rattle.source.specs.Ask.{Asks}
 use Rattle.build.specs.Build.{Builds}
 use Rattle.naburain.specs.declared.WrittenResult.{WrittenResult}
 use Rattle.naburain.specs.declared.AnsweredResult.{AnsweredResult}

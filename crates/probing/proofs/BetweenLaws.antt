@@ -15,7 +15,7 @@ use Rattle.list.specs.Stretches.{turned, stretches, cellsOf, consIf, recordsFro
 use Rattle.list.proofs.StretchLaws.{turned-append}
 use Rattle.list.proofs.RecordLaws.{stretches-records}
 use Rattle.list.proofs.SweepLaws.{Swept, swept-cells-few, swept-records-few, members-on}
-use Rattle.list.specs.Answer.{HasRoom}
+use Rattle.list.specs.Sweeps.{HasRoom}
 use Rattle.merge.proofs.TallyLaws.{Tallied, tallied-length, tallied-skip}
 use Rattle.probing.specs.Probing.{cellsBetween, PiecesFit, PiecesPut}
 

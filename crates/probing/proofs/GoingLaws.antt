@@ -17,7 +17,7 @@ use Rattle.list.proofs.ReadingLaws.{next-fits}
 use Rattle.index.specs.Format.{highest, listOf, entrySingles, entryLowers, entryUppers}
 use Rattle.index.proofs.SoundLaws.{sound-trailer}
 use Rattle.merge.specs.Request.{SoundRequest, listsOf}
-use Rattle.list.specs.Answer.{HasRoom, Sweeps}
+use Rattle.list.specs.Sweeps.{HasRoom, Sweeps}
 use Rattle.merge.proofs.ListsLaws.{entry-kept, asked-entry}
 use Rattle.merge.proofs.TallyLaws.{Tallied, tallied-start, tallied-skip, tallied-end}
 use Rattle.merge.specs.Every.{inAll}

@@ -10,7 +10,7 @@ ghost use Rattle.list.specs.Sense.{Steady};
 ghost use Rattle.index.specs.Format.{listOf};
 ghost use Rattle.merge.specs.Request.{SoundRequest, listsOf};
 ghost use Rattle.merge.specs.Put.{Fitting, PutWhere, upTo};
-ghost use Rattle.list.specs.Answer.{HasRoom, Sweeps};
+ghost use Rattle.list.specs.Sweeps.{HasRoom, Sweeps};
 ghost use Rattle.merge.specs.Every.{inAll};
 ghost use Rattle.probing.specs.Probing.{Shortest, PiecesFit, PiecesPut, piecesIn, StandsIn, closes};
 use directory::parts::Regions;

@@ -2,13 +2,16 @@
 use Prim.Native.Nat.{ℕ}
 use mathlib.Core.Path.{_≡_, sym, ap, _∙_}
 use mathlib.Core.List.{List}
+use Rattle.list.specs.Outcome.{Outcome}
+use Rattle.list.specs.Answer.{Gives}
+use Rattle.list.proofs.ListingLaws.{gives-agree}
 use Rattle.convert.specs.Convert.{ToIntervals, ToNumbers}
 use Rattle.index.specs.Part.{Slice}
 use Rattle.index.specs.Check.{checkOf}
 use Rattle.directory.specs.Entry.{lookupOf, entryCheck, entryWord, probeOf}
 use Rattle.join.specs.Join.{Joins}
 use Rattle.question.specs.Reading.{verdictOf}
-use Rattle.query.specs.Ask.{Answers, Asks}
+use Rattle.source.specs.Ask.{Answers, Asks}
 use Rattle.build.specs.Build.{Builds}
 use Rattle.naburain.specs.Result.{checkResult, lookupResult, partResult, probeResult, writeResult, answerResult}
 use Rattle.naburain.specs.Exported.{IntervalsExported, NumbersExported, JoinExported, AskExported, BuildExported}
@@ -47,15 +50,19 @@ intervals-determined xs out a b r s p q = (p .answer ∙ sym (q .answer), p .cel
 pub numbers-determined : (c out : List ℕ) → OneOutcome (ToNumbers c out)
 numbers-determined c out a b r s p q = (p .answer ∙ sym (q .answer), p .cells ∙ sym (q .cells))
 
+-- whatever comes of it: joins and questions are instances
+pub gives-determined : (o : Outcome) (out : List ℕ) → OneOutcome (Gives o out)
+gives-determined o out a b r s p q = gives-agree p q
+
 -- all four joins: `method` is the union or the intersection
 pub joins-determined : (method : List (List ℕ) → List ℕ) (index entries out : List ℕ) → OneOutcome (Joins method index entries out)
-joins-determined method index entries out a b r s p q = (p .answer ∙ sym (q .answer), p .cells ∙ sym (q .cells))
+joins-determined method index entries out = gives-determined _ out
 
 pub answers-determined : (rule : ℕ) (index question out : List ℕ) → OneOutcome (Answers rule index question out)
-answers-determined rule index question out a b r s p q = (p .answer ∙ sym (q .answer), p .cells ∙ sym (q .cells))
+answers-determined rule index question out = gives-determined _ out
 
 pub asks-determined : (rule : ℕ) (index question out : List ℕ) → OneOutcome (Asks rule index question out)
-asks-determined rule index question out a b r s p q = (p .answer ∙ sym (q .answer), p .cells ∙ sym (q .cells))
+asks-determined rule index question out = gives-determined _ out
 
 pub builds-determined : (n : ℕ) (words counts numbers out : List ℕ) → OneOutcome (Builds n words counts numbers out)
 builds-determined n words counts numbers out a b r s p q = (p .answer ∙ sym (q .answer), p .bytes ∙ sym (q .bytes))

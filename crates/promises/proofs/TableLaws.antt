@@ -9,6 +9,9 @@ use Rattle.refusal.specs.declared.Refusal.the-variants.{Grammar, NoWord}
 use Rattle.refusal.specs.Refusal.{valueOf}
 use Rattle.list.specs.declared.answer.Answer.{Answer}
 use Rattle.list.specs.declared.answer.Answer.the-variants.{Listed, Refused}
+use Rattle.list.specs.Outcome.{Outcome}
+use Rattle.list.specs.Answer.{Gives}
+use Rattle.list.proofs.ListingLaws.{gives-agree}
 use Rattle.promises.specs.Example.{boats, harbour, maps, tide, tables, pier, and′, or′, not′, example}
 use Rattle.promises.specs.Table.{Row, line, union, intersection, probe, lent, Right, AllRight, tallied, table}
 use Rattle.promises.specs.Wrong.{answerRefused, recordsIn}
@@ -49,11 +52,11 @@ wrong-among (b ∷ bs) after r wrong p = wrong-among bs after r wrong (p .1)
 -- ---- each row with what a slip would make of it
 
 -- a line with another answer, or with other cells
-not-answer : {rule : ℕ} {question : List ℕ} {r s : Answer} {c d : List ℕ} → Right (line rule question r c) → (r ≡ s → ⊥) → Right (line rule question s d) → ⊥
-not-answer {rule} {question} {r} {s} {c} {d} right differ p = differ (line-one rule question r s c d right p .0)
+not-answer : {o : Outcome} {out c d : List ℕ} {r s : Answer} → Gives o out c r → (r ≡ s → ⊥) → Gives o out d s → ⊥
+not-answer right differ p = differ (gives-agree right p .0)
 
-not-cells : {rule : ℕ} {question : List ℕ} {r s : Answer} {c d : List ℕ} → Right (line rule question r c) → (c ≡ d → ⊥) → Right (line rule question s d) → ⊥
-not-cells {rule} {question} {r} {s} {c} {d} right differ p = differ (line-one rule question r s c d right p .1)
+not-cells : {o : Outcome} {out c d : List ℕ} {r s : Answer} → Gives o out c r → (c ≡ d → ⊥) → Gives o out d s → ⊥
+not-cells right differ p = differ (gives-agree right p .1)
 
 other-records : {i j : ℕ} (k l : ℕ) → (k ≡ l → ⊥) → tallied i k ≡ tallied j l → ⊥
 other-records k l differ e = differ (some-is k l (ap recordsIn e))

@@ -20,7 +20,8 @@ use Rattle.question.specs.Grammar.{fromLeft, question, operand, links, whole}
 use Rattle.question.specs.Meaning.{satisfies}
 use Rattle.question.specs.Reading.{isForeign, refusalOf, parsed, asked}
 use Rattle.question.specs.Limits.{tokenWords}
-use Rattle.query.specs.Ask.{satisfying, Asks}
+use Rattle.source.specs.Source.{satisfying}
+use Rattle.source.specs.Ask.{Asks}
 use Rattle.promises.specs.Example.{boats, harbour, maps, tide, and′, or′, example}
 use Rattle.promises.specs.Outcome.{OneOutcome}
 use Rattle.promises.specs.Table.{lent, tallied, table}
@@ -50,11 +51,11 @@ Outcomes =
 outcomes : Outcomes
 unfolding firstFrom first isWordByte same smallLetter smallOperatorOf operatorOf names records stretches cellsOf numbersIn walkFrom walked entryPlace wordStart wordLength listStart singleCount pairCount wordOf singlesOf lowerOf upperOf listOf hasWithin has run gather tokensAt tokens fromLeft question operand links whole satisfies isForeign refusalOf parsed asked satisfying
 outcomes = (
-  asks-example _ _ _ _ _ refl refl,
-  asks-example _ _ _ _ _ refl refl,
-  asks-example _ _ _ _ _ refl refl,
-  asks-example _ _ _ _ _ refl refl,
-  asks-example _ _ _ _ _ refl refl,
+  asks-example 1 boats-or-tide _ _ _ (record { answer = refl; cells = refl }),
+  asks-example 1 boats-or-maps _ _ _ (record { answer = refl; cells = refl }),
+  asks-example 1 boats _ _ _ (record { answer = refl; cells = refl }),
+  asks-example 1 boats-or-tide _ _ _ (record { answer = refl; cells = refl }),
+  asks-example 1 boats-or-maps _ _ _ (record { answer = refl; cells = refl }),
 )
 
 one : (a : List ℕ × ℕ × List ℕ) (out : List ℕ) → OneOutcome (asks a out)

@@ -1,10 +1,9 @@
 -- The wrong joins, by the entries 0 (boats), 1 (harbour), 2 (maps) and 3 (tide) of the example's index.
-use Prim.Native.Nat.{ℕ, _/_}
+use Prim.Native.Nat.{ℕ}
 use native.Mathlib.Omega.{arith}
-use mathlib.Core.Path.{_≡_, refl, sym, ap, _∙_}
+use mathlib.Core.Path.{_≡_, refl, ap, _∙_}
 use mathlib.Core.List.{List, [], _∷_}
 use mathlib.Core.Option.{Option}
-use lib.ListN.{length}
 use Rattle.refusal.specs.First.{firstFrom, first}
 use Rattle.refusal.specs.declared.Refusal.the-variants.{Room}
 use Rattle.list.specs.Interval.{properFrom, isProper, names, records}
@@ -12,13 +11,14 @@ use Rattle.list.specs.Stretches.{stretches, cellsOf}
 use Rattle.list.specs.Ginix.{inSome, unionOf, inEvery, intersectionOf}
 use Rattle.list.specs.Cell.{numbersIn}
 use Rattle.list.specs.Kept.{walkFrom, walked}
-use Rattle.list.specs.Answer.{listAnswer, listCells}
+use Rattle.list.specs.Sweeps.{Listing}
 use Rattle.list.specs.declared.answer.Answer.{Answer}
 use Rattle.list.specs.declared.answer.Answer.the-variants.{Refused}
 use Rattle.index.specs.declared.Checked.the-variants.{Good}
 use Rattle.index.specs.Format.{entryPlace, listStart, singleCount, pairCount, singlesOf, lowerOf, upperOf, listOf}
 use Rattle.merge.specs.Request.{listsOf}
-use Rattle.join.specs.Join.{badListCount, badEntryNumber, entriesOf, requestAfter, requestOf, joinAnswer, joinCells, Joins}
+use Rattle.join.specs.Join.{badListCount, badEntryNumber, entriesOf, requestAfter, requestOf, Joins}
+use Rattle.join.proofs.AnswerLaws.{joins-asked}
 use Rattle.promises.specs.Example.{example}
 use Rattle.promises.specs.Outcome.{OneOutcome}
 use Rattle.promises.specs.Table.{lent, tallied}
@@ -31,15 +31,12 @@ use Rattle.promises.proofs.WrongLaws.{refusing-fails, fixed-fails, sile
 
 -- once the entries are good, the list that the method gives
 joins-example : (method : List (List ℕ) → List ℕ) (entries out c : List ℕ) → entriesOf example entries ≡ Good → method (listsOf example entries) ≡ c →
-    (out′ : List ℕ) (r : Answer) → r ≡ listAnswer c (length out / 2) → out′ ≡ listCells c (length out / 2) out → Joins method example entries out out′ r
+    (out′ : List ℕ) (r : Answer) → Listing c out out′ r → Joins method example entries out out′ r
 unfolding requestOf
-joins-example method entries out c good is out′ r a b =
-    let room = length out / 2 in
+joins-example method entries out c good is out′ r l =
     let asked : requestOf example entries ≡ Good = ap (λ g. requestAfter g (entriesOf example entries)) example-good ∙ good in
-    record {
-      answer = a ∙ ap (λ l. listAnswer l room) (sym is) ∙ ap (λ g. joinAnswer g (method (listsOf example entries)) room) (sym asked);
-      cells = b ∙ ap (λ l. listCells l room out) (sym is) ∙ ap (λ g. joinCells g (method (listsOf example entries)) room out) (sym asked);
-    }
+    let lists : Listing (method (listsOf example entries)) out out′ r = rw is l in
+    joins-asked method example entries asked lists
 
 one : (method : List (List ℕ) → List ℕ) (a : List ℕ × List ℕ) (out : List ℕ) → OneOutcome (joins method a out)
 one method a out = joins-determined method (a .0) (a .1) out
@@ -58,15 +55,15 @@ union-outcomes : UnionOutcomes
 unfolding firstFrom first properFrom isProper names records stretches cellsOf inSome numbersIn walkFrom walked entryPlace listStart singleCount pairCount singlesOf lowerOf upperOf listOf badListCount badEntryNumber entriesOf listsOf
 union-outcomes = (
   joins-example unionOf (0 ∷ 3 ∷ []) lent (2 ∷ 4 ∷ 8 ∷ 9 ∷ []) refl (union-is (listsOf example (0 ∷ 3 ∷ [])) (2 ∷ 4 ∷ 8 ∷ 9 ∷ []) (refl, (refl, tt)) refl)
-      (2 ∷ 4 ∷ 8 ∷ 9 ∷ []) (tallied 2 5) refl refl,
+      (2 ∷ 4 ∷ 8 ∷ 9 ∷ []) (tallied 2 5) (record { answer = refl; cells = refl }),
   joins-example unionOf (0 ∷ 2 ∷ []) lent (2 ∷ 9 ∷ []) refl (union-is (listsOf example (0 ∷ 2 ∷ [])) (2 ∷ 9 ∷ []) (refl, (refl, tt)) refl) (2 ∷ 9 ∷ 0 ∷ 0 ∷ [])
-      (tallied 1 8) refl refl,
+      (tallied 1 8) (record { answer = refl; cells = refl }),
   joins-example unionOf (0 ∷ []) lent (2 ∷ 4 ∷ 8 ∷ 8 ∷ []) refl (union-is (listsOf example (0 ∷ [])) (2 ∷ 4 ∷ 8 ∷ 8 ∷ []) (refl, tt) refl) (2 ∷ 4 ∷ 8 ∷ 8 ∷ [])
-      (tallied 2 4) refl refl,
+      (tallied 2 4) (record { answer = refl; cells = refl }),
   joins-example unionOf (0 ∷ 3 ∷ []) [] (2 ∷ 4 ∷ 8 ∷ 9 ∷ []) refl (union-is (listsOf example (0 ∷ 3 ∷ [])) (2 ∷ 4 ∷ 8 ∷ 9 ∷ []) (refl, (refl, tt)) refl) []
-      (Refused (Room 2)) refl refl,
+      (Refused (Room 2)) (record { answer = refl; cells = refl }),
   joins-example unionOf (0 ∷ 2 ∷ []) [] (2 ∷ 9 ∷ []) refl (union-is (listsOf example (0 ∷ 2 ∷ [])) (2 ∷ 9 ∷ []) (refl, (refl, tt)) refl) []
-      (Refused (Room 1)) refl refl,
+      (Refused (Room 1)) (record { answer = refl; cells = refl }),
 )
 
 pub union-refusing : Fails (joins unionOf) (Refusing answerRefused)
@@ -112,15 +109,15 @@ intersection-outcomes : IntersectionOutcomes
 unfolding firstFrom first properFrom isProper names records stretches cellsOf inEvery numbersIn walkFrom walked entryPlace listStart singleCount pairCount singlesOf lowerOf upperOf listOf badListCount badEntryNumber entriesOf listsOf
 intersection-outcomes = (
   joins-example intersectionOf (0 ∷ 3 ∷ []) lent (3 ∷ 3 ∷ 8 ∷ 8 ∷ []) refl
-      (intersection-is (listOf example 0) (listsOf example (3 ∷ [])) (3 ∷ 3 ∷ 8 ∷ 8 ∷ []) refl refl) (3 ∷ 3 ∷ 8 ∷ 8 ∷ []) (tallied 2 2) refl refl,
+      (intersection-is (listOf example 0) (listsOf example (3 ∷ [])) (3 ∷ 3 ∷ 8 ∷ 8 ∷ []) refl refl) (3 ∷ 3 ∷ 8 ∷ 8 ∷ []) (tallied 2 2) (record { answer = refl; cells = refl }),
   joins-example intersectionOf (1 ∷ 3 ∷ []) lent (3 ∷ 3 ∷ []) refl (intersection-is (listOf example 1) (listsOf example (3 ∷ [])) (3 ∷ 3 ∷ []) refl refl)
-      (3 ∷ 3 ∷ 0 ∷ 0 ∷ []) (tallied 1 1) refl refl,
+      (3 ∷ 3 ∷ 0 ∷ 0 ∷ []) (tallied 1 1) (record { answer = refl; cells = refl }),
   joins-example intersectionOf (0 ∷ []) lent (2 ∷ 4 ∷ 8 ∷ 8 ∷ []) refl (intersection-is (listOf example 0) (listsOf example []) (2 ∷ 4 ∷ 8 ∷ 8 ∷ []) refl refl)
-      (2 ∷ 4 ∷ 8 ∷ 8 ∷ []) (tallied 2 4) refl refl,
+      (2 ∷ 4 ∷ 8 ∷ 8 ∷ []) (tallied 2 4) (record { answer = refl; cells = refl }),
   joins-example intersectionOf (0 ∷ 3 ∷ []) [] (3 ∷ 3 ∷ 8 ∷ 8 ∷ []) refl
-      (intersection-is (listOf example 0) (listsOf example (3 ∷ [])) (3 ∷ 3 ∷ 8 ∷ 8 ∷ []) refl refl) [] (Refused (Room 2)) refl refl,
+      (intersection-is (listOf example 0) (listsOf example (3 ∷ [])) (3 ∷ 3 ∷ 8 ∷ 8 ∷ []) refl refl) [] (Refused (Room 2)) (record { answer = refl; cells = refl }),
   joins-example intersectionOf (1 ∷ 3 ∷ []) [] (3 ∷ 3 ∷ []) refl (intersection-is (listOf example 1) (listsOf example (3 ∷ [])) (3 ∷ 3 ∷ []) refl refl) []
-      (Refused (Room 1)) refl refl,
+      (Refused (Room 1)) (record { answer = refl; cells = refl }),
 )
 
 pub intersection-refusing : Fails (joins intersectionOf) (Refusing answerRefused)

@@ -14,6 +14,8 @@ use Rattle.list.specs.declared.Written.the-variants as written
 use Rattle.list.specs.declared.answer.Answer.{Answer}
 use Rattle.list.specs.declared.answer.Answer.the-variants as answer
 use Rattle.list.specs.Interval.{intervals, records}
+use Rattle.list.specs.Outcome.{leftBy}
+use Rattle.list.specs.Answer as list
 use Rattle.convert.specs.Convert.{answerOf, leftOf, badNumberOf, intervalsOf, badIntervalOf, numbersOf}
 use Rattle.directory.specs.declared.Lookup.{Lookup}
 use Rattle.directory.specs.declared.Lookup.the-variants.{Entry, NoEntry}
@@ -21,9 +23,10 @@ use Rattle.directory.specs.declared.Probed.{Probed}
 use Rattle.directory.specs.declared.Probed.the-variants.{Counted, NoCount}
 use Rattle.index.specs.Check.{checkOf}
 use Rattle.merge.specs.Request.{listsOf}
-use Rattle.join.specs.Join.{requestOf, joinAnswer, joinCells}
+use Rattle.join.specs.Join.{requestOf, joinOutcome}
 use Rattle.question.specs.Reading.{asked}
-use Rattle.query.specs.Ask.{askAnswer, askCells}
+use Rattle.source.specs.Source.{satisfying, ofIndex}
+use Rattle.source.specs.Ask.{questionOutcome}
 use Rattle.build.specs.Build.{buildOf, indexFrom, bytesAfter}
 use Rattle.promises.specs.Wrong.{Writer, Promise, Meets, Equals}
 
@@ -42,16 +45,14 @@ rightNumbers c out = (
 )
 
 abbrev pub rightJoin : (List (List ℕ) → List ℕ) → Writer (List ℕ × List ℕ) Answer
-rightJoin method a out = (
-  joinAnswer (requestOf (a .0) (a .1)) (method (listsOf (a .0) (a .1))) (length out / 2),
-  joinCells (requestOf (a .0) (a .1)) (method (listsOf (a .0) (a .1))) (length out / 2) out,
-)
+rightJoin method a out =
+    let o = joinOutcome (requestOf (a .0) (a .1)) (method (listsOf (a .0) (a .1))) (length out / 2) in
+    (list.answerOf o, leftBy o out)
 
 abbrev pub rightAsk : Writer (List ℕ × ℕ × List ℕ) Answer
-rightAsk a out = (
-  askAnswer (checkOf (a .0)) (a .0) (asked (a .1) (a .2)) (length out / 2),
-  askCells (checkOf (a .0)) (a .0) (asked (a .1) (a .2)) (length out / 2) out,
-)
+rightAsk a out =
+    let o = questionOutcome (checkOf (a .0)) (asked (a .1) (a .2)) (satisfying (ofIndex (a .0))) (length out / 2) in
+    (list.answerOf o, leftBy o out)
 
 abbrev pub rightBuild : Writer (ℕ × List ℕ × List ℕ × List ℕ) Written
 rightBuild a out = (

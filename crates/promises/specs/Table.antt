@@ -6,7 +6,7 @@ use Rattle.refusal.specs.declared.Refusal.the-variants.{Grammar}
 use Rattle.list.specs.declared.answer.Answer.{Answer}
 use Rattle.list.specs.declared.answer.Answer.the-variants.{Listed, Refused}
 use Rattle.list.specs.Ginix.{unionOf, intersectionOf, belowCount, overlapCount}
-use Rattle.query.specs.Ask.{Asks}
+use Rattle.source.specs.Ask.{Asks}
 use Rattle.promises.specs.Example.{boats, harbour, maps, tide, tables, pier, and′, or′, not′, example}
 
 -- Reference 12: a rule's number and a question over the example's index with its answer and the four lent cells afterwards; lists with their union or

@@ -27,7 +27,7 @@ use Rattle.question.specs.declared.reader.Verdict.the-variants as reading
 use Rattle.question.specs.Token.{run, tokens}
 use Rattle.question.specs.Reading.{verdictOf}
 use Rattle.question.specs.Limits.{tokenWords}
-use Rattle.query.specs.Ask.{Asks}
+use Rattle.source.specs.Ask.{Asks}
 use Rattle.build.specs.Build.{Builds}
 
 -- ---- implementations: Reference 7

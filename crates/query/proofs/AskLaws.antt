@@ -1,4 +1,4 @@
--- Laws of the whole call: an accepted question made ready, its answer by what the driver tallied, and the refusals before it.
+-- Laws of the whole call: an accepted question made ready, and its answer by what the driver tallied.
 use Prim.Native.Nat.{ℕ, _+_, _-_, _*_, _≤_}
 use native.Mathlib.Nat.{sub-zero}
 use native.Mathlib.Omega.{arith}
@@ -7,27 +7,24 @@ use mathlib.Core.Bool.{Bool}
 use mathlib.Core.List.{List, []}
 use lib.ListN.{length, take}
 use lib.Seq.{length-take-le}
-use Rattle.refusal.specs.declared.Refusal.{Refusal}
 use Rattle.list.specs.declared.answer.Tally.{Tally}
 use Rattle.list.specs.declared.answer.Answer.{Answer}
-use Rattle.list.specs.declared.answer.Answer.the-variants as answer
 use Rattle.list.specs.Stretches.{cellsOf}
-use Rattle.list.specs.Answer.{Listing, Sweeps}
+use Rattle.list.specs.Sweeps.{Listing, Sweeps}
 use Rattle.list.proofs.StretchLaws.{cells-same}
-use Rattle.index.specs.declared.Checked.the-variants.{Good, Refused}
 use Rattle.index.specs.Format.{highest}
 use Rattle.index.specs.Sound.{Sound}
 use Rattle.directory.specs.Has.{has}
-use Rattle.index.specs.Check.{checkOf}
 use Rattle.question.specs.Token.{tokens}
 use Rattle.question.specs.Grammar.{Tree, Rule, fromLeft, treeWords}
 use Rattle.question.specs.Rules.{andFirst, ruleOf}
 use Rattle.question.specs.Meaning.{satisfies}
-use Rattle.question.specs.Reading.{parses, refuses, parsed, asked}
+use Rattle.question.specs.Reading.{parses, parsed, asked}
 use Rattle.question.proofs.ParsedLaws.{asked-accepts, accepted-within, asked-parsed}
 use Rattle.question.proofs.RuleLaws.{rule-keeps, rule-second, rule-else}
 use Rattle.question.proofs.DepthLaws.{deeper-reads}
-use Rattle.query.specs.Ask.{satisfying, Answers, Asks}
+use Rattle.source.specs.Source.{satisfying, ofIndex}
+use Rattle.source.proofs.SatisfyLaws.{satisfying-same}
 use Rattle.codes.specs.Code.{codesOf, wordCodes}
 use Rattle.codes.specs.Group.{grouped, groupedBrackets}
 use Rattle.codes.specs.Grouping.{GroupsCodes}
@@ -37,7 +34,6 @@ use Rattle.slots.specs.Slots.{slotHas}
 use Rattle.slots.specs.Compile.{WritesCodes, FillsSlots, TreeSlots}
 use Rattle.query.specs.Drive.{TreeOf, testOf, AskedBy}
 use Rattle.query.specs.Prepared.{MadeReady, Prepared}
-use Rattle.query.proofs.SatisfyLaws.{satisfying-same}
 use Rattle.query.proofs.QuestionBound.{question-bound}
 use Rattle.slots.proofs.WholeLaws.{slot-satisfies, compiled-slots}
 
@@ -139,37 +135,20 @@ module _ {codes index entries lent grouped′ : List ℕ} {slots n : ℕ} {t : T
       (m .all ∙ ap length (sym (grouped-words regrouped))) (rw (grouped-words regrouped) (m .have))
 
   -- its answer is that of the question's tree
-  pub grouped-listing : {out out′ : List ℕ} {r : Answer} → Listing (satisfying index (regrouped .tree)) out out′ r → Listing (satisfying index t) out out′ r
-  grouped-listing l = rw (satisfying-same index (regrouped .tree) t (λ x h u. grouped-same regrouped (has index) x)) at l
+  pub grouped-listing : {out out′ : List ℕ} {r : Answer} → Listing (satisfying (ofIndex index) (regrouped .tree)) out out′ r → Listing (satisfying (ofIndex index) t) out out′ r
+  grouped-listing l = rw (satisfying-same (ofIndex index) (regrouped .tree) t (λ x h u. grouped-same regrouped (has index) x)) at l
 
 -- ---- its answer
 
 module _ {codes index entries : List ℕ} {slots n : ℕ} {t : Tree} (prepared : Prepared codes index entries slots t) (limit : n ≡ highest index) where
-  prepared-cells : cellsOf (testOf index entries t) n ≡ satisfying index t
+  prepared-cells : cellsOf (testOf index entries t) n ≡ satisfying (ofIndex index) t
   unfolding satisfying
   prepared-cells = rw limit (cells-same (testOf index entries t) (satisfies (has index) t) (highest index) (λ x h g. prepared .same x))
 
   -- a pass over the test's list is one over the answer
   pub prepared-swept : {writing : Bool} {out out′ : List ℕ} {r : Tally} → Sweeps (cellsOf (testOf index entries t) n) writing out out′ r →
-      Sweeps (satisfying index t) writing out out′ r
+      Sweeps (satisfying (ofIndex index) t) writing out out′ r
   prepared-swept s = rw prepared-cells at s
 
-  pub prepared-length : length (cellsOf (testOf index entries t) n) ≡ length (satisfying index t)
+  pub prepared-length : length (cellsOf (testOf index entries t) n) ≡ length (satisfying (ofIndex index) t)
   prepared-length = ap length prepared-cells
-
--- ---- the question's promise
-
-module _ (rule : ℕ) (index question out : List ℕ) where
-  pub listing-answers : (out′ : List ℕ) (r : Answer) (t : Tree) (k : ℕ) → asked rule question ≡ parses t k → Listing (satisfying index t) out out′ r →
-      Answers rule index question out out′ r
-  listing-answers out′ r t k e l = record { answer = rw e (l .answer); cells = rw e (l .cells) }
-
-  pub refused-answers : (x : Refusal) → asked rule question ≡ refuses x → Answers rule index question out out (answer.Refused x)
-  refused-answers x e = record { answer = rw e; cells = rw e }
-
-  -- over any bytes
-  pub good-asks : (out′ : List ℕ) (r : Answer) → checkOf index ≡ Good → Answers rule index question out out′ r → Asks rule index question out out′ r
-  good-asks out′ r e a = record { answer = rw e (a .answer); cells = rw e (a .cells) }
-
-  pub refused-asks : (x : Refusal) → checkOf index ≡ Refused x → Asks rule index question out out (answer.Refused x)
-  refused-asks x e = record { answer = rw e; cells = rw e }

@@ -18,11 +18,11 @@ use Rattle.slots.proofs.SlotLaws.{slots-none}
 use Rattle.slots.specs.Compile.{TreeSlots}
 use Rattle.slots.proofs.WholeLaws.{slot-satisfies}
 use Rattle.slots.proofs.SlotBound.{slot-zero, tests, tests-still, tests-out, tests-together, satisfies-still}
-use Rattle.query.specs.Ask.{satisfying}
+use Rattle.source.specs.Source.{satisfying, ofIndex}
 
 -- an answer with room for that many intervals needs no counting first
 pub question-bound : (index entries : List ℕ) → Sound index → (t : Tree) → TreeSlots index entries t →
-    intervals (satisfying index t) ≤ slotsIntervals index entries 0 (length (treeWords t))
+    intervals (satisfying (ofIndex index) t) ≤ slotsIntervals index entries 0 (length (treeWords t))
 unfolding satisfying
 question-bound index entries s t f =
     let v = slotHas index entries in

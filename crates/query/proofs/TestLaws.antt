@@ -12,7 +12,7 @@ use Rattle.laws.proofs.Tests.{by-test}
 use Rattle.list.specs.declared.answer.Tally.{Tally}
 use Rattle.list.specs.Interval.{records}
 use Rattle.list.specs.Sense.{Steady}
-use Rattle.list.specs.Answer.{HasRoom, Sweeps}
+use Rattle.list.specs.Sweeps.{HasRoom, Sweeps}
 use Rattle.list.specs.Stretches.{turned, cellsOf, recordsFrom}
 use Rattle.list.proofs.NamesLaws.{proper-names-above}
 use Rattle.list.proofs.RecordLaws.{recordsFrom-length}

@@ -8,7 +8,7 @@ use Rattle.limits.specs.Limits.{questionWordsMax, recordMax}
 use Rattle.list.specs.declared.answer.Tally.{Tally}
 use Rattle.list.specs.Sense.{Steady}
 use Rattle.list.specs.Stretches.{cellsOf}
-use Rattle.list.specs.Answer.{Sweeps}
+use Rattle.list.specs.Sweeps.{Sweeps}
 use Rattle.index.specs.Sound.{Sound}
 use Rattle.window.specs.declared.steps.Done.{Done}
 use Rattle.window.specs.Tuning.{windowMost}

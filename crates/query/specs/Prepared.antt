@@ -6,14 +6,14 @@ use lib.ListN.{length}
 use Rattle.limits.specs.Limits.{bracketsMax}
 use Rattle.list.specs.declared.answer.Answer.{Answer}
 use Rattle.list.specs.Interval.{intervals}
-use Rattle.list.specs.Answer.{Listing}
+use Rattle.list.specs.Sweeps.{Listing}
 use Rattle.directory.specs.Has.{has}
 use Rattle.question.specs.Grammar.{Tree, Rule, treeWords}
 use Rattle.question.specs.Meaning.{satisfies}
 use Rattle.question.specs.Reading.{parses, asked}
 use Rattle.slots.specs.Compile.{TreeSlots}
 use Rattle.slots.specs.Bound.{slotsIntervals}
-use Rattle.query.specs.Ask.{satisfying}
+use Rattle.source.specs.Source.{satisfying, ofIndex}
 use Rattle.query.specs.Drive.{TreeBy, TreeOf, testOf}
 
 -- the question is accepted
@@ -36,7 +36,7 @@ pub record IsReady (rule : Rule) (codes index entries : List ℕ) (slots : ℕ) 
 -- the list of each tree for which they are made ready, or refusal 12
 abbrev pub ListsReady : Rule → List ℕ → List ℕ → List ℕ → ℕ → List ℕ → List ℕ → Answer → Type 0
 ListsReady rule codes index entries slots out out′ r =
-    (t : Tree) → MadeReady rule codes index entries slots t → Listing (satisfying index t) out out′ r
+    (t : Tree) → MadeReady rule codes index entries slots t → Listing (satisfying (ofIndex index) t) out out′ r
 
 -- ---- for the driver, which reads the codes from the left
 
@@ -45,7 +45,7 @@ ListsReady rule codes index entries slots out out′ r =
 pub record Prepared (codes index entries : List ℕ) (slots : ℕ) (t : Tree) : Type 0 where
   pub reads : TreeOf codes t
   pub same : (x : ℕ) → testOf index entries t x ≡ satisfies (has index) t x
-  pub bound : intervals (satisfying index t) ≤ slotsIntervals index entries 0 slots
+  pub bound : intervals (satisfying (ofIndex index) t) ≤ slotsIntervals index entries 0 slots
 
 pub record IsPrepared (codes index entries : List ℕ) (slots : ℕ) : Type 0 where
   pub tree : Tree
@@ -53,4 +53,4 @@ pub record IsPrepared (codes index entries : List ℕ) (slots : ℕ) : Type 0 wh
 
 -- the list of each tree for which they are prepared, or refusal 12
 abbrev pub PutsAnswer : List ℕ → List ℕ → List ℕ → ℕ → List ℕ → List ℕ → Answer → Type 0
-PutsAnswer codes index entries slots out out′ r = (t : Tree) → Prepared codes index entries slots t → Listing (satisfying index t) out out′ r
+PutsAnswer codes index entries slots out out′ r = (t : Tree) → Prepared codes index entries slots t → Listing (satisfying (ofIndex index) t) out out′ r

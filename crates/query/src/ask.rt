@@ -4,7 +4,7 @@ ghost use lib.ListN.{length};
 ghost use Rattle.limits.specs.Limits.{questionMax};
 ghost use Rattle.index.specs.Sound.{Sound};
 ghost use Rattle.question.specs.Rules.{ruleOf};
-ghost use Rattle.query.specs.Ask.{Answers, Asks};
+ghost use Rattle.source.specs.Ask.{Answers, Asks};
 ghost use Rattle.query.specs.Drive.{AskedBy};
 ghost use Rattle.query.specs.Prepared.{IsAsked, IsReady, ListsReady, IsPrepared, PutsAnswer};
 use crate::drive::sweep_question;

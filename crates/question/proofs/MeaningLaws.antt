@@ -25,6 +25,12 @@ or-says = (refl, refl, refl, refl)
 pub not-says : (combine Not true true ≡ false) × (combine Not true false ≡ true) × (combine Not false true ≡ false) × (combine Not false false ≡ false)
 not-says = (refl, refl, refl, refl)
 
+-- in neither side
+pub combine-none : (o : Op) (b : Bool) → b ≡ false → combine o false b ≡ false
+combine-none And b e = refl
+combine-none Or b e = e
+combine-none Not b e = refl
+
 -- ---- by the words' numbers
 
 -- what is said of the tree's words, each by its number: `said k` of the k-th word of the question, where the tree's first is number `from`
@@ -54,6 +60,13 @@ satisfies-words has had x y t h =
     (λ i lt. let z : 0 + i ≡ i = omega arith in ap (λ (n : ℕ). has (getD (treeWords t) n []) x) z))
     ∙ satisfies-by had y (λ i. has (getD (treeWords t) i []) x) 0 t
     (λ i lt. let z : 0 + i ≡ i = omega arith in ap (λ (n : ℕ). has (getD (treeWords t) n []) x) z ∙ h i lt)
+
+-- a record with none of the words satisfies no question
+pub satisfies-none : (has : List ℕ → ℕ → Bool) (x : ℕ) → ((w : List ℕ) → has w x ≡ false) → (t : Tree) → satisfies has t x ≡ false
+unfolding satisfies
+satisfies-none has x h (word w) = h w
+satisfies-none has x h (pair o a b) = rw (satisfies-none has x h a) (combine-none o (satisfies has b x) (satisfies-none has x h b))
+satisfies-none has x h (part t) = satisfies-none has x h t
 
 -- ---- the steps
 

@@ -5,9 +5,9 @@ use mathlib.Core.Bool.{Bool, false}
 use mathlib.Core.List.{List}
 use lib.ListN.{length}
 use Rattle.question.specs.declared.token.Op.{Op}
-use Rattle.question.specs.declared.token.Op.the-variants.{And, Or, Not}
 use Rattle.question.specs.Grammar.{Tree, word, pair, part, treeWords}
 use Rattle.question.specs.Meaning.{combine}
+use Rattle.question.proofs.MeaningLaws.{combine-none}
 use Rattle.slots.specs.Slots.{slotSatisfies}
 
 -- ---- what satisfies a tree
@@ -28,11 +28,6 @@ module _ (v : ℕ → ℕ → Bool) (k x : ℕ) where
   slot-pair o a b j e = rw e
 
 -- a record that no slot has fits no tree
-pub combine-none : (o : Op) (b : Bool) → b ≡ false → combine o false b ≡ false
-combine-none And b e = refl
-combine-none Or b e = e
-combine-none Not b e = refl
-
 pub slots-none : (v : ℕ → ℕ → Bool) (x : ℕ) → ((k : ℕ) → v k x ≡ false) → (t : Tree) (k : ℕ) → slotSatisfies v t k x ≡ false
 unfolding slotSatisfies
 slots-none v x h (word w) k = h k

@@ -20,7 +20,7 @@ use Rattle.heap.specs.Heap.{Pushed, Replaced}
 use Rattle.merge.specs.Request.{SoundRequest, listsOf}
 use Rattle.merge.specs.Places.{usedUp}
 use Rattle.merge.specs.Put.{Fitting, PutWhere}
-use Rattle.list.specs.Answer.{HasRoom, Sweeps}
+use Rattle.list.specs.Sweeps.{HasRoom, Sweeps}
 use Rattle.merge.proofs.ListsLaws.{asked-entry}
 use Rattle.merge.proofs.TallyLaws.{Tallied, Whole, tallied-start, tallied-skip, tallied-fits, tallied-put, tallied-end}
 use Rattle.merge.proofs.DueLaws.{AllRead, GoesAt, placesOn, goes-start, goes-at, all-read-start, all-read-later, next-bounds, next-before}

@@ -10,7 +10,7 @@ ghost use Rattle.list.specs.Ginix.{intersectionOf};
 ghost use Rattle.list.specs.Kept.{start};
 ghost use Rattle.merge.specs.Request.{SoundRequest, listsOf};
 ghost use Rattle.merge.specs.Put.{Fitting, PutWhere};
-ghost use Rattle.list.specs.Answer.{HasRoom, Sweeps};
+ghost use Rattle.list.specs.Sweeps.{HasRoom, Sweeps};
 ghost use Rattle.twin.specs.Twin.{keyOf, StandingAt, Frontier, AllLowers};
 use heap::push;
 use heap::replace_least;

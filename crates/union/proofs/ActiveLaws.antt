@@ -16,7 +16,7 @@ use Rattle.list.specs.Kept.{start}
 use Rattle.merge.specs.Request.{SoundRequest, listsOf}
 use Rattle.merge.specs.Keys.{lowerMark, Keys, Refilled, dueAt, FirstKeys}
 use Rattle.merge.specs.Put.{Fitting, Put, PutWhere}
-use Rattle.list.specs.Answer.{HasRoom, Sweeps}
+use Rattle.list.specs.Sweeps.{HasRoom, Sweeps}
 use Rattle.merge.proofs.KeysLaws.{Front, keys-front, keys-none, keys-refill}
 use Rattle.merge.proofs.TallyLaws.{Tallied, Whole, tallied-start, tallied-skip, tallied-fits, tallied-put, tallied-end}
 use Rattle.merge.proofs.DueLaws.{AllRead, GoesAt, lowerNext, upperNext, placesOn, all-read-start, all-read-later, marked-goes, marked-lower}

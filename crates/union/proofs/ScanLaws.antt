@@ -16,7 +16,7 @@ use Rattle.list.specs.Kept.{start}
 use Rattle.merge.specs.Request.{SoundRequest, listsOf}
 use Rattle.merge.specs.Keys.{sumOf, upperMark, Keys, Refilled, dueAt, FirstKeys}
 use Rattle.merge.specs.Put.{Fitting, PutWhere, upTo}
-use Rattle.list.specs.Answer.{HasRoom, Sweeps}
+use Rattle.list.specs.Sweeps.{HasRoom, Sweeps}
 use Rattle.merge.proofs.KeysLaws.{sum-where, Front, keys-front, keys-none, keys-refill}
 use Rattle.merge.proofs.DueLaws.{GoesAt, upperNext, placesOn, all-read-start, all-read-later, marked-goes, marked-lower, next-bounds, places-other}
 use Rattle.merge.proofs.TallyLaws.{tallied-start, tallied-skip, tallied-end}

@@ -6,7 +6,7 @@ ghost use Rattle.limits.specs.Limits.{recordMax};
 ghost use Rattle.list.specs.Ginix.{unionOf};
 ghost use Rattle.merge.specs.Request.{SoundRequest, listsOf};
 ghost use Rattle.merge.specs.Put.{Fitting, PutWhere};
-ghost use Rattle.list.specs.Answer.{HasRoom, Sweeps};
+ghost use Rattle.list.specs.Sweeps.{HasRoom, Sweeps};
 ghost use Rattle.union.specs.Active.{isApart, Joined};
 use limits::JOIN_MAX;
 use list::answer::Tally;

@@ -5,7 +5,7 @@ ghost use lib.Dec.{eqb};
 ghost use Rattle.list.specs.Ginix.{unionOf};
 ghost use Rattle.merge.specs.Request.{SoundRequest, listsOf};
 ghost use Rattle.merge.specs.Put.{Fitting, PutWhere, upTo};
-ghost use Rattle.list.specs.Answer.{HasRoom, Sweeps};
+ghost use Rattle.list.specs.Sweeps.{HasRoom, Sweeps};
 ghost use Rattle.union.specs.Scan.{lowerFrom};
 use limits::JOIN_MAX;
 use list::answer::Tally;

@@ -2,6 +2,9 @@
 use mathlib.Core.Path.{_≡_, sym, _∙_}
 use borrow.Author.Needs.{needs}
 use Rattle.index.specs.declared.Checked.the-variants.{Good}
+use Rattle.question.specs.Reading.{asked}
+use Rattle.source.specs.Source.{satisfying, ofIndex}
+use Rattle.source.proofs.AskLaws.{good-asks, refused-asks}
 use Rattle.ask.specs.Output.{fileCheck}
 use Rattle.ask.proofs.OutputLaws.{file-sound}
 use Rattle.ask.proofs.answer.answer_line.Statement.{statement}
@@ -14,14 +17,16 @@ good t = sym (t .before .before .before .before .before .pre) ∙ t .enum-told .
 returns : tie.Need-returns
 returns c =
     let called = c .before .before in
-    let e = good (called .before .before) in
-    record { answer = rw e (called .answer-question .ensures .answer); cells = rw e (called .answer-question .ensures .cells) }
+    let told = called .before .before in
+    let a = told .before .before .before .before .before .args in
+    good-asks (asked 1 (a .question .now)) (satisfying (ofIndex (a .index .now))) (good told) (called .answer-question .ensures)
 
 returns-2 : tie.Need-returns-2
 returns-2 c =
     let told = c .before in
-    let e = sym (told .before .before .before .before .before .pre) ∙ told .checked .given .1 in
-    record { answer = rw e; cells = rw e }
+    let start = told .before .before .before .before .before in
+    let a = start .args in
+    refused-asks (asked 1 (a .question .now)) (satisfying (ofIndex (a .index .now))) (sym (start .pre) ∙ told .checked .given .1)
 
 pub answer-line-spec : {M : Type 1} → statement M
 answer-line-spec =

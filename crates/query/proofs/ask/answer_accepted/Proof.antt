@@ -3,7 +3,9 @@ use native.Mathlib.Omega.{arith}
 use mathlib.Core.Path.{refl}
 use Rattle.question.specs.Rules.{ruleOf}
 use Rattle.question.proofs.ParsedLaws.{accepted-within, asked-parsed}
-use Rattle.query.proofs.AskLaws.{compiled-short, compiled-asked, compiled-ready, listing-answers}
+use Rattle.source.specs.Source.{satisfying, ofIndex}
+use Rattle.source.proofs.AskLaws.{listing-answers}
+use Rattle.query.proofs.AskLaws.{compiled-short, compiled-asked, compiled-ready}
 use borrow.Author.Needs.{needs}
 use Rattle.query.proofs.ask.answer_accepted.Statement.{statement}
 use Rattle.query.proofs.ask.answer_accepted.Tie as tie
@@ -35,7 +37,7 @@ returns c =
     let start = c .before .before .before .before .before .before .before .before .before .before .before .before .before .before .before in
     let a = start .args in
     let is = start .pre .1 in
-    listing-answers (a .rule) (a .index .now) (a .question .now) (a .out .now) _ _ (is .tree) (is .words) (is .is)
+    listing-answers (satisfying (ofIndex (a .index .now))) (is .is)
     (c .before .before .answer-codes .ensures (is .tree)
     (compiled-ready (c .before .before .before .before .before .before .before .before .before .compile .ensures) (a .rule) (is .tree) (is .words) (is .is)))
 

@@ -1,7 +1,8 @@
 -- The reading refuses first; of an accepted question, what its answer is.
 use mathlib.Core.Path.{sym, _∙_}
 use Rattle.question.proofs.ParsedLaws.{verdict-accepted, verdict-refused}
-use Rattle.query.proofs.AskLaws.{refused-answers}
+use Rattle.source.specs.Source.{satisfying, ofIndex}
+use Rattle.source.proofs.AskLaws.{refused-answers}
 use borrow.Author.Needs.{needs}
 use Rattle.query.proofs.ask.answer_question.Statement.{statement}
 use Rattle.query.proofs.ask.answer_question.Tie as tie
@@ -18,7 +19,7 @@ returns-2 : tie.Need-returns-2
 returns-2 c =
     let a = c .before .before .before .before .before .before .before .args in
     let refusal = c .before .refusal .given in
-    refused-answers (a .rule) (a .index .now) (a .question .now) (a .out .now) (refusal .0 .0)
+    refused-answers (satisfying (ofIndex (a .index .now)))
     (verdict-refused (a .rule) (a .question .now) (refusal .0 .0) (sym (c .before .before .before .read-question .ensures) ∙ refusal .1))
 
 pub answer-question-spec : {M : Type 1} → statement M

@@ -5,7 +5,8 @@ use Rattle.laws.proofs.Tests.{true-false}
 use Rattle.index.specs.Format.{highest}
 use Rattle.index.proofs.SoundLaws.{sound-length}
 use Rattle.list.proofs.ListingLaws.{listed, counted-refused, counted-room, counted-listed}
-use Rattle.query.proofs.SatisfyLaws.{satisfying-even}
+use Rattle.source.specs.Source.{ofIndex}
+use Rattle.source.proofs.SatisfyLaws.{satisfying-even}
 use Rattle.query.proofs.AskLaws.{prepared-swept, prepared-length}
 use borrow.Author.Needs.{needs}
 use Rattle.query.proofs.ask.put_answer.Statement.{statement}
@@ -25,7 +26,7 @@ sweep-question-requires c κs =
     let here = c .before .before .before in
     let a = asked here .args in
     let is = asked here .pre .1 in
-    let even = satisfying-even (a .index .now) (is .tree) in
+    let even = satisfying-even (ofIndex (a .index .now)) (is .tree) in
     let sum = c .before .before .slots-sum .ensures in
     let enough = c .before .if1 .taken in
     let bound = is .prepared .bound in (
@@ -58,7 +59,7 @@ sweep-question-requires-3 c κs =
     let here = c .before .before .before .before .before .before .before .before in
     let is = asked here .pre .1 in
     let counted = prepared-swept (is .prepared) (limit here) (c .before .before .before .before .sweep-question2 .ensures (is .tree) (is .prepared .reads)) in
-    let fits = counted-room counted (satisfying-even (asked here .args .index .now) (is .tree)) (c .before .if2 .left) in (
+    let fits = counted-room counted (satisfying-even (ofIndex (asked here .args .index .now)) (is .tree)) (c .before .if2 .left) in (
       asked here .pre .0,
       (
         limit here,

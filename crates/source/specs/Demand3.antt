@@ -1,4 +1,5 @@
--- Reference 11, demand 3: the cells that two questions write over one sound index, and the exchange of a part in brackets.
+-- Reference 11, demand 3: the cells that two questions write that are asked of the same, and the exchange of a part in brackets. What is asked is sound
+-- where its check says so.
 use Prim.Native.Nat.{ℕ, _*_, _/_, _≤_}
 use mathlib.Core.Path.{_≡_}
 use mathlib.Core.List.{List, []}
@@ -8,39 +9,38 @@ use Rattle.list.specs.Front.{inFront}
 use Rattle.list.specs.declared.answer.Tally.{Tally}
 use Rattle.list.specs.declared.answer.Answer.{Answer}
 use Rattle.list.specs.declared.answer.Answer.the-variants.{Listed, Refused}
+use Rattle.index.specs.declared.Checked.{Checked}
 use Rattle.index.specs.declared.Checked.the-variants.{Good}
-use Rattle.index.specs.Format.{highest}
-use Rattle.directory.specs.Has.{has}
-use Rattle.index.specs.Check.{checkOf}
 use Rattle.question.specs.Grammar.{Tree}
 use Rattle.question.specs.Meaning.{satisfies}
-use Rattle.question.specs.Reading.{parses, asked}
+use Rattle.question.specs.Reading.{Parsed, parses, asked}
 use Rattle.question.specs.Limits.{WithinLimits}
 use Rattle.question.specs.Exchange.{around, Matched}
-use Rattle.query.specs.Ask.{Asks}
+use Rattle.source.specs.Source.{Source, satisfying}
+use Rattle.source.specs.Ask.{Lists}
 
 -- Reference 11, demand 3: the cells that are compared
 abbrev pub written : Tally → List ℕ → List ℕ
 written tally out = take (2 * tally .intervals) out
 
--- Reference 8.6: a call that keeps the promise; over a sound index it accepted the question, whose tree is t, found room in the cells lent,
+-- Reference 8.6: a call that keeps the promise; over what is sound it accepted the question, whose tree is t, found room in the cells lent,
 -- answered with the tally, and left the cells as out′
-pub record Answered (rule : ℕ) (index question : List ℕ) (t : Tree) (out out′ : List ℕ) (tally : Tally) : Type 0 where
-  pub sound : checkOf index ≡ Good
+pub record Answered (check : Checked) (a : Parsed) (s : Source) (t : Tree) (out out′ : List ℕ) (tally : Tally) : Type 0 where
+  pub sound : check ≡ Good
   pub words : ℕ
-  pub accepted : asked rule question ≡ parses t words
-  pub promise : Asks rule index question out out′ (Listed tally)
+  pub accepted : a ≡ parses t words
+  pub promise : Lists check a (satisfying s) out out′ (Listed tally)
 
 -- Reference 11, demand 3: every record satisfies both questions or neither
-abbrev pub SameRecords : List ℕ → Tree → Tree → Type 0
-SameRecords index t u = (x : ℕ) → 1 ≤ x → x ≤ highest index → satisfies (has index) t x ≡ satisfies (has index) u x
+abbrev pub SameRecords : Source → Tree → Tree → Type 0
+SameRecords s t u = (x : ℕ) → 1 ≤ x → x ≤ s .highest → satisfies (s .has) t x ≡ satisfies (s .has) u x
 
 -- ---- the exchange of a part in brackets: Reference 11, demand 3
 
--- Reference 11, demand 3: the question `before ( a ) behind` is accepted over a sound index; a and b are accepted by themselves, and the same
+-- Reference 11, demand 3: the question `before ( a ) behind` is accepted over what is sound; a and b are accepted by themselves, and the same
 -- records satisfy them; `before ( b ) behind` is within the limits
-pub record Exchanging (rule : ℕ) (index before a b behind : List ℕ) : Type 0 where
-  pub sound : checkOf index ≡ Good
+pub record Exchanging (check : Checked) (rule : ℕ) (s : Source) (before a b behind : List ℕ) : Type 0 where
+  pub sound : check ≡ Good
   pub tree : Tree
   pub words : ℕ
   pub accepted : asked rule (around before a behind) ≡ parses tree words
@@ -50,12 +50,12 @@ pub record Exchanging (rule : ℕ) (index before a b behind : List ℕ) : Type 0
   pub tree-b : Tree
   pub words-b : ℕ
   pub b-accepted : asked rule b ≡ parses tree-b words-b
-  pub same : SameRecords index tree-a tree-b
+  pub same : SameRecords s tree-a tree-b
   pub within : WithinLimits (around before b behind)
 
 -- Reference 11, demand 3: the same, where of a no more is asked than that the brackets around it are a pair
-pub record ExchangingPair (rule : ℕ) (index before a b behind : List ℕ) : Type 0 where
-  pub sound : checkOf index ≡ Good
+pub record ExchangingPair (check : Checked) (rule : ℕ) (s : Source) (before a b behind : List ℕ) : Type 0 where
+  pub sound : check ≡ Good
   pub tree : Tree
   pub words : ℕ
   pub accepted : asked rule (around before a behind) ≡ parses tree words
@@ -63,7 +63,7 @@ pub record ExchangingPair (rule : ℕ) (index before a b behind : List ℕ) : Ty
   pub tree-b : Tree
   pub words-b : ℕ
   pub b-accepted : asked rule b ≡ parses tree-b words-b
-  pub same : (t : Tree) (n : ℕ) → asked rule a ≡ parses t n → SameRecords index t tree-b
+  pub same : (t : Tree) (n : ℕ) → asked rule a ≡ parses t n → SameRecords s t tree-b
   pub within : WithinLimits (around before b behind)
 
 -- Reference 7: the cells that a call writes, none where it refuses
@@ -92,8 +92,8 @@ pub record SameAnswers (rule : ℕ) (second out out′ other other′ : List ℕ
   pub second-only : OnlyWritten r′ other other′
 
 -- Reference 11, demand 3: so it is of any two calls that keep the promise, the first question's and the second's, with as much room
-abbrev pub CallsAgree : ℕ → List ℕ → List ℕ → List ℕ → Type 0
-CallsAgree rule index first second =
-    (out out′ other other′ : List ℕ) (r r′ : Answer) → length out / 2 ≡ length other / 2 → Asks rule index first out out′ r →
-    Asks rule index second other other′ r′ →
+abbrev pub CallsAgree : Checked → ℕ → Source → List ℕ → List ℕ → Type 0
+CallsAgree check rule s first second =
+    (out out′ other other′ : List ℕ) (r r′ : Answer) → length out / 2 ≡ length other / 2 → Lists check (asked rule first) (satisfying s) out out′ r →
+    Lists check (asked rule second) (satisfying s) other other′ r′ →
     SameAnswers rule second out out′ other other′ r r′

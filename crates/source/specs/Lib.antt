@@ -1,0 +1,3 @@
+pub mod Source
+pub mod Ask
+pub mod Demand3
