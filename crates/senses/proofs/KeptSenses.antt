@@ -1,17 +1,20 @@
 -- Laws of kept senses: none says anything at first, what is said at x is said at each later record, and one slot is renewed.
-use Prim.Native.Nat.{ℕ, _+_, _/_, _≤_, _<_}
+use Prim.Native.Nat.{ℕ, _+_, _*_, _/_, _%_, _≤_, _<_}
 use native.Mathlib.Decide.{ℕ-discrete}
 use native.Mathlib.Omega.{arith}
-use mathlib.Core.Path.{_≡_, sym, ap, _∙_, subst}
-use mathlib.Core.Bool.{Bool}
+use mathlib.Core.Path.{_≡_, refl, sym, ap, _∙_, subst}
+use mathlib.Core.Bool.{Bool, true, false, cond}
 use mathlib.Core.List.{List}
 use lib.ListN.{length, getD, set, replicate, length-set}
 use lib.Seq.{getD-set-same, getD-set-other}
+use borrow.Author.Tests.{eq-eqb, ne-eqb}
 use Rattle.laws.proofs.Tests.{leb-cases}
 use Rattle.laws.proofs.Lists.{zeros-at}
 use Rattle.limits.specs.Limits.{recordMax}
+use Rattle.list.specs.declared.sense.Sense.{Sense}
 use Rattle.list.specs.Sense.{Steady}
-use Rattle.senses.specs.Senses.{inIt, untilOf, Sensed, Known, Renewed}
+use Rattle.slots.specs.Row.{inIt, untilOf, packed}
+use Rattle.senses.specs.Senses.{Sensed, Known, Renewed}
 
 pub sensed-none : (v : ℕ → ℕ → Bool) (n x : ℕ) → Sensed v (replicate n 0) x
 sensed-none v n x = record { near = λ k. omega (arith, zeros-at n k); same = λ k y h l. absurd (omega (arith, zeros-at n k)) }
@@ -40,15 +43,31 @@ set-cases P senses k n j h f g = go (ℕ-discrete j k)
     go (yes e) = subst P (sym (ap (λ (i : ℕ). getD (set senses k n) i 0) e ∙ getD-set-same senses k n 0 h)) (f e)
     go (no e) = subst P (sym (getD-set-other senses k j n 0 e)) g
 
-module _ (v : ℕ → ℕ → Bool) (senses : List ℕ) (x k : ℕ) (s : Sensed v senses x) (inside : Bool) (until n : ℕ) (t : Steady (v k) x inside until) where
-  pub renewed-set : k < length senses → n / 2 ≡ until → inIt n ≡ inside → Renewed v x k senses (set senses k n)
-  renewed-set h e f = record {
-    long = length-set senses k n;
-    sensed = record {
-      near = λ j. set-cases (λ m. m / 2 ≤ recordMax + 1) senses k n j h (λ _. omega (arith, t .near)) (s .near j);
-      same = λ j y g. set-cases (λ m. y < m / 2 → v j y ≡ inIt m) senses k n j h
-          (λ i l. ap (λ (j : ℕ). v j y) i ∙ t .same y g (omega arith) ∙ sym f) (s .same j y g);
-    };
-    here = omega (arith, getD-set-same senses k n 0 h, t .later);
-    others = λ j l. set-cases (λ m. x < m / 2) senses k n j h (λ _. omega (arith, t .later)) l;
-  }
+-- what a packed sense says
+packed-until : (inside : Bool) (until : ℕ) → cond inside (2 * until + 1) (2 * until) / 2 ≡ until
+packed-until true until = omega arith
+packed-until false until = omega arith
+
+packed-inside : (inside : Bool) (until : ℕ) → inIt (cond inside (2 * until + 1) (2 * until)) ≡ inside
+packed-inside true until = eq-eqb ((2 * until + 1) % 2) 1 (omega arith)
+packed-inside false until = ne-eqb (2 * until % 2) 1 (λ (e : 2 * until % 2 ≡ 1). omega arith)
+
+module _ (v : ℕ → ℕ → Bool) {senses : List ℕ} {x k : ℕ} (s : Sensed v senses x) where
+  pub renewed-kept : x < untilOf senses k → Renewed v x k senses senses
+  renewed-kept h = record { long = refl; sensed = s; here = h; others = λ j l. l }
+
+  pub renewed-set : (sense : Sense) → Steady (v k) x (sense .inside) (sense .until) → k < length senses → Renewed v x k senses (set senses k (packed sense))
+  renewed-set sense t h =
+      let n = packed sense in
+      let e = packed-until (sense .inside) (sense .until) in
+      let f = packed-inside (sense .inside) (sense .until) in
+      record {
+        long = length-set senses k n;
+        sensed = record {
+          near = λ j. set-cases (λ m. m / 2 ≤ recordMax + 1) senses k n j h (λ _. omega (arith, e, t .near)) (s .near j);
+          same = λ j y g. set-cases (λ m. y < m / 2 → v j y ≡ inIt m) senses k n j h
+              (λ i l. ap (λ (j : ℕ). v j y) i ∙ t .same y g (omega (arith, e)) ∙ sym f) (s .same j y g);
+        };
+        here = omega (arith, e, getD-set-same senses k n 0 h, t .later);
+        others = λ j l. set-cases (λ m. x < m / 2) senses k n j h (λ _. omega (arith, e, t .later)) l;
+      }

@@ -1,2 +1,3 @@
 pub mod PairedSenses
+pub mod RangeSenses
 pub mod KeptSenses

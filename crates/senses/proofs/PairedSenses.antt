@@ -1,14 +1,11 @@
--- Laws of senses: of the opposite, of two sides under an operator, and of one slot.
-use Prim.Native.Nat.{ℕ, _+_, _≤_, _<_}
+-- Laws of senses: of the opposite, of two sides under an operator, of two of which either holds, and of a tree.
+use Prim.Native.Nat.{ℕ, _+_, _≤_, min}
 use native.Mathlib.Omega.{arith}
 use mathlib.Core.Path.{_≡_, refl, sym, ap, _∙_}
-use mathlib.Core.Bool.{Bool, true, false, not, _&&_, _||_, and-false}
+use mathlib.Core.Bool.{Bool, true, false, not, _&&_, _||_, and-false, or-true}
 use mathlib.Core.List.{List}
-use lib.ListN.{length, getD, length-append}
-use Rattle.limits.specs.Limits.{recordMax}
-use Rattle.list.specs.Interval.{names}
+use lib.ListN.{length, length-append}
 use Rattle.list.specs.Sense.{Steady}
-use Rattle.index.specs.Format.{wordCount, listOf}
 use Rattle.question.specs.declared.token.Op.{Op}
 use Rattle.question.specs.declared.token.Op.the-variants.{And, Or, Not}
 use Rattle.question.specs.Token.{Tok}
@@ -16,16 +13,19 @@ use Rattle.question.specs.Grammar.{Tree, Out, word, pair, part, treeWords}
 use Rattle.question.specs.Meaning.{combine}
 use Rattle.codes.specs.Code.{andCode, orCode, opCode}
 use Rattle.codes.specs.Reads.{Reads}
-use Rattle.slots.specs.Slots.{slotHas, slotSatisfies}
-use Rattle.senses.specs.Senses.{untilOf, insideOf}
+use Rattle.slots.specs.Row.{untilOf, insideOf}
+use Rattle.slots.specs.Slots.{slotSatisfies}
 use Rattle.senses.specs.declared.look.Look.{Look}
 use Rattle.senses.specs.Look.{Tells, Looks}
-use Rattle.slots.proofs.SlotLaws.{slot-lists, slot-lacks, slot-word, slot-part, slot-pair}
+use Rattle.slots.proofs.SlotLaws.{slot-word, slot-part, slot-pair}
 
--- ---- of equal tests, and of the opposite
+-- ---- of equal tests, of what is known to be in or out, and of the opposite
 
 pub steady-same : (p q : ℕ → Bool) (x : ℕ) (a : Bool) (u : ℕ) → ((y : ℕ) → p y ≡ q y) → Steady p x a u → Steady q x a u
 steady-same p q x a u e s = record { later = s .later; near = s .near; same = λ y h l. sym (e y) ∙ s .same y h l }
+
+pub steady-is : {p : ℕ → Bool} {x : ℕ} {a b : Bool} {u : ℕ} → a ≡ b → Steady p x a u → Steady p x b u
+steady-is e s = rw (sym e) s
 
 pub steady-not : {p : ℕ → Bool} {x : ℕ} {a : Bool} {u : ℕ} → Steady p x a u → Steady (λ y. not (p y)) x (not a) u
 steady-not s = record { later = s .later; near = s .near; same = λ y h l. ap not (s .same y h l) }
@@ -44,6 +44,22 @@ module _ {p q : ℕ → Bool} {x : ℕ} {a b : Bool} {u v : ℕ} (s : Steady p x
 
   pub both-second-out : b ≡ false → Steady (λ y. p y && q y) x b v
   both-second-out f = record { later = t .later; near = t .near; same = λ y g l. rw (t .same y g l, f) (and-false (p y)) }
+
+-- ---- of two tests of which either holds
+
+module _ (p q : ℕ → Bool) {x : ℕ} where
+  pub either-first : {u : ℕ} → Steady p x true u → Steady (λ y. p y || q y) x true u
+  either-first s = record { later = s .later; near = s .near; same = λ y g l. rw (s .same y g l) }
+
+  pub either-second : {v : ℕ} → Steady q x true v → Steady (λ y. p y || q y) x true v
+  either-second t = record { later = t .later; near = t .near; same = λ y g l. rw (t .same y g l) (or-true (p y)) }
+
+  pub either-out : {u v : ℕ} → Steady p x false u → Steady q x false v → Steady (λ y. p y || q y) x false (min u v)
+  either-out s t = record {
+    later = omega (arith, s .later, t .later);
+    near = omega (arith, s .near);
+    same = λ y g l. rw (s .same y g (omega arith), t .same y g (omega arith));
+  }
 
 -- ---- under an operator
 
@@ -68,17 +84,6 @@ module _ (p q : ℕ → Bool) {x : ℕ} {a : Bool} {u : ℕ} where
   paired-not c And e f g s = absurd (f e)
   paired-not c Or e f g s = absurd (g e)
   paired-not c Not e f g s = s
-
--- ---- of a slot
-
-module _ (index entries : List ℕ) (k x : ℕ) where
-  pub slot-in : (a : Bool) (u : ℕ) → getD entries k 0 < wordCount index → Steady (names (listOf index (getD entries k 0))) x a u →
-      Steady (slotHas index entries k) x a u
-  slot-in a u h s =
-      steady-same (names (listOf index (getD entries k 0))) (slotHas index entries k) x a u (λ y. sym (slot-lists index entries k h y)) s
-
-  pub slot-out : wordCount index ≤ getD entries k 0 → x ≤ recordMax → Steady (slotHas index entries k) x false (recordMax + 1)
-  slot-out h l = record { later = omega arith; near = omega arith; same = λ y g m. slot-lacks index entries k h y }
 
 -- ---- of a tree, by the kept senses of its slots
 

@@ -1,26 +1,15 @@
 -- What is kept of each slot from look to look: its sense, whether it is in from a record on, and until which number.
-use Prim.Native.Nat.{ℕ, _+_, _/_, _%_, _≤_, _<_}
+use Prim.Native.Nat.{ℕ, _≤_, _<_}
 use mathlib.Core.Path.{_≡_}
 use mathlib.Core.Bool.{Bool}
 use mathlib.Core.List.{List}
-use lib.Dec.{eqb}
-use lib.ListN.{length, getD}
-use Rattle.limits.specs.Limits.{recordMax}
+use lib.ListN.{length}
 use Rattle.list.specs.Sense.{Steady}
-
--- a sense is one number: twice the number until which it holds, and one more where it is in
-abbrev pub inIt : ℕ → Bool
-inIt sense = eqb (sense % 2) 1
-
-abbrev pub untilOf : List ℕ → ℕ → ℕ
-untilOf senses k = getD senses k 0 / 2
-
-abbrev pub insideOf : List ℕ → ℕ → Bool
-insideOf senses k = inIt (getD senses k 0)
+use Rattle.slots.specs.Row.{untilOf, insideOf, NearEnd}
 
 -- from x on no sense says what is not so of v, which says what each slot has; one that ends before x says nothing
 pub record Sensed (v : ℕ → ℕ → Bool) (senses : List ℕ) (x : ℕ) : Type 0 where
-  pub near : (k : ℕ) → untilOf senses k ≤ recordMax + 1
+  pub near : NearEnd senses
   pub same : (k y : ℕ) → x ≤ y → y < untilOf senses k → v k y ≡ insideOf senses k
 
 -- the senses of the first `slots` slots say what those have at x

@@ -1,107 +1,130 @@
 // What each slot's word says from a record on, and until where, kept from look to look: most senses outlast many steps.
 ghost use mathlib.Core.Path.{_≡_};
-ghost use Prim.Native.Nat.{_+_, _/_, _≤_, _<_};
+ghost use Prim.Native.Nat.{_≤_, _<_};
 ghost use lib.ListN.{length};
 ghost use Rattle.limits.specs.Limits.{questionWordsMax, recordMax};
 ghost use Rattle.list.specs.Sense.{Steady};
-ghost use Rattle.slots.specs.Slots.{slotHas, ReadBy};
-ghost use Rattle.senses.specs.Senses.{untilOf, insideOf, inIt, Sensed, Known, Renewed};
+ghost use Rattle.index.specs.Sound.{Sound};
+ghost use Rattle.directory.specs.Regions.{EntryIn};
+ghost use Rattle.slots.specs.Row.{rowLong, sensesIn, SlotsStay, HintsMoved};
+ghost use Rattle.slots.specs.Having.{entryHas, entriesHave, having, ReadBy};
+ghost use Rattle.senses.specs.Senses.{Sensed, Known, Renewed};
 use directory::sense::sense_in;
 use index::trailer::word_count;
 use list::END;
 use list::sense::Sense;
+use list::sense::smaller;
+use slots::row::Entries;
+use slots::row::entries_of;
+use slots::row::hint_number;
+use slots::row::keep_sense;
+use slots::row::sense_of;
 
-// What the word of slot k says of record x; its hint keeps where the list is read on.
-fn look_slot(index: &[u8], entries: &[usize], k: usize, x: u32, hints: &mut [usize]) -> Sense
-    requires lends { ⌜ ReadBy (now index) (now entries) (now hints) ⌝ }
-    requires within { ⌜ k < questionWordsMax ⌝ }
+// What the list of entry i of a range says of record x; its hint keeps where the list is read on.
+fn sense_entry(index: &[u8], entries: Entries, i: usize, x: u32, row: &mut [usize]) -> Sense
+    requires entry { ⌜ EntryIn (now index) i ⌝ }
+    requires from { ⌜ entries .first ≤ i ⌝ }
+    requires long { ⌜ length (now row) ≡ rowLong ⌝ }
     requires near { ⌜ x ≤ recordMax ⌝ }
-    ensures keeps { λ r. ⌜ length (now (hints .exit)) ≡ length (now (hints .entry)) ⌝ }
-    ensures steady { λ r. ⌜ Steady (slotHas (now (index .entry)) (now (entries .entry)) k) x (r .inside) (r .until) ⌝ }
+    ensures moved { λ r. ⌜ HintsMoved (now (row .entry)) (now (row .exit)) ⌝ }
+    ensures steady { λ r. ⌜ Steady (entryHas (now (index .entry)) i) x (r .inside) (r .until) ⌝ }
 {
-    let entry = entries[k];
-    if word_count(index) <= entry {
-        return Sense {
-            inside: false,
-            until: END,
-        };
-    }
     // By its fields: handed on whole, a sense is packed into one number and taken apart again, at each look.
-    let Sense { inside, until } = sense_in(index, entry, x, k, hints);
+    let Sense { inside, until } = sense_in(index, i, x, hint_number(entries, i), row);
     Sense { inside, until }
 }
 
-// A sense as one number.
-fn pack(sense: Sense) -> u32
-    requires { ⌜ sense .until ≤ recordMax + 1 ⌝ }
-    ensures until { λ r. ⌜ r / 2 ≡ sense .until ⌝ }
-    ensures inside { λ r. ⌜ inIt r ≡ sense .inside ⌝ }
+// What the entries of a range say of it together: the first that has it answers.
+fn sense_entries(index: &[u8], entries: Entries, x: u32, row: &mut [usize]) -> Sense
+    requires sound { ⌜ Sound (now index) ⌝ }
+    requires long { ⌜ length (now row) ≡ rowLong ⌝ }
+    requires near { ⌜ x ≤ recordMax ⌝ }
+    ensures moved { λ r. ⌜ HintsMoved (now (row .entry)) (now (row .exit)) ⌝ }
+    ensures steady { λ r. ⌜ Steady (entriesHave (now (index .entry)) (entries .first) (entries .end)) x (r .inside) (r .until) ⌝ }
 {
-    if sense.inside {
-        2 * sense.until + 1
-    } else {
-        2 * sense.until
+    let count = word_count(index);
+    let mut out = END;
+    let mut i = entries.first;
+    while i < entries.end {
+        if count <= i {
+            return Sense {
+                inside: false,
+                until: out,
+            };
+        }
+        let Sense { inside, until } = sense_entry(index, entries, i, x, row);
+        if inside {
+            return Sense {
+                inside: true,
+                until,
+            };
+        }
+        out = smaller(out, until);
+        i += 1;
+    }
+    Sense {
+        inside: false,
+        until: out,
     }
 }
 
-// The kept sense of slot k.
-pub fn sense_of(senses: &[u32], k: usize) -> Sense
-    requires { ⌜ k < length (now senses) ⌝ }
-    ensures until { λ r. ⌜ r .until ≡ untilOf (now (senses .entry)) k ⌝ }
-    ensures inside { λ r. ⌜ r .inside ≡ insideOf (now (senses .entry)) k ⌝ }
+// What the word of slot k says of record x, by its entries in the main index and in the arrivals.
+fn look_slot(main: &[u8], arrivals: &[u8], row: &mut [usize], k: usize, x: u32) -> Sense
+    requires lends { ⌜ ReadBy (now main) (now arrivals) (now row) ⌝ }
+    requires within { ⌜ k < questionWordsMax ⌝ }
+    requires near { ⌜ x ≤ recordMax ⌝ }
+    ensures moved { λ r. ⌜ HintsMoved (now (row .entry)) (now (row .exit)) ⌝ }
+    ensures steady { λ r. ⌜ Steady (having (now (main .entry)) (now (arrivals .entry)) (now (row .entry)) k) x (r .inside) (r .until) ⌝ }
 {
-    let sense = senses[k];
+    let of_main = sense_entries(main, entries_of(row, 2 * k), x, row);
+    if of_main.inside {
+        return Sense {
+            inside: true,
+            until: of_main.until,
+        };
+    }
+    let of_arrivals = sense_entries(arrivals, entries_of(row, 2 * k + 1), x, row);
+    if of_arrivals.inside {
+        return Sense {
+            inside: true,
+            until: of_arrivals.until,
+        };
+    }
     Sense {
-        inside: sense % 2 == 1,
-        until: sense / 2,
+        inside: false,
+        until: smaller(of_main.until, of_arrivals.until),
     }
 }
 
 // Renews the sense of slot k, if it ends at x or before.
-fn renew_sense(
-    index: &[u8],
-    entries: &[usize],
-    k: usize,
-    x: u32,
-    hints: &mut [usize],
-    senses: &mut [u32],
-)
-    requires lends { ⌜ ReadBy (now index) (now entries) (now hints) ⌝ }
-    requires long { ⌜ length (now senses) ≡ questionWordsMax ⌝ }
+fn renew_sense(main: &[u8], arrivals: &[u8], row: &mut [usize], k: usize, x: u32)
+    requires lends { ⌜ ReadBy (now main) (now arrivals) (now row) ⌝ }
     requires within { ⌜ k < questionWordsMax ⌝ }
     requires near { ⌜ x ≤ recordMax ⌝ }
-    requires sensed { ⌜ Sensed (slotHas (now index) (now entries)) (now senses) x ⌝ }
-    ensures keeps { λ _. ⌜ length (now (hints .exit)) ≡ length (now (hints .entry)) ⌝ }
-    ensures renews { λ _. ⌜ Renewed (slotHas (now (index .entry)) (now (entries .entry))) x k (now (senses .entry)) (now (senses .exit)) ⌝ }
+    requires sensed { ⌜ Sensed (having (now main) (now arrivals) (now row)) (sensesIn (now row)) x ⌝ }
+    ensures slots { λ _. ⌜ SlotsStay (now (row .entry)) (now (row .exit)) ⌝ }
+    ensures renews { λ _. ⌜ Renewed (having (now (main .entry)) (now (arrivals .entry)) (now (row .entry))) x k (sensesIn (now (row .entry))) (sensesIn (now (row .exit))) ⌝ }
 {
-    if x < senses[k] / 2 {
+    if x < sense_of(row, k).until {
         return;
     }
-    senses[k] = pack(look_slot(index, entries, k, x, hints));
+    let sense = look_slot(main, arrivals, row, k, x);
+    keep_sense(row, k, sense);
 }
 
 // Renews the senses of the first `slots` slots, so that each of them is known at x.
-pub fn renew_senses(
-    index: &[u8],
-    entries: &[usize],
-    slots: usize,
-    x: u32,
-    hints: &mut [usize],
-    senses: &mut [u32],
-)
-    requires lends { ⌜ ReadBy (now index) (now entries) (now hints) ⌝ }
-    requires long { ⌜ length (now senses) ≡ questionWordsMax ⌝ }
+pub fn renew_senses(main: &[u8], arrivals: &[u8], row: &mut [usize], slots: usize, x: u32)
+    requires lends { ⌜ ReadBy (now main) (now arrivals) (now row) ⌝ }
     requires within { ⌜ slots ≤ questionWordsMax ⌝ }
     requires near { ⌜ x ≤ recordMax ⌝ }
-    requires sensed { ⌜ Sensed (slotHas (now index) (now entries)) (now senses) x ⌝ }
-    ensures keeps { λ _. ⌜ length (now (hints .exit)) ≡ length (now (hints .entry)) ⌝ }
-    ensures long { λ _. ⌜ length (now (senses .exit)) ≡ length (now (senses .entry)) ⌝ }
-    ensures sensed { λ _. ⌜ Sensed (slotHas (now (index .entry)) (now (entries .entry))) (now (senses .exit)) x ⌝ }
-    ensures known { λ _. ⌜ Known (slotHas (now (index .entry)) (now (entries .entry))) (now (senses .exit)) slots x ⌝ }
+    requires sensed { ⌜ Sensed (having (now main) (now arrivals) (now row)) (sensesIn (now row)) x ⌝ }
+    ensures slots { λ _. ⌜ SlotsStay (now (row .entry)) (now (row .exit)) ⌝ }
+    ensures sensed { λ _. ⌜ Sensed (having (now (main .entry)) (now (arrivals .entry)) (now (row .entry))) (sensesIn (now (row .exit))) x ⌝ }
+    ensures known { λ _. ⌜ Known (having (now (main .entry)) (now (arrivals .entry)) (now (row .entry))) (sensesIn (now (row .exit))) slots x ⌝ }
 {
     let mut k = 0;
     while k < slots {
-        renew_sense(index, entries, k, x, hints, senses);
+        renew_sense(main, arrivals, row, k, x);
         k += 1;
     }
 }

@@ -2,11 +2,10 @@
 ghost use mathlib.Core.Path.{_≡_};
 ghost use Prim.Native.Nat.{_≤_};
 ghost use lib.ListN.{length, getD};
-ghost use Rattle.limits.specs.Limits.{questionWordsMax};
 ghost use Rattle.codes.specs.Code.{wordCode, noCode};
 ghost use Rattle.codes.specs.Reads.{asLevel, asOperand};
+ghost use Rattle.slots.specs.Row.{rowLong, sensesIn, NearEnd};
 ghost use Rattle.senses.specs.Look.{Looks};
-use crate::kept::sense_of;
 use crate::pair::pair_senses;
 use codes::code::CLOSE_CODE;
 use codes::code::OPEN_CODE;
@@ -15,6 +14,7 @@ use codes::read::code_at;
 use codes::read::is_operator;
 use limits::QUESTION_WORDS_MAX;
 use list::sense::Sense;
+use slots::row::sense_of;
 
 // The code and the slot behind what was looked at, and its sense.
 pub struct Look {
@@ -37,12 +37,13 @@ fn unread(code: usize) -> Look
 }
 
 // The operands of a level, from the left.
-pub fn look_level(codes: &[u8], i: usize, k: usize, d: usize, senses: &[u32]) -> Look
+pub fn look_level(codes: &[u8], i: usize, k: usize, d: usize, row: &[usize]) -> Look
     requires within { ⌜ i ≤ length (now codes) ⌝ }
-    requires long { ⌜ length (now senses) ≡ questionWordsMax ⌝ }
-    ensures { λ r. ⌜ Looks (asLevel d k) (now (codes .entry)) i k (now (senses .entry)) r ⌝ }
+    requires long { ⌜ length (now row) ≡ rowLong ⌝ }
+    requires near { ⌜ NearEnd (sensesIn (now row)) ⌝ }
+    ensures { λ r. ⌜ Looks (asLevel d k) (now (codes .entry)) i k (sensesIn (now (row .entry))) r ⌝ }
 {
-    let first = look_operand(codes, i, k, d, senses);
+    let first = look_operand(codes, i, k, d, row);
     let mut at = first.code;
     let mut slot = first.slot;
     let mut inside = first.inside;
@@ -57,7 +58,7 @@ pub fn look_level(codes: &[u8], i: usize, k: usize, d: usize, senses: &[u32]) ->
                 until,
             };
         }
-        let next = look_operand(codes, at + 1, slot, d, senses);
+        let next = look_operand(codes, at + 1, slot, d, row);
         let sense = pair_senses(
             operator,
             Sense { inside, until },
@@ -74,18 +75,19 @@ pub fn look_level(codes: &[u8], i: usize, k: usize, d: usize, senses: &[u32]) ->
 }
 
 // A word, or a level in brackets, of which d may still open. It is small, so that the words of a level are looked at without a call.
-fn look_operand(codes: &[u8], i: usize, k: usize, d: usize, senses: &[u32]) -> Look
+fn look_operand(codes: &[u8], i: usize, k: usize, d: usize, row: &[usize]) -> Look
     requires within { ⌜ i ≤ length (now codes) ⌝ }
-    requires long { ⌜ length (now senses) ≡ questionWordsMax ⌝ }
-    ensures { λ r. ⌜ Looks (asOperand d k) (now (codes .entry)) i k (now (senses .entry)) r ⌝ }
+    requires long { ⌜ length (now row) ≡ rowLong ⌝ }
+    requires near { ⌜ NearEnd (sensesIn (now row)) ⌝ }
+    ensures { λ r. ⌜ Looks (asOperand d k) (now (codes .entry)) i k (sensesIn (now (row .entry))) r ⌝ }
 {
     if code_at(codes, i) != WORD_CODE {
-        return look_part(codes, i, k, d, senses);
+        return look_part(codes, i, k, d, row);
     }
     if QUESTION_WORDS_MAX <= k {
         return unread(i);
     }
-    let sense = sense_of(senses, k);
+    let sense = sense_of(row, k);
     Look {
         code: i + 1,
         slot: k + 1,
@@ -95,11 +97,12 @@ fn look_operand(codes: &[u8], i: usize, k: usize, d: usize, senses: &[u32]) -> L
 }
 
 // A level in brackets.
-fn look_part(codes: &[u8], i: usize, k: usize, d: usize, senses: &[u32]) -> Look
+fn look_part(codes: &[u8], i: usize, k: usize, d: usize, row: &[usize]) -> Look
     requires within { ⌜ i ≤ length (now codes) ⌝ }
-    requires long { ⌜ length (now senses) ≡ questionWordsMax ⌝ }
+    requires long { ⌜ length (now row) ≡ rowLong ⌝ }
+    requires near { ⌜ NearEnd (sensesIn (now row)) ⌝ }
     requires wordless { ⌜ (getD (now codes) i noCode ≡ wordCode → ⊥) ⌝ }
-    ensures { λ r. ⌜ Looks (asOperand d k) (now (codes .entry)) i k (now (senses .entry)) r ⌝ }
+    ensures { λ r. ⌜ Looks (asOperand d k) (now (codes .entry)) i k (sensesIn (now (row .entry))) r ⌝ }
 {
     if code_at(codes, i) != OPEN_CODE {
         return unread(i);
@@ -107,7 +110,7 @@ fn look_part(codes: &[u8], i: usize, k: usize, d: usize, senses: &[u32]) -> Look
     if d == 0 {
         return unread(i);
     }
-    let part = look_level(codes, i + 1, k, d - 1, senses);
+    let part = look_level(codes, i + 1, k, d - 1, row);
     let close = part.code;
     if code_at(codes, close) != CLOSE_CODE {
         return unread(close);

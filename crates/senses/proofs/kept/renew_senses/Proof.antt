@@ -1,64 +1,59 @@
--- The slots below k are known at x.
+-- The slots below k are known at x, and have what they had.
 use Prim.Native.Nat.{ℕ, _-_, _<_}
 use native.Mathlib.Omega.{arith}
-use mathlib.Core.Path.{_≡_, sym, _∙_}
-use lib.ListN.{length}
-use Rattle.slots.specs.Slots.{slotHas}
-use Rattle.senses.specs.Senses.{untilOf, Sensed}
+use mathlib.Core.Path.{refl, sym, _∙_}
+use Rattle.slots.specs.Row.{sensesIn, untilOf, SlotsStay}
+use Rattle.slots.specs.Having.{having}
+use Rattle.slots.proofs.RowLaws.{stay-both}
+use Rattle.senses.specs.Senses.{Sensed, Renewed}
 use Rattle.senses.proofs.KeptSenses.{sensed-known, renewed-next}
+use borrow.Author.Needs.{needs}
 use Rattle.senses.proofs.kept.renew_senses.Statement.{statement}
 use Rattle.senses.proofs.kept.renew_senses.Tie as tie
 
 abbrev Inv-loop : tie.InvT-loop
-Inv-loop index entries slots x hints₀ senses₀ k₀ hints senses k =
-    (length hints ≡ 32) × (length senses ≡ 16) × Sensed (slotHas index entries) senses x × ((j : ℕ) → j < k → x < untilOf senses j)
+Inv-loop main arrivals row₀ slots x k₀ row k =
+    SlotsStay row₀ row × Sensed (having main arrivals row₀) (sensesIn row) x × ((j : ℕ) → j < k → x < untilOf (sensesIn row) j)
 
 abbrev μ-loop : tie.MeasureT-loop
-μ-loop index entries slots x hints₀ senses₀ k₀ hints senses k = slots - k
+μ-loop main arrivals row₀ slots x k₀ row k = slots - k
 
-abbrev Loop : Type 0
-Loop = tie.At-loop Inv-loop μ-loop
+abbrev begun : tie.At-loop Inv-loop μ-loop → tie.Start Inv-loop μ-loop
+begun c = c .before .before .before .before
 
-abbrev begun : Loop → tie.Start Inv-loop μ-loop
-begun c = c .before .before .before .before .before
-
--- what is lent stays as long as it was
-lengths : (c : Loop) → (length (c .loop .hints) ≡ length (begun c .args .hints .now)) × (length (c .loop .senses) ≡ length (begun c .args .senses .now))
-lengths c = (c .loop .inv .0 ∙ sym (begun c .pre .0 .hints-long), c .loop .inv .1 ∙ sym (begun c .pre .1 .0))
+loop-holds : tie.Need-loop-holds Inv-loop μ-loop
+loop-holds c = (record { long = refl; slots = refl }, c .before .before .before .pre .1 .1 .1, λ j h. absurd (omega arith))
 
 renew-sense-requires : tie.Need-renew-sense-requires Inv-loop μ-loop
 renew-sense-requires c κs =
-    let inv = c .before .before .before .loop .inv in
-    let pre = begun (c .before .before .before) .pre in
-    let more = c .before .before .loop-test .taken in (
-      record { sound = pre .0 .sound; entries-long = pre .0 .entries-long; hints-long = inv .0 },
-      (inv .1, (omega (arith, pre .1 .1 .0), (pre .1 .1 .1 .0, inv .2))),
+    let l = c .before .before in
+    let inv = l .loop .inv in
+    let pre = begun l .pre in (
+      record { main-sound = pre .0 .main-sound; arrivals-sound = pre .0 .arrivals-sound; long = inv .0 .long ∙ pre .0 .long },
+      (omega (arith, c .before .loop-test .taken, pre .1 .0), (pre .1 .1 .0, rw (inv .0 .slots) (inv .1))),
     )
 
 loop-again : tie.Need-loop-again Inv-loop μ-loop
 loop-again c =
-    let l = c .before .before .before .before .before .before .before .before in
+    let l = c .before .before .before .before .before in
     let a = begun l .args in
     let inv = l .loop .inv in
-    let keeps = c .before .before .before .before .renew-sense .ensures .0 in
-    let renewed = c .before .before .before .before .renew-sense .ensures .1 in
-    (keeps ∙ inv .0, renewed .long ∙ inv .1, renewed .sensed, renewed-next (slotHas (a .index .now) (a .entries .now)) (a .x) (l .loop .k) _ _ renewed (inv .3))
+    let said = c .before .before .renew-sense .ensures in (
+      stay-both (inv .0) (said .0),
+      rw (sym (inv .0 .slots)) (said .1 .sensed),
+      renewed-next (having (a .main .now) (a .arrivals .now) (l .loop .row)) (a .x) (l .loop .k) _ _ (said .1) (inv .2),
+    )
 
 returns : tie.Need-returns Inv-loop μ-loop
 returns c =
     let a = begun (c .before) .args in
     let inv = c .before .loop .inv in
     let over = c .loop-test .left in
-    let known = sensed-known (slotHas (a .index .now) (a .entries .now)) _ (a .x) (inv .2) (a .slots) (λ j h. inv .3 j (omega arith)) in
-    (lengths (c .before) .0, (lengths (c .before) .1, (inv .2, known)))
+    let known = sensed-known (having (a .main .now) (a .arrivals .now) (a .row .now)) _ (a .x) (inv .1) (a .slots) (λ j h. inv .2 j (omega arith)) in
+    (inv .0, (inv .1, known))
 
 pub renew-senses-spec : {M : Type 1} → statement M
 renew-senses-spec =
     tie.close
     (tie.spec
-    Inv-loop μ-loop
-    (λ c. let pre = c .before .before .before .before .pre in (pre .0 .hints-long, pre .1 .0, pre .1 .1 .1 .1, λ j h. absurd (omega arith)))
-    renew-sense-requires
-    (λ c. let l = c .before .before .before .before .before .before .before in let more = l .loop-test .taken in omega (arith, begun (l .before) .pre .1 .1 .0))
-    (λ c. let more = c .before .before .before .before .before .before .before .loop-test .taken in omega arith) loop-again
-    (λ c. lengths (c .before) .0) (λ c. lengths (c .before) .1) returns)
+    Inv-loop μ-loop loop-holds renew-sense-requires (λ c. search needs) (λ c. search needs) loop-again (λ c. search needs) returns)

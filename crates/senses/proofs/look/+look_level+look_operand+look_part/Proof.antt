@@ -6,6 +6,7 @@ use lib.ListN.{length}
 use borrow.Author.Needs.{needs}
 use borrow.Author.Tests.{not-true, not-false}
 use Rattle.codes.specs.Code.{wordCode, openCode, closeCode, opCode, opOf}
+use Rattle.slots.specs.Row.{sensesIn}
 use Rattle.senses.specs.Look.{Tells}
 use Rattle.codes.proofs.CodeLaws.{operator-none}
 use Rattle.codes.proofs.ReadsLaws.{Here, code-here, operator-here, operand-none, operand-word, operand-many, operand-deep, operand-part, operand-unclosed, Level, level-start, level-step, level-end}
@@ -23,7 +24,7 @@ use Rattle.senses.proofs.look.look_part.Kinds as look-part-kinds
 use Rattle.senses.proofs.look.+look_level+look_operand+look_part.Lts-look_part as look-part-lts
 use Rattle.codes.proofs.read.code_at.Reads as code-at
 use Rattle.codes.proofs.read.is_operator.Reads as is-operator
-use Rattle.senses.proofs.kept.sense_of.Reads as sense-of
+use Rattle.slots.proofs.row.sense_of.Reads as sense-of
 use Rattle.senses.proofs.look.unread.Reads as unread
 use Rattle.senses.proofs.pair.pair_senses.Reads as pair-senses
 use Rattle.senses.proofs.look.+look_level+look_operand+look_part.{statement}
@@ -76,11 +77,11 @@ abbrev part-claims : ℕ → look-part-lts.Claims
 part-claims t = (code-at.Asked, code-at.Learnt, unread.Asked, unread.Learnt, look-level-below t, look-level.Post)
 
 abbrev look-level-Inv-loop : look-level-lts.InvT-loop
-look-level-Inv-loop codes i k d senses at₀ slot₀ inside₀ until₀ at slot inside until =
-    (i ≤ at) × (at ≤ length codes) × Level codes d k i at slot (Tells senses k inside until)
+look-level-Inv-loop codes i k d row at₀ slot₀ inside₀ until₀ at slot inside until =
+    (i ≤ at) × (at ≤ length codes) × Level codes d k i at slot (Tells (sensesIn row) k inside until)
 
 abbrev look-level-μ-loop : look-level-lts.MeasureT-loop
-look-level-μ-loop codes i k d senses at₀ slot₀ inside₀ until₀ at slot inside until = length codes - at
+look-level-μ-loop codes i k d row at₀ slot₀ inside₀ until₀ at slot inside until = length codes - at
 
 -- ---- a level
 
@@ -131,7 +132,7 @@ module _ (t : ℕ) where
         omega (arith, next .ensures .ahead),
         next .ensures .inside,
         level-step (a .codes .now) (a .d) (a .k) (a .i) (at .at) (at .slot) (n .code) (n .slot) _ _ _ o (operator on .0) (at .inv .2) (next .ensures .reads)
-            (λ x y h s u. tells-pair (a .senses .now) (a .k) (r .inside) (r .until) o x y (at .slot) h (at .inside) (n .inside) (at .until) (n .until)
+            (λ x y h s u. tells-pair (sensesIn (a .row .now)) (a .k) (r .inside) (r .until) o x y (at .slot) h (at .inside) (n .inside) (at .until) (n .until)
             (c .pair-senses .ensures o (code .ensures ∙ operator on .0)) s u),
       )
 
@@ -148,7 +149,7 @@ module _ (t : ℕ) where
   operand-look-part-requires : look-operand-lts.Need-look-part-requires (operand-claims t) (look-operand-at t) look-operand.Post
   operand-look-part-requires c κs =
       let pre = c .before .before .before .before .pre .1 in
-      (omega arith, (pre .0, (pre .1, λ e. c .if1 .taken (c .before .code-at .ensures ∙ e))))
+      (omega arith, (pre .0, (pre .1 .0, (pre .1 .1, λ e. c .if1 .taken (c .before .code-at .ensures ∙ e)))))
 
   operand-returns-2 : look-operand-lts.Need-returns-2 (operand-claims t) (look-operand-at t) look-operand.Post
   operand-returns-2 c =
@@ -166,7 +167,7 @@ module _ (t : ℕ) where
         ahead = omega arith;
         inside = omega (arith, here .1);
         reads = λ f. operand-word (a .codes .now) f (a .d) (a .k) (a .i) (here .0) _
-            (tells-word (a .senses .now) (a .k) (r .result .inside) (r .result .until) (r .ensures .0) (r .ensures .1));
+            (tells-word (sensesIn (a .row .now)) (a .k) (r .result .inside) (r .result .until) (r .ensures .0) (r .ensures .1));
       }
 
 -- ---- a part
@@ -198,7 +199,7 @@ module _ (t : ℕ) where
       let start = c .before .before .before .before .before in
       let a = start .args in
       looks-none (start .pre .1 .0) (c .unread .ensures)
-      (λ f. operand-none (a .codes .now) f (a .d) (a .k) (a .i) _ _ _ (start .pre .1 .1 .1)
+      (λ f. operand-none (a .codes .now) f (a .d) (a .k) (a .i) _ _ _ (start .pre .1 .1 .1 .1)
       (λ e. c .before .if1 .taken (c .before .before .code-at .ensures ∙ e)))
 
   part-returns-2 : look-part-lts.Need-returns-2 (part-claims t) (look-part-at t) look-part.Post
@@ -232,7 +233,7 @@ module _ (t : ℕ) where
         inside = omega (arith, close-here c .1);
         reads = λ f. operand-part (a .codes .now) f (a .d) (a .k) (a .i) (open-here (opened c) .0) (p .code) (p .slot) _ (inner .ensures .reads) _
             (close-here c .0)
-            (tells-part (a .senses .now) (a .k) (p .inside) (p .until));
+            (tells-part (sensesIn (a .row .now)) (a .k) (p .inside) (p .until));
       }
 
 pub +look-level+look-operand+look-part-spec : {M : Type 1} → statement M
@@ -254,5 +255,5 @@ pub +look-level+look-operand+look-part-spec : {M : Type 1} → statement M
     (part-claims t) (look-part-at t) look-part.Post
     (λ c κs. search needs) (λ c κs. search needs) (part-returns t) (λ c κs. search needs) (part-returns-2 t)
     (λ c. omega (arith, open-here t (c .before) .1)) (λ c. search needs)
-    (λ c κs. (omega arith, (omega (arith, open-here t (c .before) .1), asked t (c .before) .pre .1 .1 .0))) (λ c κs. search needs)
+    (λ c κs. let pre = asked t (c .before) .pre .1 .1 in (omega arith, (omega (arith, open-here t (c .before) .1), (pre .0, pre .1 .0)))) (λ c κs. search needs)
     (λ c κs. search needs) (part-returns-3 t) (λ c. omega (arith, close-here t c .1)) (part-returns-4 t)
