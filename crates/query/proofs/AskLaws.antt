@@ -12,9 +12,7 @@ use Rattle.list.specs.declared.answer.Answer.{Answer}
 use Rattle.list.specs.Stretches.{cellsOf}
 use Rattle.list.specs.Sweeps.{Listing, Sweeps}
 use Rattle.list.proofs.StretchLaws.{cells-same}
-use Rattle.index.specs.Format.{highest}
 use Rattle.index.specs.Sound.{Sound}
-use Rattle.directory.specs.Has.{has}
 use Rattle.question.specs.Token.{tokens}
 use Rattle.question.specs.Grammar.{Tree, Rule, fromLeft, treeWords}
 use Rattle.question.specs.Rules.{andFirst, ruleOf}
@@ -23,23 +21,27 @@ use Rattle.question.specs.Reading.{parses, parsed, asked}
 use Rattle.question.proofs.ParsedLaws.{asked-accepts, accepted-within, asked-parsed}
 use Rattle.question.proofs.RuleLaws.{rule-keeps, rule-second, rule-else}
 use Rattle.question.proofs.DepthLaws.{deeper-reads}
-use Rattle.source.specs.Source.{satisfying, ofIndex}
+use Rattle.source.specs.Source.{Source, satisfying, ofIndex}
 use Rattle.source.proofs.SatisfyLaws.{satisfying-same}
 use Rattle.codes.specs.Code.{codesOf, wordCodes}
 use Rattle.codes.specs.Group.{grouped, groupedBrackets}
 use Rattle.codes.specs.Grouping.{GroupsCodes}
 use Rattle.codes.proofs.CodeLaws.{codes-words}
 use Rattle.codes.proofs.GroupLaws.{GroupedAs, grouped-reads, grouped-same, grouped-words, grouped-token-words}
-use Rattle.slots.specs.Slots.{slotHas}
+use Rattle.slots.specs.Row.{rowLong, slotsIn}
+use Rattle.slots.specs.Having.{having, ReadBy}
+use Rattle.slots.specs.Bound.{slotsIntervals}
 use Rattle.slots.specs.Compile.{WritesCodes, FillsSlots, TreeSlots}
-use Rattle.query.specs.Drive.{TreeOf, testOf, AskedBy}
-use Rattle.query.specs.Prepared.{MadeReady, Prepared}
-use Rattle.query.proofs.QuestionBound.{question-bound}
+use Rattle.query.specs.Drive.{TreeOf, testOf, AskedBy, Ends}
+use Rattle.query.specs.Prepared.{MadeReady, Prepared, lastOf}
 use Rattle.slots.proofs.WholeLaws.{slot-satisfies, compiled-slots}
+use Rattle.slots.proofs.SlotBound.{slot-above, slots-bound}
+use Rattle.slots.proofs.RowLaws.{Alone}
+use Rattle.index.proofs.SoundLaws.{sound-trailer}
 
 -- ---- an accepted question made ready
 
-module _ {index s codes codes′ entries entries′ : List ℕ} {n slots : ℕ} (c : WritesCodes s codes codes′ n × FillsSlots index s entries entries′ slots)
+module _ {index s codes codes′ row row′ : List ℕ} {n slots : ℕ} (c : WritesCodes s codes codes′ n × FillsSlots 0 index s row row′ slots)
     (rule : ℕ) (t : Tree) (k : ℕ) (is : asked rule s ≡ parses t k) where
   -- they are lent from the first on
   compiled-codes : take (n - 0) codes′ ≡ codesOf (tokens s)
@@ -51,17 +53,17 @@ module _ {index s codes codes′ entries entries′ : List ℕ} {n slots : ℕ} 
   accepted : parsed (ruleOf rule) s ≡ parses t k
   accepted = asked-parsed rule s t k is .1
 
-  pub compiled-asked : Sound index → length entries ≡ 16 → AskedBy (take (n - 0) codes′) index entries′ slots
+  -- the index is lent as both
+  pub compiled-asked : Sound index → length row ≡ rowLong → AskedBy (take (n - 0) codes′) index index row′ slots
   compiled-asked sound long = record {
-    sound = sound;
-    entries-long = c .1 .long ∙ long;
+    lent = record { main-sound = sound; arrivals-sound = sound; long = c .1 .long ∙ long };
     few = omega (arith, c .1 .count, accepted-within (ruleOf rule) s t k accepted .words);
     all = c .1 .count ∙ sym (codes-words (tokens s)) ∙ ap wordCodes (sym compiled-codes);
   }
 
-  pub compiled-ready : MadeReady (ruleOf rule) (take (n - 0) codes′) index entries′ slots t
-  compiled-ready =
-      let slotted = compiled-slots (c .1) (ruleOf rule) (rule-keeps rule) t k accepted in
+  pub compiled-ready : Alone row → MadeReady (ofIndex index) (ruleOf rule) (take (n - 0) codes′) (having index index row′) slots t
+  compiled-ready alone =
+      let slotted = compiled-slots (c .1) alone index (ruleOf rule) (rule-keeps rule) t k accepted in
       record {
         reads =
             record {
@@ -75,42 +77,75 @@ module _ {index s codes codes′ entries entries′ : List ℕ} {n slots : ℕ} 
         have = slotted .1;
       }
 
--- the rule of a number
-module _ {rule : ℕ} {codes index entries : List ℕ} {slots : ℕ} {t : Tree} (m : MadeReady (ruleOf rule) codes index entries slots t) where
-  pub ready-second : rule ≡ 2 → MadeReady andFirst codes index entries slots t
-  ready-second e = subst (λ (by : Rule). MadeReady by codes index entries slots t) (rule-second e) m
+pub alone-last : (index : List ℕ) → ofIndex index .highest ≡ lastOf index index
+alone-last index = omega arith
 
-  pub ready-else : (rule ≡ 2 → ⊥) → MadeReady fromLeft codes index entries slots t
-  ready-else h = subst (λ (by : Rule). MadeReady by codes index entries slots t) (rule-else h) m
+-- the rule of a number
+module _ {s : Source} {rule : ℕ} {codes : List ℕ} {v : ℕ → ℕ → Bool} {slots : ℕ} {t : Tree} (m : MadeReady s (ruleOf rule) codes v slots t) where
+  pub ready-second : rule ≡ 2 → MadeReady s andFirst codes v slots t
+  ready-second e = subst (λ (by : Rule). MadeReady s by codes v slots t) (rule-second e) m
+
+  pub ready-else : (rule ≡ 2 → ⊥) → MadeReady s fromLeft codes v slots t
+  ready-else h = subst (λ (by : Rule). MadeReady s by codes v slots t) (rule-else h) m
+
+-- ---- its list
+
+-- by what the slots have or by what the source has of the words
+test-cells : {s : Source} {v : ℕ → ℕ → Bool} {n : ℕ} {t : Tree} → s .highest ≡ n → ((x : ℕ) → testOf v t x ≡ satisfies (s .has) t x) →
+    cellsOf (testOf v t) n ≡ satisfying s t
+unfolding satisfying
+test-cells {s} {v} {n} {t} last same =
+    ap (cellsOf (testOf v t)) (sym last) ∙ cells-same (testOf v t) (satisfies (s .has) t) (s .highest) (λ x h g. same x)
+
+module _ {s : Source} {codes : List ℕ} {v : ℕ → ℕ → Bool} {n most : ℕ} {t : Tree} (last : s .highest ≡ n) (prepared : Prepared s codes v most t) where
+  -- a pass over the test's list is one over the answer
+  pub prepared-swept : {writing : Bool} {out out′ : List ℕ} {r : Tally} → Sweeps (cellsOf (testOf v t) n) writing out out′ r →
+      Sweeps (satisfying s t) writing out out′ r
+  prepared-swept w = rw (test-cells last (prepared .same)) at w
+
+  pub prepared-length : length (cellsOf (testOf v t) n) ≡ length (satisfying s t)
+  prepared-length = ap length (test-cells last (prepared .same))
 
 -- ---- prepared for the driver
 
--- codes that from the left read as t, with slots for its words
-reads-prepared : {codes index entries : List ℕ} {slots : ℕ} {t : Tree} → Sound index → TreeOf codes t → slots ≡ length (treeWords t) → TreeSlots index entries t →
-    Prepared codes index entries slots t
-reads-prepared {codes} {index} {entries} {slots} {t} sound reads all have = record {
-  reads = reads;
-  same = λ x. slot-satisfies (slotHas index entries) (has index) t x (λ i h. have i h x);
-  bound = rw all (question-bound index entries sound t have);
-}
+module _ {s : Source} {main arrivals row : List ℕ} {slots : ℕ} {t : Tree} (lent : ReadBy main arrivals row) (last : s .highest ≡ lastOf main arrivals) where
+  pub pair-ends : Ends (having main arrivals row) (lastOf main arrivals)
+  pair-ends = record {
+    near = omega (arith, sound-trailer main (lent .main-sound) .highest-bound, sound-trailer arrivals (lent .arrivals-sound) .highest-bound);
+    above = slot-above main arrivals (slotsIn row) (lent .main-sound) (lent .arrivals-sound) (lastOf main arrivals) (omega arith) (omega arith);
+  }
 
--- by the first rule, as they are
-pub plain-prepared : {codes index entries : List ℕ} {slots : ℕ} {t : Tree} → Sound index → MadeReady fromLeft codes index entries slots t →
-    Prepared codes index entries slots t
-plain-prepared {t = t} sound m =
-    let by = m .reads in
-    reads-prepared sound
-    (record {
-      toks = by .toks;
-      are = by .are;
-      fuel = by .fuel;
-      words = by .words;
-      reads = deeper-reads fromLeft (by .fuel) 8 groupedBrackets 0 (by .toks) t [] (by .words) (omega arith) (by .reads);
-    })
-    (m .all) (m .have)
+  -- codes that from the left read as t, with slots for its words
+  reads-prepared : {codes : List ℕ} → TreeOf codes t → slots ≡ length (treeWords t) → TreeSlots (having main arrivals row) (s .has) t →
+      Prepared s codes (having main arrivals row) (slotsIntervals main arrivals (slotsIn row) 0 slots) t
+  reads-prepared reads all have =
+      let v = having main arrivals row in
+      let same = λ (x : ℕ). slot-satisfies v (s .has) t x (λ i h. have i h x) in
+      record {
+        reads = reads;
+        same = same;
+        bound =
+            rw (← test-cells last same, all)
+            (slots-bound main arrivals (slotsIn row) (lent .main-sound) (lent .arrivals-sound) (lastOf main arrivals) (omega arith) (omega arith) t);
+      }
+
+  -- by the first rule, as they are
+  pub plain-prepared : {codes : List ℕ} → MadeReady s fromLeft codes (having main arrivals row) slots t →
+      Prepared s codes (having main arrivals row) (slotsIntervals main arrivals (slotsIn row) 0 slots) t
+  plain-prepared m =
+      let by = m .reads in
+      reads-prepared
+      (record {
+        toks = by .toks;
+        are = by .are;
+        fuel = by .fuel;
+        words = by .words;
+        reads = deeper-reads fromLeft (by .fuel) 8 groupedBrackets 0 (by .toks) t [] (by .words) (omega arith) (by .reads);
+      })
+      (m .all) (m .have)
 
 -- by the second rule, with their groups in brackets
-module _ {codes index entries lent grouped′ : List ℕ} {slots n : ℕ} {t : Tree} (m : MadeReady andFirst codes index entries slots t)
+module _ {s : Source} {codes lent grouped′ : List ℕ} {v : ℕ → ℕ → Bool} {slots n : ℕ} {t : Tree} (m : MadeReady s andFirst codes v slots t)
     (g : GroupsCodes codes lent grouped′ n) where
   pub regrouped : GroupedAs (m .reads .toks) t (m .reads .words)
   regrouped = grouped-reads (m .reads .fuel) (m .reads .toks) t (m .reads .words) (m .reads .reads)
@@ -118,37 +153,25 @@ module _ {codes index entries lent grouped′ : List ℕ} {slots n : ℕ} {t : T
   grouped-codes : take (n - 0) grouped′ ≡ codesOf (grouped (m .reads .toks))
   grouped-codes = rw (sub-zero n) (g .coded (m .reads .toks) (m .reads .are))
 
-  pub grouped-asked : AskedBy codes index entries slots → AskedBy (take (n - 0) grouped′) index entries slots
+  pub grouped-asked : {main arrivals row : List ℕ} → AskedBy codes main arrivals row slots → AskedBy (take (n - 0) grouped′) main arrivals row slots
   grouped-asked a = record {
-    sound = a .sound;
-    entries-long = a .entries-long;
+    lent = a .lent;
     few = a .few;
     all =
-        a .all ∙ sym (ap wordCodes (m .reads .are)) ∙ codes-words (m .reads .toks) ∙ sym (ap length (grouped-token-words (m .reads .toks))) ∙ sym (codes-words (grouped (m .reads .toks)))
+        a .all ∙ sym (ap wordCodes (m .reads .are)) ∙ codes-words (m .reads .toks) ∙ sym (ap length (grouped-token-words (m .reads .toks)))
+        ∙ sym (codes-words (grouped (m .reads .toks)))
         ∙ ap wordCodes (sym grouped-codes);
   }
 
-  pub grouped-prepared : Sound index → Prepared (take (n - 0) grouped′) index entries slots (regrouped .tree)
-  grouped-prepared sound =
-      reads-prepared sound
-      (record { toks = grouped (m .reads .toks); are = sym grouped-codes; fuel = regrouped .fuel; words = m .reads .words; reads = regrouped .reads })
-      (m .all ∙ ap length (sym (grouped-words regrouped))) (rw (grouped-words regrouped) (m .have))
-
   -- its answer is that of the question's tree
-  pub grouped-listing : {out out′ : List ℕ} {r : Answer} → Listing (satisfying (ofIndex index) (regrouped .tree)) out out′ r → Listing (satisfying (ofIndex index) t) out out′ r
-  grouped-listing l = rw (satisfying-same (ofIndex index) (regrouped .tree) t (λ x h u. grouped-same regrouped (has index) x)) at l
+  pub grouped-listing : {out out′ : List ℕ} {r : Answer} → Listing (satisfying s (regrouped .tree)) out out′ r → Listing (satisfying s t) out out′ r
+  grouped-listing l = rw (satisfying-same s (regrouped .tree) t (λ x h u. grouped-same regrouped (s .has) x)) at l
 
--- ---- its answer
-
-module _ {codes index entries : List ℕ} {slots n : ℕ} {t : Tree} (prepared : Prepared codes index entries slots t) (limit : n ≡ highest index) where
-  prepared-cells : cellsOf (testOf index entries t) n ≡ satisfying (ofIndex index) t
-  unfolding satisfying
-  prepared-cells = rw limit (cells-same (testOf index entries t) (satisfies (has index) t) (highest index) (λ x h g. prepared .same x))
-
-  -- a pass over the test's list is one over the answer
-  pub prepared-swept : {writing : Bool} {out out′ : List ℕ} {r : Tally} → Sweeps (cellsOf (testOf index entries t) n) writing out out′ r →
-      Sweeps (satisfying (ofIndex index) t) writing out out′ r
-  prepared-swept s = rw prepared-cells at s
-
-  pub prepared-length : length (cellsOf (testOf index entries t) n) ≡ length (satisfying (ofIndex index) t)
-  prepared-length = ap length prepared-cells
+pub grouped-prepared : {s : Source} {codes main arrivals row lent grouped′ : List ℕ} {slots n : ℕ} {t : Tree} → ReadBy main arrivals row →
+    s .highest ≡ lastOf main arrivals → (m : MadeReady s andFirst codes (having main arrivals row) slots t) (g : GroupsCodes codes lent grouped′ n) →
+    Prepared s (take (n - 0) grouped′) (having main arrivals row) (slotsIntervals main arrivals (slotsIn row) 0 slots) (regrouped m g .tree)
+grouped-prepared read last m g =
+    let by = regrouped m g in
+    reads-prepared read last
+    (record { toks = grouped (m .reads .toks); are = sym (grouped-codes m g); fuel = by .fuel; words = m .reads .words; reads = by .reads })
+    (m .all ∙ ap length (sym (grouped-words by))) (rw (grouped-words by) (m .have))

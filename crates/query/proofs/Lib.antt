@@ -1,3 +1,2 @@
 pub mod TestLaws
-pub mod QuestionBound
 pub mod AskLaws

@@ -4,22 +4,15 @@ use Prim.Native.Nat.{ℕ, _+_, _-_, _*_, _/_, _≤_, _<_}
 use native.Mathlib.Omega.{arith}
 use mathlib.Core.Bool.{Bool, false}
 use mathlib.Core.List.{List, [], append-nil}
-use lib.Dec.{ltb}
-use lib.ListN.{length, getD, replicate, length-replicate}
-use borrow.Author.Tests.{ltb-true}
+use lib.ListN.{length, replicate, length-replicate}
 use borrow.Rule.Slice.PartMut.{midOf, mid-len}
-use Rattle.laws.proofs.Tests.{by-test}
 use Rattle.list.specs.declared.answer.Tally.{Tally}
 use Rattle.list.specs.Interval.{records}
 use Rattle.list.specs.Sense.{Steady}
 use Rattle.list.specs.Sweeps.{HasRoom, Sweeps}
 use Rattle.list.specs.Stretches.{turned, cellsOf, recordsFrom}
-use Rattle.list.proofs.NamesLaws.{proper-names-above}
 use Rattle.list.proofs.RecordLaws.{recordsFrom-length}
 use Rattle.list.proofs.SweepLaws.{Swept, swept-count, swept-records, swept-written}
-use Rattle.index.specs.Format.{wordCount, highest, listOf}
-use Rattle.index.specs.Sound.{Sound}
-use Rattle.directory.proofs.HasLaws.{list-proper}
 use Rattle.question.specs.Grammar.{Tree, fromLeft, treeWords}
 use Rattle.question.specs.Limits.{tokenWords}
 use Rattle.question.proofs.RuleLaws.{from-left-keeps}
@@ -31,12 +24,11 @@ use Rattle.senses.specs.declared.look.Look.{Look}
 use Rattle.evaluate.specs.declared.eval.Step.{Step}
 use Rattle.codes.specs.Code.{wordCodes}
 use Rattle.codes.specs.Reads.{asLevel}
-use Rattle.slots.specs.Slots.{slotHas}
 use Rattle.senses.specs.Senses.{Known}
-use Rattle.evaluate.specs.Evaluated.{SameLengths, Evaluated}
+use Rattle.evaluate.specs.Evaluated.{Evaluated}
 use Rattle.senses.specs.Look.{Looks}
 use Rattle.window.specs.Steps.{Constant}
-use Rattle.query.specs.Drive.{TreeOf, testOf}
+use Rattle.query.specs.Drive.{TreeOf, testOf, Ends}
 use Rattle.codes.specs.Group.{groupedBrackets}
 use Rattle.codes.proofs.CodeLaws.{codes-words}
 use Rattle.slots.proofs.SlotLaws.{slots-none}
@@ -51,28 +43,18 @@ tree-words codes t o =
     sym (ap length (w .0 ∙ append-nil (treeWords t))) ∙ sym (codes-words (o .toks)) ∙ ap wordCodes (o .are)
 
 module _ {codes : List ℕ} {t : Tree} (o : TreeOf codes t) where
-  pub tree-holds : {index entries ws : List ℕ} {x : ℕ} {r : Step} → Evaluated (asLevel groupedBrackets 0) codes 0 0 index entries x ws r →
-      Holds (testOf index entries t) x ws
+  pub tree-holds : {v : ℕ → ℕ → Bool} {ws : List ℕ} {x : ℕ} {r : Step} → Evaluated (asLevel groupedBrackets) codes (record { code = 0; slot = 0 }) v x ws r →
+      Holds (testOf v t) x ws
   tree-holds e = e .reads (o .fuel) (o .toks) t [] (o .words) (o .are) (o .reads) .4
 
-  pub tree-steady : (index entries : List ℕ) (slots x : ℕ) {senses : List ℕ} {r : Look} → slots ≡ wordCodes codes →
-      Known (slotHas index entries) senses slots x →
-      Looks (asLevel groupedBrackets 0) codes 0 0 senses r → Steady (testOf index entries t) x (r .inside) (r .until)
-  tree-steady index entries slots x all known e =
-      e .reads (o .fuel) (o .toks) t [] (o .words) (o .are) (o .reads) .4 (slotHas index entries) slots x (omega (arith, tree-words codes t o)) known
+  pub tree-steady : (v : ℕ → ℕ → Bool) (slots x : ℕ) {senses : List ℕ} {r : Look} → slots ≡ wordCodes codes → Known v senses slots x →
+      Looks (asLevel groupedBrackets 0) codes 0 0 senses r → Steady (testOf v t) x (r .inside) (r .until)
+  tree-steady v slots x all known e =
+      e .reads (o .fuel) (o .toks) t [] (o .words) (o .are) (o .reads) .4 v slots x (omega (arith, tree-words codes t o)) known
 
--- ---- no record above N satisfies a question
-
-slot-above : (index entries : List ℕ) → Sound index → (k x : ℕ) → highest index < x → slotHas index entries k x ≡ false
-unfolding slotHas
-slot-above index entries s k x h =
-    by-test (ltb (getD entries k 0) (wordCount index))
-    (λ e. rw e (proper-names-above (highest index) x (listOf index (getD entries k 0))
-    (list-proper index s (getD entries k 0) (ltb-true (getD entries k 0) (wordCount index) e)) h))
-    (λ e. rw e)
-
-pub test-above : (index entries : List ℕ) → Sound index → (t : Tree) (x : ℕ) → highest index < x → testOf index entries t x ≡ false
-test-above index entries s t x h = slots-none (slotHas index entries) x (λ k. slot-above index entries s k x h) t 0
+-- no record behind the last satisfies a question
+pub test-above : {v : ℕ → ℕ → Bool} {n : ℕ} → Ends v n → (t : Tree) (x : ℕ) → n < x → testOf v t x ≡ false
+test-above {v} e t x h = slots-none v x (λ k. e .above k x h) t 0
 
 -- ---- a window
 
@@ -87,8 +69,8 @@ pub window-room : (p : ℕ → Bool) (x k : ℕ) (ws out : List ℕ) → Holds p
 window-room p x k ws out h room = rw (window-part p x k (64 * length ws) ws refl h) room
 
 -- the window is evaluated from a blank one
-pub evaluated-length : {hints hints′ ws ws′ : List ℕ} (ws₀ : List ℕ) → SameLengths hints ws hints′ ws′ → ws ≡ replicate (length ws₀) 0 → length ws′ ≡ length ws₀
-evaluated-length {ws = ws} ws₀ e blank = e .ws-long ∙ blank-length ws ws₀ blank
+pub evaluated-length : {ws ws′ : List ℕ} (ws₀ : List ℕ) → length ws′ ≡ length ws → ws ≡ replicate (length ws₀) 0 → length ws′ ≡ length ws₀
+evaluated-length {ws} ws₀ e blank = e ∙ blank-length ws ws₀ blank
 
 pub members-few : (ws : List ℕ) (r : ℕ) → ((x : ℕ) → r ≡ length (recordsFrom (member ws x) x (64 * length ws))) → r ≤ 64 * length ws
 members-few ws r e = omega (arith, e 1, recordsFrom-length (member ws 1) 1 (64 * length ws))

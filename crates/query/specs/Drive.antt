@@ -9,7 +9,6 @@ use Rattle.list.specs.declared.answer.Tally.{Tally}
 use Rattle.list.specs.Sense.{Steady}
 use Rattle.list.specs.Stretches.{cellsOf}
 use Rattle.list.specs.Sweeps.{Sweeps}
-use Rattle.index.specs.Sound.{Sound}
 use Rattle.window.specs.declared.steps.Done.{Done}
 use Rattle.window.specs.Tuning.{windowMost}
 use Rattle.window.specs.Flips.{odd, flips}
@@ -18,10 +17,12 @@ use Rattle.question.specs.Token.{Tok}
 use Rattle.question.specs.Grammar.{Tree, Rule, good, fromLeft, question}
 use Rattle.codes.specs.Code.{codesOf, wordCodes}
 use Rattle.codes.specs.Group.{groupedBrackets}
-use Rattle.slots.specs.Slots.{slotHas, slotSatisfies}
+use Rattle.slots.specs.Slots.{slotSatisfies}
+use Rattle.slots.specs.Having.{ReadBy}
 use Rattle.senses.specs.declared.look.Look.{Look}
 use Rattle.senses.specs.Senses.{Sensed}
 use Rattle.query.specs.declared.drive.At.{At}
+use Rattle.query.specs.declared.drive.Pass.{Pass}
 
 -- ---- the question's test, by its codes
 
@@ -37,39 +38,42 @@ pub record TreeBy (rule : Rule) (brackets : ℕ) (codes : List ℕ) (t : Tree) :
 abbrev pub TreeOf : List ℕ → Tree → Type 0
 TreeOf codes t = TreeBy fromLeft groupedBrackets codes t
 
--- which records satisfy it, by what its slots have
-abbrev pub testOf : List ℕ → List ℕ → Tree → ℕ → Bool
-testOf index entries t = slotSatisfies (slotHas index entries) t 0
+-- which records satisfy it, where v says what its slots have
+abbrev pub testOf : (ℕ → ℕ → Bool) → Tree → ℕ → Bool
+testOf v t = slotSatisfies v t 0
 
 -- P is so of the test of each tree that the codes read as
-abbrev pub OfEach : List ℕ → List ℕ → List ℕ → ((ℕ → Bool) → Type 0) → Type 0
-OfEach codes index entries P = (t : Tree) → TreeOf codes t → P (testOf index entries t)
+abbrev pub OfEach : List ℕ → (ℕ → ℕ → Bool) → ((ℕ → Bool) → Type 0) → Type 0
+OfEach codes v P = (t : Tree) → TreeOf codes t → P (testOf v t)
 
--- what a question is asked by: a sound index, its codes, and 16 entries, of which the first `slots` are those of its words
-pub record AskedBy (codes index entries : List ℕ) (slots : ℕ) : Type 0 where
-  pub sound : Sound index
-  pub entries-long : length entries ≡ questionWordsMax
+-- what a question is asked by: its codes, and what slots are read by, of which the first `slots` are those of its words
+pub record AskedBy (codes main arrivals row : List ℕ) (slots : ℕ) : Type 0 where
+  pub lent : ReadBy main arrivals row
   pub few : slots ≤ questionWordsMax
   pub all : slots ≡ wordCodes codes
 
 -- what is kept of the slots before record x: a sense of each, and the first `slots` are those of the question's words
-pub record Slotted (codes index entries senses : List ℕ) (slots x : ℕ) : Type 0 where
-  pub long : length senses ≡ questionWordsMax
+pub record Slotted (codes : List ℕ) (v : ℕ → ℕ → Bool) (senses : List ℕ) (slots x : ℕ) : Type 0 where
   pub few : slots ≤ questionWordsMax
   pub all : slots ≡ wordCodes codes
-  pub sensed : Sensed (slotHas index entries) senses x
+  pub sensed : Sensed v senses x
+
+-- n is a record, and no slot has one above it
+pub record Ends (v : ℕ → ℕ → Bool) (n : ℕ) : Type 0 where
+  pub near : n ≤ recordMax
+  pub above : (k x : ℕ) → n < x → v k x ≡ false
 
 -- the codes read as a question, and the cells of any step from x on have room behind the first k, where they are written
-pub record Roomy (codes index entries : List ℕ) (x : ℕ) (writing : Bool) (k : ℕ) (out : List ℕ) : Type 0 where
+pub record Roomy (codes : List ℕ) (v : ℕ → ℕ → Bool) (x : ℕ) (writing : Bool) (k : ℕ) (out : List ℕ) : Type 0 where
   pub tree : Tree
   pub reads : TreeOf codes tree
-  pub room : writing ≡ true → (m : ℕ) → 1 ≤ m → k + length (flips (testOf index entries tree) (odd k) x m) ≤ length out
+  pub room : writing ≡ true → (m : ℕ) → 1 ≤ m → k + length (flips (testOf v tree) (odd k) x m) ≤ length out
 
 -- the codes read as a question, whose whole list has room, where it is written
-pub record Fits (codes index entries : List ℕ) (n : ℕ) (writing : Bool) (out : List ℕ) : Type 0 where
+pub record Fits (codes : List ℕ) (v : ℕ → ℕ → Bool) (pass : Pass) (out : List ℕ) : Type 0 where
   pub tree : Tree
   pub reads : TreeOf codes tree
-  pub room : writing ≡ true → length (cellsOf (testOf index entries tree) n) ≤ length out
+  pub room : pass .writing ≡ true → length (cellsOf (testOf v tree) (pass .n)) ≤ length out
 
 -- ---- the loop
 
@@ -84,13 +88,13 @@ pub record WindowAt (ws : List ℕ) (at : At) : Type 0 where
   pub counted : at .records < 4294967296
 
 -- it passes the window's records
-abbrev pub TakesWindow : List ℕ → List ℕ → List ℕ → Bool → At → List ℕ → List ℕ → Done → Type 0
-TakesWindow codes index entries writing at out out′ r =
-    OfEach codes index entries (λ p. Stepped p (at .x) (64 * at .width) writing (at .cells) (at .records) out out′ (r .cells) (r .records))
+abbrev pub TakesWindow : List ℕ → (ℕ → ℕ → Bool) → Bool → At → List ℕ → List ℕ → Done → Type 0
+TakesWindow codes v writing at out out′ r =
+    OfEach codes v (λ p. Stepped p (at .x) (64 * at .width) writing (at .cells) (at .records) out out′ (r .cells) (r .records))
 
 -- what a look at record x says
-abbrev pub LooksAt : List ℕ → List ℕ → List ℕ → ℕ → Look → Type 0
-LooksAt codes index entries x r = OfEach codes index entries (λ p. Steady p x (r .inside) (r .until))
+abbrev pub LooksAt : List ℕ → (ℕ → ℕ → Bool) → ℕ → Look → Type 0
+LooksAt codes v x r = OfEach codes v (λ p. Steady p x (r .inside) (r .until))
 
 -- where it stands before a step
 pub record Stands (n : ℕ) (at : At) : Type 0 where
@@ -109,9 +113,9 @@ pub record Moved (p : ℕ → Bool) (n : ℕ) (writing : Bool) (at : At) (out ou
   pub to : r .x ≡ min (at .x + far) (n + 1)
   pub step : Stepped p (at .x) far writing (at .cells) (at .records) out out′ (r .cells) (r .records)
 
-abbrev pub Moves : List ℕ → List ℕ → List ℕ → ℕ → Bool → At → List ℕ → List ℕ → At → Type 0
-Moves codes index entries n writing at out out′ r = OfEach codes index entries (λ p. Moved p n writing at out out′ r)
+abbrev pub Moves : List ℕ → (ℕ → ℕ → Bool) → Pass → At → List ℕ → List ℕ → At → Type 0
+Moves codes v pass at out out′ r = OfEach codes v (λ p. Moved p (pass .n) (pass .writing) at out out′ r)
 
 -- the whole list, counted or written
-abbrev pub Tallies : List ℕ → List ℕ → List ℕ → ℕ → Bool → List ℕ → List ℕ → Tally → Type 0
-Tallies codes index entries n writing out out′ r = OfEach codes index entries (λ p. Sweeps (cellsOf p n) writing out out′ r)
+abbrev pub Tallies : List ℕ → (ℕ → ℕ → Bool) → Pass → List ℕ → List ℕ → Tally → Type 0
+Tallies codes v pass out out′ r = OfEach codes v (λ p. Sweeps (cellsOf p (pass .n)) (pass .writing) out out′ r)

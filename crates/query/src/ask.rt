@@ -1,12 +1,17 @@
 // The call that answers a question over an index.
+ghost use mathlib.Core.Path.{_≡_};
 ghost use Prim.Native.Nat.{_≤_};
 ghost use lib.ListN.{length};
 ghost use Rattle.limits.specs.Limits.{questionMax};
 ghost use Rattle.index.specs.Sound.{Sound};
 ghost use Rattle.question.specs.Rules.{ruleOf};
 ghost use Rattle.source.specs.Ask.{Answers, Asks};
+ghost use Rattle.slots.specs.Row.{slotsIn};
+ghost use Rattle.slots.specs.Having.{having};
+ghost use Rattle.slots.specs.Bound.{slotsIntervals};
 ghost use Rattle.query.specs.Drive.{AskedBy};
-ghost use Rattle.query.specs.Prepared.{IsAsked, IsReady, ListsReady, IsPrepared, PutsAnswer};
+ghost use Rattle.query.specs.Prepared.{lastOf, IsAsked, IsReady, ListsReady, IsPrepared, PutsAnswer};
+use crate::drive::Pass;
 use crate::drive::sweep_question;
 use codes::group::GROUPED_MAX;
 use codes::group::group_codes;
@@ -14,7 +19,6 @@ use index::Checked;
 use index::check::check_index;
 use index::trailer::read_trailer;
 use limits::QUESTION_MAX;
-use limits::QUESTION_WORDS_MAX;
 use list::answer::Answer;
 use question::read_question;
 use question::reader::Verdict;
@@ -22,63 +26,88 @@ use question::rule::AND_FIRST;
 use refusal::Refusal;
 use slots::bound::slots_sum;
 use slots::compile::compile;
+use slots::row::ROW;
+
+// The highest record of two indexes.
+fn highest_of(main: &[u8], arrivals: &[u8]) -> u32
+    requires main { ⌜ Sound (now main) ⌝ }
+    requires arrivals { ⌜ Sound (now arrivals) ⌝ }
+    ensures { λ r. ⌜ r ≡ lastOf (now (main .entry)) (now (arrivals .entry)) ⌝ }
+{
+    let n = read_trailer(main).highest;
+    let m = read_trailer(arrivals).highest;
+    if n < m { m } else { n }
+}
 
 // Writes the answer where it has room. The lists of the words have no fewer intervals together: where there is room for those, one pass is enough.
 fn put_answer(
     codes: &[u8],
-    index: &[u8],
-    entries: &[usize],
+    main: &[u8],
+    arrivals: &[u8],
+    row: &mut [usize],
     slots: usize,
     out: &mut [u32],
 ) -> Answer
-    requires asked { ⌜ AskedBy (now codes) (now index) (now entries) slots ⌝ }
-    requires prepared { ⌜ IsPrepared (now codes) (now index) (now entries) slots ⌝ }
-    ensures { λ r. ⌜ PutsAnswer (now (codes .entry)) (now (index .entry)) (now (entries .entry)) slots (now (out .entry)) (now (out .exit)) r ⌝ }
+    requires asked { ⌜ AskedBy (now codes) (now main) (now arrivals) (now row) slots ⌝ }
+    requires prepared { ⌜ IsPrepared (now codes) (having (now main) (now arrivals) (now row)) (lastOf (now main) (now arrivals)) (slotsIntervals (now main) (now arrivals) (slotsIn (now row)) 0 slots) ⌝ }
+    ensures { λ r. ⌜ PutsAnswer (now (codes .entry)) (having (now (main .entry)) (now (arrivals .entry)) (now (row .entry))) (lastOf (now (main .entry)) (now (arrivals .entry))) (slotsIntervals (now (main .entry)) (now (arrivals .entry)) (slotsIn (now (row .entry))) 0 slots) (now (out .entry)) (now (out .exit)) r ⌝ }
 {
-    let highest = read_trailer(index).highest;
+    let n = highest_of(main, arrivals);
     let room = out.len() / 2;
-    if slots_sum(index, entries, slots) <= room {
-        return Answer::Listed(sweep_question(codes, index, entries, slots, highest, true, out));
+    let writes = Pass {
+        n,
+        slots,
+        writing: true,
+    };
+    if slots_sum(main, arrivals, row, slots) <= room {
+        return Answer::Listed(sweep_question(codes, main, arrivals, row, writes, out));
     }
-    let needed = sweep_question(codes, index, entries, slots, highest, false, out).intervals;
+    let counts = Pass {
+        n,
+        slots,
+        writing: false,
+    };
+    let needed = sweep_question(codes, main, arrivals, row, counts, out).intervals;
     if room < needed {
         return Answer::Refused(Refusal::Room(needed));
     }
-    Answer::Listed(sweep_question(codes, index, entries, slots, highest, true, out))
+    Answer::Listed(sweep_question(codes, main, arrivals, row, writes, out))
 }
 
 // Answers by the rule. The driver groups from the left: by the second rule it is given codes with the groups in brackets.
 fn answer_codes(
     rule: u32,
     codes: &[u8],
-    index: &[u8],
-    entries: &[usize],
+    main: &[u8],
+    arrivals: &[u8],
+    row: &mut [usize],
     slots: usize,
     out: &mut [u32],
 ) -> Answer
-    requires asked { ⌜ AskedBy (now codes) (now index) (now entries) slots ⌝ }
+    requires asked { ⌜ AskedBy (now codes) (now main) (now arrivals) (now row) slots ⌝ }
     requires short { ⌜ length (now codes) ≤ questionMax ⌝ }
-    requires ready { ⌜ IsReady (ruleOf rule) (now codes) (now index) (now entries) slots ⌝ }
-    ensures { λ r. ⌜ ListsReady (ruleOf rule) (now (codes .entry)) (now (index .entry)) (now (entries .entry)) slots (now (out .entry)) (now (out .exit)) r ⌝ }
+    requires ready { ⌜ IsReady (ruleOf rule) (now codes) (having (now main) (now arrivals) (now row)) (lastOf (now main) (now arrivals)) slots ⌝ }
+    ensures { λ r. ⌜ ListsReady (ruleOf rule) (now (codes .entry)) (having (now (main .entry)) (now (arrivals .entry)) (now (row .entry))) (lastOf (now (main .entry)) (now (arrivals .entry))) slots (now (out .entry)) (now (out .exit)) r ⌝ }
 {
     if rule == AND_FIRST {
         let mut grouped: [u8; GROUPED_MAX] = [0; GROUPED_MAX];
         let count = group_codes(codes, &mut grouped);
-        return put_answer(&grouped[0..count], index, entries, slots, out);
+        return put_answer(&grouped[0..count], main, arrivals, row, slots, out);
     }
-    put_answer(codes, index, entries, slots, out)
+    put_answer(codes, main, arrivals, row, slots, out)
 }
 
+// Answers an accepted question over one index, which is lent as both: no slot has entries of arrivals.
 fn answer_accepted(index: &[u8], rule: u32, question: &[u8], out: &mut [u32]) -> Answer
     requires sound { ⌜ Sound (now index) ⌝ }
     requires asked { ⌜ IsAsked rule (now question) ⌝ }
     ensures { λ r. ⌜ Answers rule (now (index .entry)) (now (question .entry)) (now (out .entry)) (now (out .exit)) r ⌝ }
 {
     let mut codes: [u8; QUESTION_MAX] = [0; QUESTION_MAX];
-    let mut entries: [usize; QUESTION_WORDS_MAX] = [0; QUESTION_WORDS_MAX];
-    let compiled = compile(index, question, &mut codes, &mut entries);
+    let mut row: [usize; ROW] = [0; ROW];
+    let compiled = compile(index, question, &mut codes, &mut row);
     let count = compiled.codes;
-    answer_codes(rule, &codes[0..count], index, &entries, compiled.slots, out)
+    answer_codes(rule, &codes[0..count], index, index, &mut row, compiled.slots, out)
 }
 
 // Reference 8.10: answers a question over an index that is sound.

@@ -3,14 +3,14 @@ ghost use mathlib.Core.Path.{_≡_};
 ghost use Prim.Native.Nat.{_≤_};
 ghost use lib.ListN.{length};
 ghost use Rattle.limits.specs.Limits.{recordMax};
-ghost use Rattle.index.specs.Format.{highest};
-ghost use Rattle.slots.specs.Slots.{slotHas, ReadBy};
+ghost use Rattle.slots.specs.Row.{sensesIn, SlotsStay, HintsMoved};
+ghost use Rattle.slots.specs.Having.{having, ReadBy};
 ghost use Rattle.senses.specs.Senses.{Sensed};
 ghost use Rattle.window.specs.Tuning.{windowMost};
-ghost use Rattle.evaluate.specs.Evaluated.{SameLengths};
 ghost use Rattle.query.specs.Drive.{
   AskedBy,
   Slotted,
+  Ends,
   Roomy,
   Fits,
   WindowAt,
@@ -21,14 +21,14 @@ ghost use Rattle.query.specs.Drive.{
   Tallies,
 };
 use codes::group::GROUPED_BRACKETS;
+use evaluate::eval::Step;
 use evaluate::eval::eval_level;
-use limits::QUESTION_WORDS_MAX;
 use list::answer::Tally;
-use list::hints::HINTS;
 use list::sense::smaller;
 use senses::kept::renew_senses;
 use senses::look::Look;
 use senses::look::look_level;
+use slots::row::forget_senses;
 use window::fill::clear;
 use window::members::count_members;
 use window::steps::Done;
@@ -38,6 +38,16 @@ use window::steps::take_jump;
 use window::tuning::FAR;
 use window::tuning::LEAST;
 use window::tuning::MOST;
+
+// What a pass is asked.
+pub struct Pass {
+    // the last record
+    pub n: u32,
+    // how many slots the question has
+    pub slots: usize,
+    // whether it writes the list, or only counts it
+    pub writing: bool,
+}
 
 // Where the driver stands.
 pub struct At {
@@ -61,23 +71,25 @@ fn doubled(width: usize) -> usize
 // Passes the records of a window: the question is evaluated for them, and the window's cells are put.
 fn take_window(
     codes: &[u8],
-    index: &[u8],
-    entries: &[usize],
+    main: &[u8],
+    arrivals: &[u8],
+    row: &mut [usize],
     at: At,
-    hints: &mut [usize],
     ws: &mut [u64],
     writing: bool,
     out: &mut [u32],
 ) -> Done
-    requires lends { ⌜ ReadBy (now index) (now entries) (now hints) ⌝ }
+    requires lends { ⌜ ReadBy (now main) (now arrivals) (now row) ⌝ }
     requires within { ⌜ WindowAt (now ws) at ⌝ }
-    requires room { ⌜ Roomy (now codes) (now index) (now entries) (at .x) writing (at .cells) (now out) ⌝ }
-    ensures keeps { λ _. ⌜ SameLengths (now (hints .entry)) (now (ws .entry)) (now (hints .exit)) (now (ws .exit)) ⌝ }
-    ensures steps { λ r. ⌜ TakesWindow (now (codes .entry)) (now (index .entry)) (now (entries .entry)) writing at (now (out .entry)) (now (out .exit)) r ⌝ }
+    requires room { ⌜ Roomy (now codes) (having (now main) (now arrivals) (now row)) (at .x) writing (at .cells) (now out) ⌝ }
+    ensures moved { λ _. ⌜ HintsMoved (now (row .entry)) (now (row .exit)) ⌝ }
+    ensures long { λ _. ⌜ length (now (ws .exit)) ≡ length (now (ws .entry)) ⌝ }
+    ensures steps { λ r. ⌜ TakesWindow (now (codes .entry)) (having (now (main .entry)) (now (arrivals .entry)) (now (row .entry))) writing at (now (out .entry)) (now (out .exit)) r ⌝ }
 {
     let x = at.x;
     clear(ws);
-    eval_level(codes, 0, 0, GROUPED_BRACKETS, index, entries, x, hints, ws);
+    let start = Step { code: 0, slot: 0 };
+    eval_level(codes, start, GROUPED_BRACKETS, main, arrivals, x, row, ws);
     let cells = put_flips(ws, x, at.cells, writing, out);
     Done {
         cells,
@@ -88,53 +100,49 @@ fn take_window(
 // What the question says of record x, by the senses of its words, which have the first slots.
 fn look_at(
     codes: &[u8],
-    index: &[u8],
-    entries: &[usize],
+    main: &[u8],
+    arrivals: &[u8],
+    row: &mut [usize],
     slots: usize,
     x: u32,
-    hints: &mut [usize],
-    senses: &mut [u32],
 ) -> Look
-    requires lends { ⌜ ReadBy (now index) (now entries) (now hints) ⌝ }
+    requires lends { ⌜ ReadBy (now main) (now arrivals) (now row) ⌝ }
     requires near { ⌜ x ≤ recordMax ⌝ }
-    requires slotted { ⌜ Slotted (now codes) (now index) (now entries) (now senses) slots x ⌝ }
-    ensures hints { λ _. ⌜ length (now (hints .exit)) ≡ length (now (hints .entry)) ⌝ }
-    ensures senses { λ _. ⌜ length (now (senses .exit)) ≡ length (now (senses .entry)) ⌝ }
-    ensures sensed { λ _. ⌜ Sensed (slotHas (now (index .entry)) (now (entries .entry))) (now (senses .exit)) x ⌝ }
-    ensures steady { λ r. ⌜ LooksAt (now (codes .entry)) (now (index .entry)) (now (entries .entry)) x r ⌝ }
+    requires slotted { ⌜ Slotted (now codes) (having (now main) (now arrivals) (now row)) (sensesIn (now row)) slots x ⌝ }
+    ensures slots { λ _. ⌜ SlotsStay (now (row .entry)) (now (row .exit)) ⌝ }
+    ensures sensed { λ _. ⌜ Sensed (having (now (main .entry)) (now (arrivals .entry)) (now (row .entry))) (sensesIn (now (row .exit))) x ⌝ }
+    ensures steady { λ r. ⌜ LooksAt (now (codes .entry)) (having (now (main .entry)) (now (arrivals .entry)) (now (row .entry))) x r ⌝ }
 {
-    renew_senses(index, entries, slots, x, hints, senses);
-    look_level(codes, 0, 0, GROUPED_BRACKETS, senses)
+    renew_senses(main, arrivals, row, slots, x);
+    look_level(codes, 0, 0, GROUPED_BRACKETS, row)
 }
 
 // One step from where the driver stands.
 fn step(
     codes: &[u8],
-    index: &[u8],
-    entries: &[usize],
-    slots: usize,
-    n: u32,
+    main: &[u8],
+    arrivals: &[u8],
+    row: &mut [usize],
+    pass: Pass,
     at: At,
-    hints: &mut [usize],
-    senses: &mut [u32],
     ws: &mut [u64],
-    writing: bool,
     out: &mut [u32],
 ) -> At
-    requires lends { ⌜ ReadBy (now index) (now entries) (now hints) ⌝ }
+    requires lends { ⌜ ReadBy (now main) (now arrivals) (now row) ⌝ }
     requires window { ⌜ length (now ws) ≡ windowMost ⌝ }
-    requires slotted { ⌜ Slotted (now codes) (now index) (now entries) (now senses) slots (at .x) ⌝ }
-    requires stands { ⌜ Stands n at ⌝ }
-    requires room { ⌜ Roomy (now codes) (now index) (now entries) (at .x) writing (at .cells) (now out) ⌝ }
-    ensures keeps { λ _. ⌜ SameLengths (now (hints .entry)) (now (ws .entry)) (now (hints .exit)) (now (ws .exit)) ⌝ }
-    ensures senses { λ _. ⌜ length (now (senses .exit)) ≡ length (now (senses .entry)) ⌝ }
-    ensures sensed { λ r. ⌜ Sensed (slotHas (now (index .entry)) (now (entries .entry))) (now (senses .exit)) (r .x) ⌝ }
+    requires slotted { ⌜ Slotted (now codes) (having (now main) (now arrivals) (now row)) (sensesIn (now row)) (pass .slots) (at .x) ⌝ }
+    requires stands { ⌜ Stands (pass .n) at ⌝ }
+    requires room { ⌜ Roomy (now codes) (having (now main) (now arrivals) (now row)) (at .x) (pass .writing) (at .cells) (now out) ⌝ }
+    ensures slots { λ _. ⌜ SlotsStay (now (row .entry)) (now (row .exit)) ⌝ }
+    ensures long { λ _. ⌜ length (now (ws .exit)) ≡ length (now (ws .entry)) ⌝ }
+    ensures sensed { λ r. ⌜ Sensed (having (now (main .entry)) (now (arrivals .entry)) (now (row .entry))) (sensesIn (now (row .exit))) (r .x) ⌝ }
     ensures some { λ r. ⌜ 1 ≤ r .width ⌝ }
     ensures most { λ r. ⌜ r .width ≤ windowMost ⌝ }
-    ensures moves { λ r. ⌜ Moves (now (codes .entry)) (now (index .entry)) (now (entries .entry)) n writing at (now (out .entry)) (now (out .exit)) r ⌝ }
+    ensures moves { λ r. ⌜ Moves (now (codes .entry)) (having (now (main .entry)) (now (arrivals .entry)) (now (row .entry))) pass at (now (out .entry)) (now (out .exit)) r ⌝ }
 {
+    let Pass { n, slots, writing } = pass;
     let x = at.x;
-    let sight = look_at(codes, index, entries, slots, x, hints, senses);
+    let sight = look_at(codes, main, arrivals, row, slots, x);
     let y = smaller(sight.until, n + 1);
     if x + FAR <= y {
         let done = take_jump(sight.inside, x, y, at.cells, at.records, writing, out);
@@ -146,16 +154,7 @@ fn step(
         };
     }
     let width = at.width;
-    let done = take_window(
-        codes,
-        index,
-        entries,
-        at,
-        hints,
-        &mut ws[0..width],
-        writing,
-        out,
-    );
+    let done = take_window(codes, main, arrivals, row, at, &mut ws[0..width], writing, out);
     At {
         x: smaller(x + 64 * width as u32, n + 1),
         width: doubled(width),
@@ -167,22 +166,20 @@ fn step(
 // Passes the records from 1 to n, and closes the stretch that is still open there.
 fn sweep(
     codes: &[u8],
-    index: &[u8],
-    entries: &[usize],
-    slots: usize,
-    n: u32,
-    hints: &mut [usize],
-    senses: &mut [u32],
+    main: &[u8],
+    arrivals: &[u8],
+    row: &mut [usize],
+    pass: Pass,
     ws: &mut [u64],
-    writing: bool,
     out: &mut [u32],
 ) -> Tally
-    requires lends { ⌜ ReadBy (now index) (now entries) (now hints) ⌝ }
+    requires lends { ⌜ ReadBy (now main) (now arrivals) (now row) ⌝ }
     requires window { ⌜ length (now ws) ≡ windowMost ⌝ }
-    requires highest { ⌜ n ≡ highest (now index) ⌝ }
-    requires slotted { ⌜ Slotted (now codes) (now index) (now entries) (now senses) slots 1 ⌝ }
-    requires room { ⌜ Fits (now codes) (now index) (now entries) n writing (now out) ⌝ }
-    ensures { λ r. ⌜ Tallies (now (codes .entry)) (now (index .entry)) (now (entries .entry)) n writing (now (out .entry)) (now (out .exit)) r ⌝ }
+    requires ends { ⌜ Ends (having (now main) (now arrivals) (now row)) (pass .n) ⌝ }
+    requires slotted { ⌜ Slotted (now codes) (having (now main) (now arrivals) (now row)) (sensesIn (now row)) (pass .slots) 1 ⌝ }
+    requires room { ⌜ Fits (now codes) (having (now main) (now arrivals) (now row)) pass (now out) ⌝ }
+    ensures slots { λ _. ⌜ SlotsStay (now (row .entry)) (now (row .exit)) ⌝ }
+    ensures tallies { λ r. ⌜ Tallies (now (codes .entry)) (having (now (main .entry)) (now (arrivals .entry)) (now (row .entry))) pass (now (out .entry)) (now (out .exit)) r ⌝ }
 {
     let mut at = At {
         x: 1,
@@ -190,56 +187,32 @@ fn sweep(
         cells: 0,
         records: 0,
     };
-    while at.x <= n {
-        at = step(
-            codes,
-            index,
-            entries,
-            slots,
-            n,
-            at,
-            hints,
-            senses,
-            ws,
-            writing,
-            out,
-        );
+    while at.x <= pass.n {
+        at = step(codes, main, arrivals, row, pass, at, ws, out);
     }
-    let cells = put_turn(false, at.x, at.cells, writing, out);
+    let cells = put_turn(false, at.x, at.cells, pass.writing, out);
     Tally {
         intervals: cells / 2,
         records: at.records,
     }
 }
 
-// Counts the intervals and the records of a question's answer, and writes the intervals where `writing` says so.
+// Counts the intervals and the records of a question's answer, and writes the intervals where the pass is to write.
 pub fn sweep_question(
     codes: &[u8],
-    index: &[u8],
-    entries: &[usize],
-    slots: usize,
-    n: u32,
-    writing: bool,
+    main: &[u8],
+    arrivals: &[u8],
+    row: &mut [usize],
+    pass: Pass,
     out: &mut [u32],
 ) -> Tally
-    requires asked { ⌜ AskedBy (now codes) (now index) (now entries) slots ⌝ }
-    requires highest { ⌜ n ≡ highest (now index) ⌝ }
-    requires room { ⌜ Fits (now codes) (now index) (now entries) n writing (now out) ⌝ }
-    ensures { λ r. ⌜ Tallies (now (codes .entry)) (now (index .entry)) (now (entries .entry)) n writing (now (out .entry)) (now (out .exit)) r ⌝ }
+    requires asked { ⌜ AskedBy (now codes) (now main) (now arrivals) (now row) (pass .slots) ⌝ }
+    requires ends { ⌜ Ends (having (now main) (now arrivals) (now row)) (pass .n) ⌝ }
+    requires room { ⌜ Fits (now codes) (having (now main) (now arrivals) (now row)) pass (now out) ⌝ }
+    ensures slots { λ _. ⌜ SlotsStay (now (row .entry)) (now (row .exit)) ⌝ }
+    ensures tallies { λ r. ⌜ Tallies (now (codes .entry)) (having (now (main .entry)) (now (arrivals .entry)) (now (row .entry))) pass (now (out .entry)) (now (out .exit)) r ⌝ }
 {
-    let mut hints: [usize; HINTS] = [0; HINTS];
-    let mut senses: [u32; QUESTION_WORDS_MAX] = [0; QUESTION_WORDS_MAX];
+    forget_senses(row);
     let mut ws: [u64; MOST] = [0; MOST];
-    sweep(
-        codes,
-        index,
-        entries,
-        slots,
-        n,
-        &mut hints,
-        &mut senses,
-        &mut ws,
-        writing,
-        out,
-    )
+    sweep(codes, main, arrivals, row, pass, &mut ws, out)
 }

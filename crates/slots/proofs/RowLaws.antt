@@ -116,8 +116,11 @@ hint-moved row n place h =
 
 -- ---- a row of zeros
 
--- it has no entries of arrivals
-pub blank-alone : (k : ℕ) → endIn (slotsIn (replicate rowLong 0)) (2 * k + 1) ≤ firstIn (slotsIn (replicate rowLong 0)) (2 * k + 1)
+-- no slot has entries of arrivals
+abbrev pub Alone : List ℕ → Type 0
+Alone row = (k : ℕ) → endIn (slotsIn row) (2 * k + 1) ≤ firstIn (slotsIn row) (2 * k + 1)
+
+pub blank-alone : Alone (replicate rowLong 0)
 unfolding slotsIn
 blank-alone k = omega (arith, zeros-at 96 (3 * (2 * k + 1) + 1))
 

@@ -13,6 +13,7 @@ use Rattle.question.proofs.RuleLaws.{Keeps}
 use Rattle.question.proofs.TreeWords.{accepted-words}
 use Rattle.question.proofs.MeaningLaws.{satisfiesBy, satisfies-by}
 use Rattle.slots.specs.Row.{slotsIn, firstIn, endIn}
+use Rattle.slots.proofs.RowLaws.{Alone}
 use Rattle.slots.specs.Having.{entriesHave, slotHas, having}
 use Rattle.slots.specs.Slots.{slotSatisfies}
 use Rattle.slots.specs.Compile.{FillsSlots, TreeSlots}
@@ -42,7 +43,7 @@ alone-has index arrivals slots k x h =
     (or-false (entriesHave index (firstIn slots (2 * k)) (endIn slots (2 * k)) x))
 
 pub compiled-slots : {index s row row′ : List ℕ} {slots : ℕ} → FillsSlots 0 index s row row′ slots →
-    ((k : ℕ) → endIn (slotsIn row) (2 * k + 1) ≤ firstIn (slotsIn row) (2 * k + 1)) → (arrivals : List ℕ) (rule : Rule) → Keeps rule →
+    Alone row → (arrivals : List ℕ) (rule : Rule) → Keeps rule →
     (t : Tree) (n : ℕ) → parsed rule s ≡ parses t n →
     (slots ≡ length (treeWords t)) × TreeSlots (having index arrivals row′) (has index) t
 compiled-slots {index} {s} {row} {row′} c alone arrivals rule keeps t n e =
