@@ -12,7 +12,7 @@ use Rattle.limits.specs.Limits.{indexMax}
 use Rattle.refusal.specs.declared.Refusal.{Refusal}
 use Rattle.refusal.specs.declared.Refusal.the-variants.{BuildSize, Room}
 use Rattle.list.specs.Front.{inFront}
-use Rattle.list.specs.declared.Written.{Written}
+use Rattle.list.specs.Outcome.{Outcome, writes, refused, leftBy, writtenOf}
 use Rattle.list.specs.declared.Written.the-variants.{Wrote, Refused}
 use Rattle.list.specs.Among.{among}
 use Rattle.convert.proofs.NumberLaws.{ascends-good}
@@ -25,7 +25,7 @@ use Rattle.directory.specs.Has.{has}
 use Rattle.index.proofs.SoundLaws.{part-length}
 use Rattle.build.specs.Lent.{lentWords, sumTo, listsFrom}
 use Rattle.layout.specs.Layout.{cellsIn}
-use Rattle.build.specs.Build.{lentOf, sizeAnswer, afterLent, indexFrom, buildOf, Builds}
+use Rattle.build.specs.Build.{lentOf, sizeOutcome, afterLent, indexFrom, buildOutcome, Builds}
 use Rattle.build.specs.Passes.{GoodLent}
 use Rattle.layout.specs.Layout.{Below}
 use Rattle.build.specs.ReadsBack.{Indexable, recordsFor}
@@ -39,28 +39,41 @@ use Rattle.build.proofs.GoodLaws.{EachGood, each-good, lent-good, good-
 never : {A : Type 0} (r : Refusal) (size : ℕ) → Refused r ≡ Wrote size → A
 never r size e = absurd (let z : _≡_ {A = ℕ} 0 1 = cc in omega arith)
 
-size-step : (large fits : Bool) (a size : ℕ) → cond large (Refused (BuildSize 1)) (cond fits (Wrote a) (Refused (Room a))) ≡ Wrote size →
-    (large ≡ false) × (a ≡ size)
-size-step true fits a size e = never (BuildSize 1) size e
-size-step false true a size e = (refl, cc)
-size-step false false a size e = never (Room a) size e
+size-step : (large fits : Bool) (index : List ℕ) (a size : ℕ) →
+    writtenOf a (cond large (refused (BuildSize 1)) (cond fits (writes index) (refused (Room a)))) ≡ Wrote size →
+    (large ≡ false) × (fits ≡ true) × (a ≡ size)
+size-step true fits index a size e = never (BuildSize 1) size e
+size-step false true index a size e = (refl, refl, (cc))
+size-step false false index a size e = never (Room a) size e
 
 pub record Accepted (n : ℕ) (words counts numbers : List ℕ) (size : ℕ) : Type 0 where
   pub lent : GoodLent n words counts numbers
   pub small : length (indexFrom n words counts numbers) ≤ indexMax
   pub is-size : length (indexFrom n words counts numbers) ≡ size
 
-after-passed : (c : Checked) (next : Written) (size : ℕ) → afterLent c next ≡ Wrote size → (c ≡ checked.Good) × (next ≡ Wrote size)
-after-passed (checked.Refused r) next size e = never r size e
-after-passed checked.Good next size e = (refl, e)
+after-passed : (c : Checked) (next : Outcome) (a size : ℕ) → writtenOf a (afterLent c next) ≡ Wrote size → (c ≡ checked.Good) × (writtenOf a next ≡ Wrote size)
+after-passed (checked.Refused r) next a size e = never r size e
+after-passed checked.Good next a size e = (refl, e)
 
-accepted : (n : ℕ) (words counts numbers : List ℕ) (room size : ℕ) → buildOf n words counts numbers room ≡ Wrote size → Accepted n words counts numbers size
-unfolding buildOf
-accepted n words counts numbers room size e =
-    let long = length (indexFrom n words counts numbers) in
-    let p = after-passed (lentOf n words counts numbers) (sizeAnswer long room) size e in
-    let s = size-step (ltb indexMax long) (leb long room) long size (p .1) in
-    record { lent = lent-good (p .0); small = ltb-false indexMax long (s .0); is-size = s .1 }
+module _ (n : ℕ) (words counts numbers : List ℕ) (room size : ℕ)
+    (e : writtenOf (length (indexFrom n words counts numbers)) (buildOutcome n words counts numbers room) ≡ Wrote size) where
+  abbrev asked : List ℕ
+  asked = indexFrom n words counts numbers
+
+  passed : (lentOf n words counts numbers ≡ checked.Good) × (writtenOf (length asked) (sizeOutcome asked room) ≡ Wrote size)
+  unfolding buildOutcome
+  passed = after-passed (lentOf n words counts numbers) (sizeOutcome asked room) (length asked) size e
+
+  sized : (ltb indexMax (length asked) ≡ false) × (leb (length asked) room ≡ true) × (length asked ≡ size)
+  sized = size-step (ltb indexMax (length asked)) (leb (length asked) room) asked (length asked) size (passed .1)
+
+  accepted : Accepted n words counts numbers size
+  accepted = record { lent = lent-good (passed .0); small = ltb-false indexMax (length asked) (sized .0); is-size = sized .2 }
+
+  -- the index that was asked for is written
+  accepted-writes : buildOutcome n words counts numbers room ≡ writes asked
+  unfolding buildOutcome
+  accepted-writes = rw (passed .0, sized .0, sized .1)
 
 -- ---- it makes an index
 
@@ -94,12 +107,12 @@ module _ {n : ℕ} {words counts numbers out out′ : List ℕ} {size : ℕ} (do
   indexable : Indexable true n (lentWords words) (listsFrom counts numbers)
   indexable = accepted-indexable build-accepted
 
-  -- the index that was asked for, and behind it what was there
   abbrev index : List ℕ
   index = indexFrom n words counts numbers
 
+  -- and behind it stands what was there
   pub build-out : out′ ≡ inFront index out
-  build-out = rw (← done .answer) at (done .bytes)
+  build-out = done .bytes ∙ ap (λ (o : Outcome). leftBy o out) (accepted-writes n words counts numbers (length out) size (sym (done .answer)))
 
   pub build-bytes : take size out′ ≡ index
   build-bytes = rw build-out (take-at index (drop (length index) out) size (build-accepted .is-size))

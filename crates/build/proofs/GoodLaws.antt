@@ -17,6 +17,7 @@ use Rattle.refusal.specs.declared.Refusal.the-variants.{BuildWord, BuildCount, 
 use Rattle.refusal.specs.First.{first}
 use Rattle.refusal.proofs.FirstLaws.{first-none}
 use Rattle.list.specs.declared.Written.the-variants as written
+use Rattle.list.specs.Outcome.{refused}
 use Rattle.list.proofs.RecordLaws.{Ascends}
 use Rattle.list.specs.Front.{inFront}
 use Rattle.convert.proofs.NumberLaws.{good-ascends, ascends-good}
@@ -28,7 +29,7 @@ use Rattle.build.specs.declared.words.Words.the-variants.{Counted, Bad}
 use Rattle.layout.specs.declared.entry.Spots.{Spots}
 use Rattle.build.specs.Lent.{lentWords, wordTotal, badLent, badCount, badRest, sumTo, listsFrom}
 use Rattle.layout.specs.Layout.{cellsBytes, listsBytes, wordsBytes}
-use Rattle.build.specs.Build.{badWords, countFault, badCounts, badNumbers, faultThen, lentOf, indexFrom, buildOf, Builds}
+use Rattle.build.specs.Build.{badWords, countFault, badCounts, badNumbers, faultThen, lentOf, indexFrom, buildOutcome, Builds}
 use Rattle.build.specs.Passes.{wordsAnswer, Fair, Lists, GoodLent, lentEntered, AllWithin}
 use Rattle.build.proofs.LentLaws.{LentWord, lent-word, LentCount, lent-count, lent-rest, lists-length, lists-at}
 use Rattle.build.proofs.CountLaws.{list-none, fair-count}
@@ -81,9 +82,9 @@ module _ (n : ℕ) (words counts numbers : List ℕ) where
       unfolding lentOf
       none-refused f g = rw (le-ltb recordMax n h, e, f, g)
 
-  -- and the build's answer by it
-  pub refused-lent : (r : Refusal) (room : ℕ) → lentOf n words counts numbers ≡ Refused r → buildOf n words counts numbers room ≡ written.Refused r
-  unfolding buildOf
+  -- and what comes of the build by it
+  pub refused-lent : (r : Refusal) (room : ℕ) → lentOf n words counts numbers ≡ Refused r → buildOutcome n words counts numbers room ≡ refused r
+  unfolding buildOutcome
   refused-lent r room e = rw e
 
 -- ---- what is good
@@ -166,7 +167,7 @@ module _ {n : ℕ} {words counts numbers : List ℕ} (is : GoodLent n words coun
   index = indexFrom n words counts numbers
 
   pub build-large : {out : List ℕ} → indexMax < length index → Builds n words counts numbers out out (written.Refused (BuildSize 1))
-  unfolding buildOf
+  unfolding buildOutcome
   build-large h = let large = lt-ltb indexMax (length index) h in record { answer = rw (is .good, large); bytes = rw (is .good, large) }
 
   module _ {size : ℕ} (e : length index ≡ size) (h : size ≤ indexMax) where
@@ -174,13 +175,13 @@ module _ {n : ℕ} {words counts numbers : List ℕ} (is : GoodLent n words coun
     small = le-ltb indexMax size h
 
     pub build-cramped : {out : List ℕ} → length out < size → Builds n words counts numbers out out (written.Refused (Room size))
-    unfolding buildOf
+    unfolding buildOutcome
     build-cramped {out} g =
         let cramped = lt-leb size (length out) g in
         record { answer = rw (is .good, e, small, cramped); bytes = rw (is .good, e, small, cramped) }
 
     pub build-wrote : {out out′ : List ℕ} → size ≤ length out → out′ ≡ inFront index out → Builds n words counts numbers out out′ (written.Wrote size)
-    unfolding buildOf
+    unfolding buildOutcome
     build-wrote {out} g w =
         let fits = le-leb size (length out) g in
         record { answer = rw (is .good, e, small, fits); bytes = rw (is .good, e, small, fits) w }

@@ -11,9 +11,8 @@ use Rattle.refusal.specs.declared.Found.the-variants.{At, Nowhere}
 use Rattle.refusal.specs.declared.Refusal.{Refusal}
 use Rattle.refusal.specs.declared.Refusal.the-variants.{BuildWord, BuildCount, BuildSize, Number, Room}
 use Rattle.refusal.specs.First.{first}
-use Rattle.list.specs.Front.{inFront}
+use Rattle.list.specs.Outcome.{Outcome, writes, refused, leftBy, writtenOf}
 use Rattle.list.specs.declared.Written.{Written}
-use Rattle.list.specs.declared.Written.the-variants as written
 use Rattle.index.specs.declared.Checked.{Checked}
 use Rattle.index.specs.declared.Checked.the-variants.{Good, Refused}
 use Rattle.index.specs.Check.{badPlace}
@@ -52,30 +51,24 @@ lentOf n words counts numbers =
     (faultThen Number (badNumbers n words counts numbers) Good)))
 
 -- Reference 9.2: 19 with 1, then 12, by the size of the index
-abbrev pub sizeAnswer : ℕ → ℕ → Written
-sizeAnswer size room =
-    cond (ltb indexMax size) (written.Refused (BuildSize 1)) (cond (leb size room) (written.Wrote size) (written.Refused (Room size)))
+abbrev pub sizeOutcome : List ℕ → ℕ → Outcome
+sizeOutcome index room =
+    cond (ltb indexMax (length index)) (refused (BuildSize 1)) (cond (leb (length index) room) (writes index) (refused (Room (length index))))
 
 -- Reference 9.2: what is lent is refused, or its size answers
-abbrev pub afterLent : Checked → Written → Written
-afterLent (Refused r) next = written.Refused r
+abbrev pub afterLent : Checked → Outcome → Outcome
+afterLent (Refused r) next = refused r
 afterLent Good next = next
 
 -- Reference 8.9: the index that the arguments ask for
 abbrev pub indexFrom : ℕ → List ℕ → List ℕ → List ℕ → List ℕ
 indexFrom n words counts numbers = indexOf n (lentWords words) (listsFrom counts numbers)
 
--- Reference 8.9: the whole answer
-unfoldable pub buildOf : ℕ → List ℕ → List ℕ → List ℕ → ℕ → Written
-buildOf n words counts numbers room =
-    afterLent (lentOf n words counts numbers) (sizeAnswer (length (indexFrom n words counts numbers)) room)
-
--- Reference 7: what the lent bytes hold then
-abbrev pub bytesAfter : Written → List ℕ → List ℕ → List ℕ
-bytesAfter (written.Wrote size) index out = inFront index out
-bytesAfter (written.Refused r) index out = out
+-- Reference 8.9: what comes of a build
+unfoldable pub buildOutcome : ℕ → List ℕ → List ℕ → List ℕ → ℕ → Outcome
+buildOutcome n words counts numbers room = afterLent (lentOf n words counts numbers) (sizeOutcome (indexFrom n words counts numbers) room)
 
 -- Reference 8.9: the promise of a build
 pub record Builds (n : ℕ) (words counts numbers out out′ : List ℕ) (r : Written) : Type 0 where
-  pub answer : r ≡ buildOf n words counts numbers (length out)
-  pub bytes : out′ ≡ bytesAfter (buildOf n words counts numbers (length out)) (indexFrom n words counts numbers) out
+  pub answer : r ≡ writtenOf (length (indexFrom n words counts numbers)) (buildOutcome n words counts numbers (length out))
+  pub bytes : out′ ≡ leftBy (buildOutcome n words counts numbers (length out)) out

@@ -14,10 +14,11 @@ use Rattle.refusal.specs.declared.Found.the-variants.{At, Nowhere}
 use Rattle.refusal.specs.declared.Refusal.{Refusal}
 use Rattle.refusal.specs.declared.Refusal.the-variants.{Number, Interval, Room}
 use Rattle.list.specs.declared.Written.{Written}
-use Rattle.list.specs.declared.Written.the-variants.{Wrote, Refused}
+use Rattle.list.specs.declared.Written.the-variants.{Wrote}
+use Rattle.list.specs.Outcome.{writes, refused, writtenOf}
 use Rattle.list.specs.Interval.{names, intervals, records}
 use Rattle.list.specs.Among.{among}
-use Rattle.convert.specs.Convert.{badNumberOf, badIntervalOf, intervalsOf, numbersOf, answerOf, ToIntervals, ToNumbers}
+use Rattle.convert.specs.Convert.{badNumberOf, badIntervalOf, intervalsOf, numbersOf, conversion, ToIntervals, ToNumbers}
 use Rattle.list.proofs.StretchLaws.{cells-proper, cells-names, cells-even, is-cells}
 use Rattle.list.proofs.RecordLaws.{records-ascend, records-among, is-records, proper-count}
 use Rattle.list.specs.Front.{inFront}
@@ -47,25 +48,27 @@ pub record Accepted (fault : Found) (needed room n : ℕ) : Type 0 where
   pub fits : leb needed room ≡ true
   pub wrote : n ≡ needed
 
-room-step : (t : Bool) (needed room n : ℕ) → leb needed room ≡ t → cond t (Wrote needed) (Refused (Room needed)) ≡ Wrote n → Accepted Nowhere needed room n
-room-step true needed room n e h = record { good = refl; fits = e; wrote = (cc) }
-room-step false needed room n e h = absurd (let z : _≡_ {A = ℕ} 0 1 = cc in omega arith)
+module _ (needed : ℕ) (c : List ℕ) (room n : ℕ) where
+  room-step : (t : Bool) → leb needed room ≡ t → writtenOf needed (cond t (writes c) (refused (Room needed))) ≡ Wrote n → Accepted Nowhere needed room n
+  room-step true e h = record { good = refl; fits = e; wrote = (cc) }
+  room-step false e h = absurd (let z : _≡_ {A = ℕ} 0 1 = cc in omega arith)
 
-pub answer-accepted : (refusal : ℕ → Refusal) (fault : Found) (needed room n : ℕ) → answerOf refusal fault needed room ≡ Wrote n → Accepted fault needed room n
-answer-accepted refusal (At i) needed room n h = absurd (let z : _≡_ {A = ℕ} 0 1 = cc in omega arith)
-answer-accepted refusal Nowhere needed room n h = room-step (leb needed room) needed room n refl h
+  pub answer-accepted : (refusal : ℕ → Refusal) (fault : Found) → writtenOf needed (conversion refusal fault needed c room) ≡ Wrote n →
+      Accepted fault needed room n
+  answer-accepted refusal (At i) h = absurd (let z : _≡_ {A = ℕ} 0 1 = cc in omega arith)
+  answer-accepted refusal Nowhere h = room-step (leb needed room) refl h
 
 -- the cells that a call wrote, at the front of what it leaves
 pub intervals-written : (xs out out′ : List ℕ) (n : ℕ) → ToIntervals xs out out′ (Wrote n) → take (2 * n) out′ ≡ intervalsOf xs
 intervals-written xs out out′ n p =
-    let w = answer-accepted Number (badNumberOf xs) (intervals (intervalsOf xs)) (length out / 2) n (sym (p .answer)) in
+    let w = answer-accepted (intervals (intervalsOf xs)) (intervalsOf xs) (length out / 2) n Number (badNumberOf xs) (sym (p .answer)) in
     let k : 2 * n ≡ length (intervalsOf xs) = ap (λ (m : ℕ). 2 * m) (w .wrote) ∙ cells-even (among xs) recordMax in
     let e : out′ ≡ inFront (intervalsOf xs) out = p .cells ∙ rw (w .good, w .fits) in
     rw (e, k) (take-append-seam (intervalsOf xs) (drop (length (intervalsOf xs)) out))
 
 pub numbers-written : (c out out′ : List ℕ) (n : ℕ) → ToNumbers c out out′ (Wrote n) → take n out′ ≡ numbersOf c
 numbers-written c out out′ n p =
-    let w = answer-accepted Interval (badIntervalOf c) (records c) (length out) n (sym (p .answer)) in
+    let w = answer-accepted (records c) (numbersOf c) (length out) n Interval (badIntervalOf c) (sym (p .answer)) in
     let k : n ≡ length (numbersOf c) = w .wrote ∙ proper-count recordMax c (good-proper c (w .good)) in
     let e : out′ ≡ inFront (numbersOf c) out = p .cells ∙ rw (w .good, w .fits) in
     rw (e, k) (take-append-seam (numbersOf c) (drop (length (numbersOf c)) out))
@@ -75,7 +78,7 @@ pub to-numbers-back : (xs out out′ room room′ : List ℕ) (n : ℕ) (s : Wri
     ToIntervals xs out out′ (Wrote n) → ToNumbers (take (2 * n) out′) room room′ s → length xs ≤ length room →
     (s ≡ Wrote (length xs)) × (room′ ≡ inFront xs room)
 to-numbers-back xs out out′ room room′ n s p q h =
-    let w = answer-accepted Number (badNumberOf xs) (intervals (intervalsOf xs)) (length out / 2) n (sym (p .answer)) in
+    let w = answer-accepted (intervals (intervalsOf xs)) (intervalsOf xs) (length out / 2) n Number (badNumberOf xs) (sym (p .answer)) in
     let e = numbers-back xs (w .good) in
     let k : records (intervalsOf xs) ≡ length xs =
     proper-count recordMax (intervalsOf xs) (cells-proper (among xs) recordMax recordMax (omega arith)) ∙ ap length e in
@@ -88,7 +91,7 @@ pub to-intervals-back : (c out out′ room room′ : List ℕ) (n : ℕ) (s : Wr
     ToNumbers c out out′ (Wrote n) → ToIntervals (take n out′) room room′ s → length c ≤ length room →
     (s ≡ Wrote (intervals c)) × (room′ ≡ inFront c room)
 to-intervals-back c out out′ room room′ n s p q h =
-    let w = answer-accepted Interval (badIntervalOf c) (records c) (length out) n (sym (p .answer)) in
+    let w = answer-accepted (records c) (numbersOf c) (length out) n Interval (badIntervalOf c) (sym (p .answer)) in
     let e = intervals-back c (w .good) in
     let f : leb (intervals c) (length room / 2) ≡ true = le-leb (intervals c) (length room / 2) (omega arith) in
     let v : ToIntervals (numbersOf c) room room′ s = rw (← numbers-written c out out′ n p) q in

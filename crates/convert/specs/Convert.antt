@@ -12,9 +12,8 @@ use Rattle.refusal.specs.declared.Refusal.{Refusal}
 use Rattle.refusal.specs.declared.Refusal.the-variants.{Number, Interval, Room}
 use Rattle.refusal.specs.First.{first}
 use Rattle.list.specs.declared.Written.{Written}
-use Rattle.list.specs.declared.Written.the-variants.{Wrote, Refused}
 use Rattle.list.specs.Interval.{names, intervals, records}
-use Rattle.list.specs.Front.{inFront}
+use Rattle.list.specs.Outcome.{Outcome, writes, refused, leftBy, writtenOf}
 use Rattle.list.specs.Among.{among}
 use Rattle.list.specs.Stretches.{cellsOf, recordsOf}
 
@@ -40,15 +39,10 @@ badInterval c i =
     || ltb (getD c (2 * i + 1) 0) (getD c (2 * i) 0)
     || ltb recordMax (getD c (2 * i + 1) 0)
 
--- Reference 9.2: a fault first, then 12 with what is needed; else that much is written
-abbrev pub answerOf : (ℕ → Refusal) → Found → ℕ → ℕ → Written
-answerOf refusal (At i) needed room = Refused (refusal i)
-answerOf refusal Nowhere needed room = cond (leb needed room) (Wrote needed) (Refused (Room needed))
-
--- Reference 7: what is written stands in front, and the rest stays; a refusal leaves all as it was
-abbrev pub leftOf : Found → ℕ → ℕ → List ℕ → List ℕ → List ℕ
-leftOf (At i) needed room written out = out
-leftOf Nowhere needed room written out = cond (leb needed room) (inFront written out) out
+-- Reference 9.2: a fault first, then 12 with what is needed; else c is written
+abbrev pub conversion : (ℕ → Refusal) → Found → ℕ → List ℕ → ℕ → Outcome
+conversion refusal (At i) needed c room = refused (refusal i)
+conversion refusal Nowhere needed c room = cond (leb needed room) (writes c) (refused (Room needed))
 
 -- Reference 9.2: 15, with the limit of all record numbers
 abbrev pub badNumberOf : List ℕ → Found
@@ -60,8 +54,8 @@ intervalsOf xs = cellsOf (among xs) recordMax
 
 -- Reference 8.7: the room is half of the cells
 pub record ToIntervals (xs out out′ : List ℕ) (r : Written) : Type 0 where
-  pub answer : r ≡ answerOf Number (badNumberOf xs) (intervals (intervalsOf xs)) (length out / 2)
-  pub cells : out′ ≡ leftOf (badNumberOf xs) (intervals (intervalsOf xs)) (length out / 2) (intervalsOf xs) out
+  pub answer : r ≡ writtenOf (intervals (intervalsOf xs)) (conversion Number (badNumberOf xs) (intervals (intervalsOf xs)) (intervalsOf xs) (length out / 2))
+  pub cells : out′ ≡ leftBy (conversion Number (badNumberOf xs) (intervals (intervalsOf xs)) (intervalsOf xs) (length out / 2)) out
 
 -- Reference 9.2: 16; a last cell without a second counts as an interval
 abbrev pub badIntervalOf : List ℕ → Found
@@ -73,5 +67,5 @@ numbersOf c = recordsOf (names c) recordMax
 
 -- Reference 8.8: the room is all of the cells
 pub record ToNumbers (c out out′ : List ℕ) (r : Written) : Type 0 where
-  pub answer : r ≡ answerOf Interval (badIntervalOf c) (records c) (length out)
-  pub cells : out′ ≡ leftOf (badIntervalOf c) (records c) (length out) (numbersOf c) out
+  pub answer : r ≡ writtenOf (records c) (conversion Interval (badIntervalOf c) (records c) (numbersOf c) (length out))
+  pub cells : out′ ≡ leftBy (conversion Interval (badIntervalOf c) (records c) (numbersOf c) (length out)) out

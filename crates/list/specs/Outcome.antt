@@ -2,6 +2,8 @@
 use Prim.Native.Nat.{ℕ}
 use mathlib.Core.List.{List}
 use Rattle.refusal.specs.declared.Refusal.{Refusal}
+use Rattle.list.specs.declared.Written.{Written}
+use Rattle.list.specs.declared.Written.the-variants.{Wrote, Refused}
 use Rattle.list.specs.Front.{inFront}
 
 -- Reference 7: what the call writes, or the first refusal that holds
@@ -13,3 +15,8 @@ pub data Outcome : Type 0 where
 abbrev pub leftBy : Outcome → List ℕ → List ℕ
 leftBy (writes c) out = inFront c out
 leftBy (refused r) out = out
+
+-- Reference 7: what a conversion and a build answer, n where they write
+abbrev pub writtenOf : ℕ → Outcome → Written
+writtenOf n (writes c) = Wrote n
+writtenOf n (refused r) = Refused r

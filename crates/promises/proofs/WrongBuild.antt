@@ -13,10 +13,11 @@ use Rattle.list.specs.Among.{among}
 use Rattle.question.specs.Token.{run}
 use Rattle.list.specs.declared.Written.{Written}
 use Rattle.list.specs.declared.Written.the-variants.{Wrote, Refused}
+use Rattle.list.specs.Outcome.{Outcome, leftBy, writtenOf}
 use Rattle.refusal.specs.declared.Refusal.the-variants.{Room}
 use Rattle.build.specs.Lent.{wordsFrom, lentWords, restFrom, restOf, wordTotal, badLent, sumTo, badCount, badRest, beginsList, badListed, listsFrom}
 use Rattle.layout.specs.Layout.{cellsBytes, cellSingles, cellLowers, cellUppers, keptBytes, listsBytes, wordsBytes, directoryBytes, indexOf}
-use Rattle.build.specs.Build.{lentOf, indexFrom, buildOf, bytesAfter}
+use Rattle.build.specs.Build.{lentOf, indexFrom, buildOutcome}
 use Rattle.promises.specs.Outcome.{OneOutcome}
 use Rattle.promises.specs.Wrong.{Fails, builds, Refusing, Fixed, Silent, FirstOnly, Inventing, Misreporting, writtenRefused, firstBuilt}
 use Rattle.promises.specs.Wrong.{writtenIn, neededBy}
@@ -27,11 +28,14 @@ use Rattle.promises.proofs.WrongLaws.{refusing-fails, fixed-fails, sile
 abbrev Args : Type 0
 Args = ℕ × List ℕ × List ℕ × List ℕ
 
+abbrev outcome : Args → List ℕ → Outcome
+outcome a out = buildOutcome (a .0) (a .1) (a .2) (a .3) (length out)
+
 abbrev answered : Args → List ℕ → Written
-answered a out = buildOf (a .0) (a .1) (a .2) (a .3) (length out)
+answered a out = writtenOf (length (indexFrom (a .0) (a .1) (a .2) (a .3))) (outcome a out)
 
 abbrev after : Args → List ℕ → List ℕ
-after a out = bytesAfter (answered a out) (indexFrom (a .0) (a .1) (a .2) (a .3)) out
+after a out = leftBy (outcome a out) out
 
 known : (a : Args) (out : List ℕ) → builds a out (after a out) (answered a out)
 known a out = record { answer = refl; bytes = refl }
@@ -61,7 +65,7 @@ Outcomes =
     × (getD (after one zeros) 4 0 ≡ 97)
 
 outcomes : Outcomes
-unfolding firstFrom first isWordByte allWordBytes same before smallLetter smallOperatorOf operatorOf isOperator isWord stretches cellsOf among wordsFrom lentWords restFrom restOf wordTotal badLent sumTo badCount badRest beginsList badListed listsFrom cellsBytes cellSingles cellLowers cellUppers keptBytes listsBytes wordsBytes directoryBytes indexOf lentOf buildOf
+unfolding firstFrom first isWordByte allWordBytes same before smallLetter smallOperatorOf operatorOf isOperator isWord stretches cellsOf among wordsFrom lentWords restFrom restOf wordTotal badLent sumTo badCount badRest beginsList badListed listsFrom cellsBytes cellSingles cellLowers cellUppers keptBytes listsBytes wordsBytes directoryBytes indexOf lentOf buildOutcome
 outcomes = (refl, refl, refl, refl, refl, refl, refl)
 
 differ : after two zeros ≡ after one zeros → ⊥

@@ -7,37 +7,48 @@ use mathlib.Core.List.{List, [], _∷_}
 use mathlib.Core.Option.{Option}
 use lib.ListN.{length}
 use Rattle.limits.specs.Limits.{recordMax}
+use Rattle.refusal.specs.declared.Found.{Found}
 use Rattle.refusal.specs.declared.Found.the-variants.{Nowhere}
 use Rattle.refusal.specs.declared.Refusal.the-variants.{Number, Interval}
 use Rattle.refusal.specs.First.{firstFrom, first}
 use Rattle.list.specs.declared.Written.{Written}
+use Rattle.list.specs.Outcome.{Outcome, leftBy, writtenOf}
 use Rattle.list.specs.Interval.{properFrom, isProper, intervals, records}
 use Rattle.list.specs.Stretches.{recordsFrom}
-use Rattle.convert.specs.Convert.{badNumber, badInterval, answerOf, leftOf, badNumberOf, intervalsOf, ToIntervals, badIntervalOf, numbersOf, ToNumbers}
+use Rattle.convert.specs.Convert.{badNumber, badInterval, conversion, badNumberOf, intervalsOf, ToIntervals, badIntervalOf, numbersOf, ToNumbers}
 use Rattle.convert.proofs.RunLaws.{runsFrom, runs, runs-cells}
 use Rattle.convert.proofs.SpanLaws.{spans, spans-records}
 use Rattle.promises.specs.Wrong.{Fails, toIntervals, toNumbers, Refusing, Fixed, Silent, Inventing, Misreporting, writtenRefused, writtenIn, neededBy}
 use Rattle.promises.proofs.Determined.{intervals-determined, numbers-determined}
 use Rattle.promises.proofs.WrongLaws.{refusing-fails, fixed-fails, silent-fails, inventing-fails, misreporting-fails, differ-at}
 
+-- what comes of numbers, by their first bad one and the list c
+abbrev listed : Found → List ℕ → ℕ → Outcome
+listed bad c room = conversion Number bad (intervals c) c room
+
 to-intervals-known : (xs out : List ℕ) → badNumberOf xs ≡ Nowhere →
-    ToIntervals xs out (leftOf Nowhere (intervals (runs xs)) (length out / 2) (runs xs) out) (answerOf Number Nowhere (intervals (runs xs)) (length out / 2))
+    ToIntervals xs out (leftBy (listed Nowhere (runs xs) (length out / 2)) out) (writtenOf (intervals (runs xs)) (listed Nowhere (runs xs) (length out / 2)))
 to-intervals-known xs out good =
     let room = length out / 2 in
+    let c = intervalsOf xs in
     let is = runs-cells recordMax xs good in
     record {
-      answer = ap (λ c. answerOf Number Nowhere (intervals c) room) is ∙ ap (λ g. answerOf Number g (intervals (intervalsOf xs)) room) (sym good);
-      cells = ap (λ c. leftOf Nowhere (intervals c) room c out) is ∙ ap (λ g. leftOf g (intervals (intervalsOf xs)) room (intervalsOf xs) out) (sym good);
+      answer = ap (λ l. writtenOf (intervals l) (listed Nowhere l room)) is ∙ ap (λ g. writtenOf (intervals c) (listed g c room)) (sym good);
+      cells = ap (λ l. leftBy (listed Nowhere l room) out) is ∙ ap (λ g. leftBy (listed g c room) out) (sym good);
     }
 
+-- and of the cells c, by their first bad interval and the numbers xs
+abbrev numbered : Found → List ℕ → List ℕ → ℕ → Outcome
+numbered bad c xs room = conversion Interval bad (records c) xs room
+
 to-numbers-known : (c out : List ℕ) → badIntervalOf c ≡ Nowhere → isProper recordMax c ≡ true →
-    ToNumbers c out (leftOf Nowhere (records c) (length out) (spans c) out) (answerOf Interval Nowhere (records c) (length out))
+    ToNumbers c out (leftBy (numbered Nowhere c (spans c) (length out)) out) (writtenOf (records c) (numbered Nowhere c (spans c) (length out)))
 to-numbers-known c out good proper =
     let room = length out in
     let is = spans-records recordMax c proper in
     record {
-      answer = ap (λ g. answerOf Interval g (records c) room) (sym good);
-      cells = ap (λ x. leftOf Nowhere (records c) room x out) is ∙ ap (λ g. leftOf g (records c) room (numbersOf c) out) (sym good);
+      answer = ap (λ l. writtenOf (records c) (numbered Nowhere c l room)) is ∙ ap (λ g. writtenOf (records c) (numbered g c (numbersOf c) room)) (sym good);
+      cells = ap (λ l. leftBy (numbered Nowhere c l room) out) is ∙ ap (λ g. leftBy (numbered g c (numbersOf c) room) out) (sym good);
     }
 
 -- ---- numbers to intervals

@@ -14,9 +14,9 @@ use Rattle.list.specs.declared.Written.the-variants as written
 use Rattle.list.specs.declared.answer.Answer.{Answer}
 use Rattle.list.specs.declared.answer.Answer.the-variants as answer
 use Rattle.list.specs.Interval.{intervals, records}
-use Rattle.list.specs.Outcome.{leftBy}
-use Rattle.list.specs.Answer as list
-use Rattle.convert.specs.Convert.{answerOf, leftOf, badNumberOf, intervalsOf, badIntervalOf, numbersOf}
+use Rattle.list.specs.Outcome.{leftBy, writtenOf}
+use Rattle.list.specs.Answer.{answerOf}
+use Rattle.convert.specs.Convert.{conversion, badNumberOf, intervalsOf, badIntervalOf, numbersOf}
 use Rattle.directory.specs.declared.Lookup.{Lookup}
 use Rattle.directory.specs.declared.Lookup.the-variants.{Entry, NoEntry}
 use Rattle.directory.specs.declared.Probed.{Probed}
@@ -27,38 +27,35 @@ use Rattle.join.specs.Join.{requestOf, joinOutcome}
 use Rattle.question.specs.Reading.{asked}
 use Rattle.source.specs.Source.{satisfying, ofIndex}
 use Rattle.source.specs.Ask.{questionOutcome}
-use Rattle.build.specs.Build.{buildOf, indexFrom, bytesAfter}
+use Rattle.build.specs.Build.{indexFrom, buildOutcome}
 use Rattle.promises.specs.Wrong.{Writer, Promise, Meets, Equals}
 
 -- ---- right ones: Reference 8.5 to 8.9
 
 abbrev pub rightIntervals : Writer (List ℕ) Written
-rightIntervals xs out = (
-  answerOf Number (badNumberOf xs) (intervals (intervalsOf xs)) (length out / 2),
-  leftOf (badNumberOf xs) (intervals (intervalsOf xs)) (length out / 2) (intervalsOf xs) out,
-)
+rightIntervals xs out =
+    let o = conversion Number (badNumberOf xs) (intervals (intervalsOf xs)) (intervalsOf xs) (length out / 2) in
+    (writtenOf (intervals (intervalsOf xs)) o, leftBy o out)
 
 abbrev pub rightNumbers : Writer (List ℕ) Written
-rightNumbers c out = (
-  answerOf Interval (badIntervalOf c) (records c) (length out),
-  leftOf (badIntervalOf c) (records c) (length out) (numbersOf c) out,
-)
+rightNumbers c out =
+    let o = conversion Interval (badIntervalOf c) (records c) (numbersOf c) (length out) in
+    (writtenOf (records c) o, leftBy o out)
 
 abbrev pub rightJoin : (List (List ℕ) → List ℕ) → Writer (List ℕ × List ℕ) Answer
 rightJoin method a out =
     let o = joinOutcome (requestOf (a .0) (a .1)) (method (listsOf (a .0) (a .1))) (length out / 2) in
-    (list.answerOf o, leftBy o out)
+    (answerOf o, leftBy o out)
 
 abbrev pub rightAsk : Writer (List ℕ × ℕ × List ℕ) Answer
 rightAsk a out =
     let o = questionOutcome (checkOf (a .0)) (asked (a .1) (a .2)) (satisfying (ofIndex (a .0))) (length out / 2) in
-    (list.answerOf o, leftBy o out)
+    (answerOf o, leftBy o out)
 
 abbrev pub rightBuild : Writer (ℕ × List ℕ × List ℕ × List ℕ) Written
-rightBuild a out = (
-  buildOf (a .0) (a .1) (a .2) (a .3) (length out),
-  bytesAfter (buildOf (a .0) (a .1) (a .2) (a .3) (length out)) (indexFrom (a .0) (a .1) (a .2) (a .3)) out,
-)
+rightBuild a out =
+    let o = buildOutcome (a .0) (a .1) (a .2) (a .3) (length out) in
+    (writtenOf (length (indexFrom (a .0) (a .1) (a .2) (a .3))) o, leftBy o out)
 
 -- ---- what is made of one: Reference 11
 

@@ -15,7 +15,7 @@ returns c =
     let start = c .before .before .before .before .before .before .before .before .args in
     let e = sym (c .before .before .before .check-lent .ensures) ∙ c .before .refusal .given .1 in
     let after = refused-lent (start .n) (now (start .words)) (now (start .counts)) (now (start .numbers)) _ (length (now (start .out))) e in
-    record { answer = sym after; bytes = rw after }
+    record { answer = rw after; bytes = rw after }
 
 pub build-index-spec : {M : Type 1} → statement M
 build-index-spec =
