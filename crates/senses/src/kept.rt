@@ -103,7 +103,8 @@ fn renew_sense(main: &[u8], arrivals: &[u8], row: &mut [usize], k: usize, x: u32
     requires near { ⌜ x ≤ recordMax ⌝ }
     requires sensed { ⌜ Sensed (having (now main) (now arrivals) (now row)) (sensesIn (now row)) x ⌝ }
     ensures slots { λ _. ⌜ SlotsStay (now (row .entry)) (now (row .exit)) ⌝ }
-    ensures renews { λ _. ⌜ Renewed (having (now (main .entry)) (now (arrivals .entry)) (now (row .entry))) x k (sensesIn (now (row .entry))) (sensesIn (now (row .exit))) ⌝ }
+    ensures renews { λ _.
+        ⌜ Renewed (having (now (main .entry)) (now (arrivals .entry)) (now (row .entry))) x k (sensesIn (now (row .entry))) (sensesIn (now (row .exit))) ⌝ }
 {
     if x < sense_of(row, k).until {
         return;

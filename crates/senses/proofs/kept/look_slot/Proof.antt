@@ -1,8 +1,7 @@
 -- Each range says it for its index; the slot has what either has.
-use Prim.Native.Nat.{_+_, _*_}
+use Prim.Native.Nat.{ℕ, _+_, _*_}
 use mathlib.Core.Path.{ap, _∙_}
 use mathlib.Core.List.{List}
-use Prim.Native.Nat.{ℕ}
 use Rattle.list.specs.Sense.{Steady}
 use Rattle.slots.specs.Row.{slotsIn, firstIn, endIn, HintsMoved}
 use Rattle.slots.specs.Having.{entriesHave}

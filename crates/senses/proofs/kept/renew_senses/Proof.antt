@@ -5,7 +5,7 @@ use mathlib.Core.Path.{refl, sym, _∙_}
 use Rattle.slots.specs.Row.{sensesIn, untilOf, SlotsStay}
 use Rattle.slots.specs.Having.{having}
 use Rattle.slots.proofs.RowLaws.{stay-both}
-use Rattle.senses.specs.Senses.{Sensed, Renewed}
+use Rattle.senses.specs.Senses.{Sensed}
 use Rattle.senses.proofs.KeptSenses.{sensed-known, renewed-next}
 use borrow.Author.Needs.{needs}
 use Rattle.senses.proofs.kept.renew_senses.Statement.{statement}

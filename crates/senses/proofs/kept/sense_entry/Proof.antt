@@ -1,5 +1,4 @@
 -- The list of the entry says it; of the row a hint alone is moved.
-use mathlib.Core.Path.{_≡_, sym}
 use Rattle.directory.specs.Regions.{listPlace}
 use Rattle.slots.proofs.RowLaws.{hint-moved}
 use Rattle.senses.proofs.RangeSenses.{entry-steady}
