@@ -91,41 +91,41 @@ module _ {s : Source} {rule : ℕ} {codes : List ℕ} {v : ℕ → ℕ → Bool}
 -- ---- its list
 
 -- by what the slots have or by what the source has of the words
-test-cells : {s : Source} {v : ℕ → ℕ → Bool} {n : ℕ} {t : Tree} → s .highest ≡ n → ((x : ℕ) → testOf v t x ≡ satisfies (s .has) t x) →
+test-cells : (s : Source) (v : ℕ → ℕ → Bool) {n : ℕ} (t : Tree) → s .highest ≡ n → ((x : ℕ) → testOf v t x ≡ satisfies (s .has) t x) →
     cellsOf (testOf v t) n ≡ satisfying s t
 unfolding satisfying
-test-cells {s} {v} {n} {t} last same =
+test-cells s v {n} t last same =
     ap (cellsOf (testOf v t)) (sym last) ∙ cells-same (testOf v t) (satisfies (s .has) t) (s .highest) (λ x h g. same x)
 
 module _ {s : Source} {codes : List ℕ} {v : ℕ → ℕ → Bool} {n most : ℕ} {t : Tree} (last : s .highest ≡ n) (prepared : Prepared s codes v most t) where
   -- a pass over the test's list is one over the answer
   pub prepared-swept : {writing : Bool} {out out′ : List ℕ} {r : Tally} → Sweeps (cellsOf (testOf v t) n) writing out out′ r →
       Sweeps (satisfying s t) writing out out′ r
-  prepared-swept w = rw (test-cells last (prepared .same)) at w
+  prepared-swept w = rw (test-cells s v t last (prepared .same)) at w
 
   pub prepared-length : length (cellsOf (testOf v t) n) ≡ length (satisfying s t)
-  prepared-length = ap length (test-cells last (prepared .same))
+  prepared-length = ap length (test-cells s v t last (prepared .same))
 
 -- ---- prepared for the driver
 
-module _ {s : Source} {main arrivals row : List ℕ} {slots : ℕ} {t : Tree} (lent : ReadBy main arrivals row) (last : s .highest ≡ lastOf main arrivals) where
-  pub pair-ends : Ends (having main arrivals row) (lastOf main arrivals)
-  pair-ends = record {
-    near = omega (arith, sound-trailer main (lent .main-sound) .highest-bound, sound-trailer arrivals (lent .arrivals-sound) .highest-bound);
-    above = slot-above main arrivals (slotsIn row) (lent .main-sound) (lent .arrivals-sound) (lastOf main arrivals) (omega arith) (omega arith);
-  }
+pub slots-end : {main arrivals row : List ℕ} {n : ℕ} → ReadBy main arrivals row → lastOf main arrivals ≡ n → Ends (having main arrivals row) n
+slots-end {main} {arrivals} {row} {n} lent e = record {
+  near = omega (arith, sound-trailer main (lent .main-sound) .highest-bound, sound-trailer arrivals (lent .arrivals-sound) .highest-bound);
+  above = slot-above main arrivals (slotsIn row) (lent .main-sound) (lent .arrivals-sound) n (omega arith) (omega arith);
+}
 
+module _ {s : Source} {main arrivals row : List ℕ} {slots : ℕ} {t : Tree} (lent : ReadBy main arrivals row) (last : s .highest ≡ lastOf main arrivals) where
   -- codes that from the left read as t, with slots for its words
   reads-prepared : {codes : List ℕ} → TreeOf codes t → slots ≡ length (treeWords t) → TreeSlots (having main arrivals row) (s .has) t →
       Prepared s codes (having main arrivals row) (slotsIntervals main arrivals (slotsIn row) 0 slots) t
   reads-prepared reads all have =
       let v = having main arrivals row in
-      let same = λ (x : ℕ). slot-satisfies v (s .has) t x (λ i h. have i h x) in
+      let same : (x : ℕ) → testOf v t x ≡ satisfies (s .has) t x = λ x. slot-satisfies v (s .has) t x (λ i h. have i h x) in
       record {
         reads = reads;
         same = same;
         bound =
-            rw (← test-cells last same, all)
+            rw (← test-cells s v t last same, all)
             (slots-bound main arrivals (slotsIn row) (lent .main-sound) (lent .arrivals-sound) (lastOf main arrivals) (omega arith) (omega arith) t);
       }
 

@@ -69,7 +69,7 @@ pub window-room : (p : ℕ → Bool) (x k : ℕ) (ws out : List ℕ) → Holds p
 window-room p x k ws out h room = rw (window-part p x k (64 * length ws) ws refl h) room
 
 -- the window is evaluated from a blank one
-pub evaluated-length : {ws ws′ : List ℕ} (ws₀ : List ℕ) → length ws′ ≡ length ws → ws ≡ replicate (length ws₀) 0 → length ws′ ≡ length ws₀
+pub evaluated-length : {ws : List ℕ} {m : ℕ} (ws₀ : List ℕ) → m ≡ length ws → ws ≡ replicate (length ws₀) 0 → m ≡ length ws₀
 evaluated-length {ws} ws₀ e blank = e ∙ blank-length ws ws₀ blank
 
 pub members-few : (ws : List ℕ) (r : ℕ) → ((x : ℕ) → r ≡ length (recordsFrom (member ws x) x (64 * length ws))) → r ≤ 64 * length ws

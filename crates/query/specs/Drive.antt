@@ -1,7 +1,7 @@
 -- The driver, which passes the records from 1 to N step by step and counts, or writes, the cells of those that satisfy a question.
 use Prim.Native.Nat.{ℕ, _+_, _*_, _≤_, _<_, min}
 use mathlib.Core.Path.{_≡_}
-use mathlib.Core.Bool.{Bool, true}
+use mathlib.Core.Bool.{Bool, true, false}
 use mathlib.Core.List.{List, []}
 use lib.ListN.{length}
 use Rattle.limits.specs.Limits.{questionWordsMax, recordMax}

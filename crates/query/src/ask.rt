@@ -107,7 +107,15 @@ fn answer_accepted(index: &[u8], rule: u32, question: &[u8], out: &mut [u32]) ->
     let mut row: [usize; ROW] = [0; ROW];
     let compiled = compile(index, question, &mut codes, &mut row);
     let count = compiled.codes;
-    answer_codes(rule, &codes[0..count], index, index, &mut row, compiled.slots, out)
+    answer_codes(
+        rule,
+        &codes[0..count],
+        index,
+        index,
+        &mut row,
+        compiled.slots,
+        out,
+    )
 }
 
 // Reference 8.10: answers a question over an index that is sound.

@@ -154,7 +154,16 @@ fn step(
         };
     }
     let width = at.width;
-    let done = take_window(codes, main, arrivals, row, at, &mut ws[0..width], writing, out);
+    let done = take_window(
+        codes,
+        main,
+        arrivals,
+        row,
+        at,
+        &mut ws[0..width],
+        writing,
+        out,
+    );
     At {
         x: smaller(x + 64 * width as u32, n + 1),
         width: doubled(width),
