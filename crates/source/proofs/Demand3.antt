@@ -5,6 +5,8 @@
 --   same-records      where both write the same cells, every record from 1 to N satisfies both or neither.
 -- Let `before ( a ) behind` be accepted over it, a and b be accepted by themselves and satisfied by the same records, and `before ( b ) behind` be
 -- within the limits of bytes, words and brackets. Then for two calls with equal room
+--   exchange-records  the second question, where it is accepted, is satisfied by the same records, so that it is listed alike also where the lists of two
+--                     sources are put together;
 --   exchange-answers  the second question is accepted too, both calls answer the same, the list or refusal 12 with its value, and the cells that they write
 --                     are equal; no other cell is changed;
 --   exchange-pair     the same, where of a no more is known than that the brackets around it are a pair, since then a is accepted by itself;
@@ -38,7 +40,7 @@ use Rattle.question.specs.Rules.{ruleOf}
 use Rattle.question.specs.Meaning.{satisfies}
 use Rattle.question.specs.Reading.{Parsed, parses, asked}
 use Rattle.question.specs.Limits.{tokenWords}
-use Rattle.question.specs.Exchange.{around, Matched, Exchangeable, AcceptedToo}
+use Rattle.question.specs.Exchange.{around, Matched, Exchangeable, Exchanged}
 use Rattle.question.proofs.RuleLaws.{rule-respects}
 use Rattle.question.proofs.ParsedLaws.{accepted-within, asked-reads, asked-parsed}
 use Rattle.question.proofs.Exchange.{exchange, inside-accepted}
@@ -121,9 +123,8 @@ inside-asked rule before a behind t n accepted matched =
     (by .tree, asked-reads rule a (read .0) ∙ by .accepted)
 
 module _ (check : Checked) (rule : ℕ) (s : Source) (before a b behind : List ℕ) where
-  -- the second question is accepted, and the same records satisfy it
-  changed : (e : Exchanging check rule s before a b behind) → AcceptedToo (ruleOf rule) (clip s) (around before b behind) (e .tree)
-  changed e =
+  exchanged : (e : Exchanging check rule s before a b behind) → Exchanged (ruleOf rule) (clip s) (e .tree) (around before b behind)
+  exchanged e =
       let parts : Exchangeable (ruleOf rule) (clip s) a b =
       record {
         tree-a = e .tree-a;
@@ -135,16 +136,22 @@ module _ (check : Checked) (rule : ℕ) (s : Source) (before a b behind : List �
         same = same-everywhere s (e .tree-a) (e .tree-b) (e .same);
       } in
       exchange (ruleOf rule) (rule-respects rule) (clip s) a b parts before behind (e .tree) (e .words)
-      (asked-parsed rule (around before a behind) (e .tree) (e .words) (e .accepted) .1) .accepted (e .within)
+      (asked-parsed rule (around before a behind) (e .tree) (e .words) (e .accepted) .1)
+
+  -- the same records satisfy the second question
+  pub exchange-records : (e : Exchanging check rule s before a b behind) (u : Tree) (n : ℕ) → asked rule (around before b behind) ≡ parses u n →
+      SameRecords s (e .tree) u
+  exchange-records e u n h =
+      same-within s (e .tree) u (exchanged e .satisfies-same u n (asked-parsed rule (around before b behind) u n h .1))
 
   pub exchange-answers : Exchanging check rule s before a b behind → CallsAgree check rule s (around before a behind) (around before b behind)
   exchange-answers e out out′ other other′ r r′ room one-call other-call =
-      let too = changed e in
+      let too = exchanged e .accepted (e .within) in
       let second-asked = asked-reads rule (around before b behind) (asked-parsed rule (around before a behind) (e .tree) (e .words) (e .accepted) .0)
       ∙ too .accepted in
       let one = e .tree in
       let two = too .tree in
-      let same : satisfying s one ≡ satisfying s two = satisfying-same s one two (same-within s one two (too .satisfies-same)) in
+      let same : satisfying s one ≡ satisfying s two = satisfying-same s one two (exchange-records e two (too .count) second-asked) in
       let first-lists = asks-listing (satisfying s) (e .sound) (e .accepted) one-call in
       let second-lists = asks-listing (satisfying s) (e .sound) second-asked other-call in
       let first = call-writes (satisfying s one) (satisfying-even s one) first-lists in

@@ -1,7 +1,6 @@
 -- Laws of the records that satisfy a question: those from 1 to N alone count, and the list of them.
 use mathlib.Core.Path.{_≡_, sym, _∙_}
 use Prim.Native.Nat.{ℕ, _*_, _≤_, _<_}
-use native.Mathlib.Omega.{arith}
 use mathlib.Core.Bool.{Bool, false, _&&_}
 use mathlib.Core.List.{List}
 use lib.Dec.{leb}

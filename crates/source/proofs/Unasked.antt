@@ -1,7 +1,7 @@
 -- An operator can be a word of an index, with a capital letter, and cannot be asked for (Reference 2): of two sources with the same N that have the same
 -- records of every word that is no operator, the same comes of each question.
 use Prim.Native.Nat.{ℕ, _/_, _≤_}
-use mathlib.Core.Path.{_≡_, refl, sym, ap, _∙_}
+use mathlib.Core.Path.{_≡_, refl, ap, _∙_}
 use mathlib.Core.Bool.{false}
 use mathlib.Core.List.{List}
 use lib.ListN.{length}

@@ -1,5 +1,5 @@
--- Reference 11, demand 3: the cells that two questions write that are asked of the same, and the exchange of a part in brackets. What is asked is sound
--- where its check says so.
+-- Reference 11, demand 3: the cells that two questions write that are asked of the same, and the exchange of a part in brackets. What they are asked
+-- of is sound where its check says so.
 use Prim.Native.Nat.{ℕ, _*_, _/_, _≤_}
 use mathlib.Core.Path.{_≡_}
 use mathlib.Core.List.{List, []}
