@@ -62,13 +62,19 @@ int tells(double whole, double check)
     return whole - check >= 0.03 * check;
 }
 
+double rest_ratio(double ours, double our_check_time, double theirs, double their_check_time)
+{
+    int both = tells(ours, our_check_time) && tells(theirs, their_check_time);
+    return both ? (ours - our_check_time) / (theirs - their_check_time) : 0;
+}
+
 void show_rest(double ours, double our_check_time, double theirs, double their_check_time)
 {
-    if (!tells(ours, our_check_time) || !tells(theirs, their_check_time)) {
-        printf(" %9s %9s %6s", "-", "-", "-");
+    double ratio = rest_ratio(ours, our_check_time, theirs, their_check_time);
+    if (ratio > 0) {
+        printf(" %9.1f %9.1f %6.2f", 1e6 * (ours - our_check_time), 1e6 * (theirs - their_check_time), ratio);
     } else {
-        double a = ours - our_check_time, b = theirs - their_check_time;
-        printf(" %9.1f %9.1f %6.2f", 1e6 * a, 1e6 * b, a / b);
+        printf(" %9s %9s %6s", "-", "-", "-");
     }
 }
 

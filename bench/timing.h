@@ -44,7 +44,10 @@ void best_of(run *const *what, size_t count, const struct job *job, double *best
 /* Whether what is left of a time after the check says anything. */
 int tells(double whole, double check);
 
-/* The ratio of what is left of two times after the check; a dash where the check is nearly all. */
+/* The ratio of what is left of two times after the check, or 0 where the check is nearly all. */
+double rest_ratio(double ours, double our_check_time, double theirs, double their_check_time);
+
+/* What is left of two times after the check, and its ratio; dashes where the check is nearly all. */
 void show_rest(double ours, double our_check_time, double theirs, double their_check_time);
 
 /* Ends the program where two answers differ. */
