@@ -1,6 +1,6 @@
 -- What a window holds of a word, of a part and of two sides, by the slots of their words.
-use mathlib.Core.Path.{_≡_, refl, sym, ap, _∙_}
-use Prim.Native.Nat.{ℕ, zero, suc, _+_, _*_, _≤_}
+use mathlib.Core.Path.{_≡_, refl, sym, ap, _∙_, subst}
+use Prim.Native.Nat.{ℕ, zero, suc, _+_, _*_, _≤_, _<_}
 use native.Mathlib.Omega.{arith}
 use mathlib.Core.Bool.{Bool, _||_}
 use mathlib.Core.List.{List, [], _∷_, _++_}
@@ -14,9 +14,9 @@ use Rattle.question.specs.Meaning.{combine}
 use Rattle.fill.specs.Added.{Added}
 use Rattle.slots.specs.Slots.{slotSatisfies}
 use Rattle.slots.specs.Row.{slotsIn, firstIn, endIn, HintsMoved}
-use Rattle.slots.specs.Having.{entriesHave, having}
+use Rattle.slots.specs.Having.{entriesHave, halfOf, having}
 use Rattle.slots.proofs.RowLaws.{moved-none}
-use Rattle.slots.proofs.EntriesLaws.{slot-either}
+use Rattle.slots.proofs.EntriesLaws.{inHalves, halves-next}
 use Rattle.codes.specs.Reads.{Reads}
 use Rattle.evaluate.specs.Evaluated.{Evaluated}
 use Rattle.evaluate.specs.declared.eval.Step.{Step}
@@ -63,11 +63,17 @@ module _ (v : ℕ → ℕ → Bool) (k : ℕ) {base : ℕ} where
       (λ n w. sym (slot-pair v k (base + n) o a b j e))
       (holds-combined (combine o) (slotSatisfies v a k) (slotSatisfies v b j) base xs ys zs l c h g)
 
--- ---- the ranges of a slot, filled one after the other
+-- ---- the halves of a slot, filled one after the other
 
-pub added-slot : (main arrivals row row₁ : List ℕ) (k : ℕ) {base : ℕ} {xs ys zs : List ℕ} {f g h i : ℕ} → slotsIn row₁ ≡ slotsIn row →
-    f ≡ firstIn (slotsIn row) (2 * k) → g ≡ endIn (slotsIn row) (2 * k) → h ≡ firstIn (slotsIn row₁) (2 * k + 1) → i ≡ endIn (slotsIn row₁) (2 * k + 1) →
-    Added (entriesHave main f g) base xs ys → Added (entriesHave arrivals h i) base ys zs → Added (having main arrivals row k) base xs zs
-added-slot main arrivals row row₁ k {f = f} {g} {h} {i} same e₁ e₂ e₃ e₄ a b =
-    added-agree (λ x. entriesHave main f g x || entriesHave arrivals h i x) (having main arrivals row k) _ _ _
-    (λ x. rw (e₁, e₂, e₃, e₄, same) (sym (slot-either main arrivals (slotsIn row) k x))) (added-both a b)
+module _ (main arrivals row : List ℕ) (k : ℕ) {base : ℕ} where
+  pub added-half : (half : ℕ) (row₁ : List ℕ) {index xs ys zs : List ℕ} {f g : ℕ} → half < 2 → slotsIn row₁ ≡ slotsIn row → index ≡ halfOf main arrivals half →
+      f ≡ firstIn (slotsIn row₁) (2 * k + half) → g ≡ endIn (slotsIn row₁) (2 * k + half) →
+      Added (inHalves main arrivals (slotsIn row) k half) base xs ys → Added (entriesHave index f g) base ys zs →
+      Added (inHalves main arrivals (slotsIn row) k (half + 1)) base xs zs
+  added-half half row₁ {index} {f = f} {g} h same e₁ e₂ e₃ a b =
+      added-agree (λ x. inHalves main arrivals (slotsIn row) k half x || entriesHave index f g x) (inHalves main arrivals (slotsIn row) k (half + 1)) _ _ _
+      (λ x. rw (e₁, e₂, e₃, same) (sym (halves-next main arrivals (slotsIn row) k half h x))) (added-both a b)
+
+  pub added-halves : {half : ℕ} {xs ys : List ℕ} → half ≡ 2 → Added (inHalves main arrivals (slotsIn row) k half) base xs ys →
+      Added (having main arrivals row k) base xs ys
+  added-halves {half} {xs} {ys} e a = subst (λ (h : ℕ). Added (inHalves main arrivals (slotsIn row) k h) base xs ys) e a

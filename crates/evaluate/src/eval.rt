@@ -23,12 +23,12 @@ pub struct Step {
 }
 
 // Evaluates the level that begins at a step, where d brackets may still open, for the records from base on.
-pub fn eval_level(
+pub fn eval_level<'a>(
     codes: &[u8],
     at: Step,
     d: usize,
-    main: &[u8],
-    arrivals: &[u8],
+    main: &'a [u8],
+    arrivals: &'a [u8],
     base: u32,
     row: &mut [usize],
     ws: &mut [u64],
@@ -67,12 +67,12 @@ pub fn eval_level(
 }
 
 // Evaluates the operand that begins at a step: a word, or a level in brackets. Where none can stand there, the answer says nothing.
-fn eval_operand(
+fn eval_operand<'a>(
     codes: &[u8],
     at: Step,
     d: usize,
-    main: &[u8],
-    arrivals: &[u8],
+    main: &'a [u8],
+    arrivals: &'a [u8],
     base: u32,
     row: &mut [usize],
     ws: &mut [u64],

@@ -18,6 +18,7 @@ use list::hints::keep_hint;
 use list::reading::reading_place;
 use slots::row::Entries;
 use slots::row::entries_of;
+use slots::row::half_of;
 use slots::row::hint_number;
 
 // Sets the bits of the records that are in the list of entry i, and moves its hint on.
@@ -59,10 +60,10 @@ fn fill_entries(index: &[u8], entries: Entries, base: u32, row: &mut [usize], ws
     }
 }
 
-// Those that have the word of slot k.
-pub fn fill_slot(
-    main: &[u8],
-    arrivals: &[u8],
+// Those that have the word of slot k: both halves, by one call, so that it is made part of the loop.
+pub fn fill_slot<'a>(
+    main: &'a [u8],
+    arrivals: &'a [u8],
     row: &mut [usize],
     k: usize,
     base: u32,
@@ -75,6 +76,15 @@ pub fn fill_slot(
     ensures moved { λ _. ⌜ HintsMoved (now (row .entry)) (now (row .exit)) ⌝ }
     ensures adds { λ _. ⌜ Added (having (now (main .entry)) (now (arrivals .entry)) (now (row .entry)) k) base (now (ws .entry)) (now (ws .exit)) ⌝ }
 {
-    fill_entries(main, entries_of(row, 2 * k), base, row, ws);
-    fill_entries(arrivals, entries_of(row, 2 * k + 1), base, row, ws);
+    let mut half = 0;
+    while half < 2 {
+        fill_entries(
+            half_of(main, arrivals, half),
+            entries_of(row, 2 * k + half),
+            base,
+            row,
+            ws,
+        );
+        half += 1;
+    }
 }

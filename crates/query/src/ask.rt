@@ -40,10 +40,10 @@ fn highest_of(main: &[u8], arrivals: &[u8]) -> u32
 }
 
 // Writes the answer where it has room. The lists of the words have no fewer intervals together: where there is room for those, one pass is enough.
-fn put_answer(
+fn put_answer<'a>(
     codes: &[u8],
-    main: &[u8],
-    arrivals: &[u8],
+    main: &'a [u8],
+    arrivals: &'a [u8],
     row: &mut [usize],
     slots: usize,
     out: &mut [u32],
@@ -75,11 +75,11 @@ fn put_answer(
 }
 
 // Answers by the rule. The driver groups from the left: by the second rule it is given codes with the groups in brackets.
-fn answer_codes(
+fn answer_codes<'a>(
     rule: u32,
     codes: &[u8],
-    main: &[u8],
-    arrivals: &[u8],
+    main: &'a [u8],
+    arrivals: &'a [u8],
     row: &mut [usize],
     slots: usize,
     out: &mut [u32],

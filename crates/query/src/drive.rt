@@ -69,10 +69,10 @@ fn doubled(width: usize) -> usize
 }
 
 // Passes the records of a window: the question is evaluated for them, and the window's cells are put.
-fn take_window(
+fn take_window<'a>(
     codes: &[u8],
-    main: &[u8],
-    arrivals: &[u8],
+    main: &'a [u8],
+    arrivals: &'a [u8],
     row: &mut [usize],
     at: At,
     ws: &mut [u64],
@@ -98,10 +98,10 @@ fn take_window(
 }
 
 // What the question says of record x, by the senses of its words, which have the first slots.
-fn look_at(
+fn look_at<'a>(
     codes: &[u8],
-    main: &[u8],
-    arrivals: &[u8],
+    main: &'a [u8],
+    arrivals: &'a [u8],
     row: &mut [usize],
     slots: usize,
     x: u32,
@@ -118,10 +118,10 @@ fn look_at(
 }
 
 // One step from where the driver stands.
-fn step(
+fn step<'a>(
     codes: &[u8],
-    main: &[u8],
-    arrivals: &[u8],
+    main: &'a [u8],
+    arrivals: &'a [u8],
     row: &mut [usize],
     pass: Pass,
     at: At,
@@ -173,10 +173,10 @@ fn step(
 }
 
 // Passes the records from 1 to n, and closes the stretch that is still open there.
-fn sweep(
+fn sweep<'a>(
     codes: &[u8],
-    main: &[u8],
-    arrivals: &[u8],
+    main: &'a [u8],
+    arrivals: &'a [u8],
     row: &mut [usize],
     pass: Pass,
     ws: &mut [u64],
@@ -207,10 +207,10 @@ fn sweep(
 }
 
 // Counts the intervals and the records of a question's answer, and writes the intervals where the pass is to write.
-pub fn sweep_question(
+pub fn sweep_question<'a>(
     codes: &[u8],
-    main: &[u8],
-    arrivals: &[u8],
+    main: &'a [u8],
+    arrivals: &'a [u8],
     row: &mut [usize],
     pass: Pass,
     out: &mut [u32],

@@ -1,26 +1,21 @@
--- Laws of senses of ranges of entries: of a range entry by entry, and of a slot by its two ranges.
-use Prim.Native.Nat.{ℕ, _+_, _-_, _*_, _≤_, _<_, min}
+-- Laws of senses of ranges of entries: of a range entry by entry, and of a slot half by half.
+use Prim.Native.Nat.{ℕ, zero, suc, _+_, _-_, _*_, _≤_, _<_, min}
 use native.Mathlib.Omega.{arith}
-use mathlib.Core.Path.{_≡_, sym, ap, _∙_}
+use mathlib.Core.Path.{_≡_, refl, sym, ap, _∙_, subst}
 use mathlib.Core.Bool.{Bool, true, false, _||_, or-true}
 use mathlib.Core.List.{List}
 use Rattle.limits.specs.Limits.{recordMax}
 use Rattle.list.specs.Interval.{names}
 use Rattle.list.specs.Sense.{Steady}
 use Rattle.index.specs.Format.{wordCount, listOf}
-use Rattle.slots.specs.Row.{firstIn, endIn}
-use Rattle.slots.specs.Having.{entryHas, inEntries, entriesHave, slotHas}
-use Rattle.slots.proofs.EntriesLaws.{entry-lists, entries-split, entries-next, entries-end, entries-past, range-none}
+use Rattle.slots.specs.Row.{slotsIn, firstIn, endIn}
+use Rattle.slots.specs.Having.{entryHas, inEntries, entriesHave, halfOf, having}
+use Rattle.slots.proofs.EntriesLaws.{entry-lists, entries-split, entries-next, entries-end, entries-past, range-none, inHalf, inHalves, halves-next}
 use Rattle.senses.proofs.PairedSenses.{steady-same, either-first, either-second, either-out}
 
 module _ (index : List ℕ) {x : ℕ} {a : Bool} {u : ℕ} where
   pub entry-steady : (i : ℕ) → i < wordCount index → Steady (names (listOf index i)) x a u → Steady (entryHas index i) x a u
   entry-steady i h = steady-same (names (listOf index i)) (entryHas index i) x a u (λ y. sym (entry-lists index i y h))
-
-  -- the same range by other names
-  pub range-named : {first first′ end end′ : ℕ} → first ≡ first′ → end ≡ end′ → Steady (entriesHave index first end) x a u →
-      Steady (entriesHave index first′ end′) x a u
-  range-named e f s = rw (sym e, sym f) s
 
 -- ---- the range from `first` on, as far as i
 
@@ -59,23 +54,38 @@ module _ (index : List ℕ) (x : ℕ) where
         range-past h =
             steady-same (inEntries index first (i - first)) (entriesHave index first end) x false u (entries-past index first i from end within h) s
 
--- ---- a slot, by its ranges
+-- ---- a slot, half by half
 
-module _ (main arrivals slots : List ℕ) (k : ℕ) where
-  abbrev of-main : ℕ → Bool
-  of-main = entriesHave main (firstIn slots (2 * k)) (endIn slots (2 * k))
+module _ (main arrivals row : List ℕ) (k : ℕ) where
+  -- what its range says, under the names that it is read by
+  pub half-said : (half : ℕ) (row₁ : List ℕ) {index : List ℕ} {f g x u : ℕ} {a : Bool} → slotsIn row₁ ≡ slotsIn row → index ≡ halfOf main arrivals half →
+      f ≡ firstIn (slotsIn row₁) (2 * k + half) → g ≡ endIn (slotsIn row₁) (2 * k + half) → Steady (entriesHave index f g) x a u →
+      Steady (inHalf main arrivals (slotsIn row) k half) x a u
+  half-said half row₁ {index} {f} {g} {x} {u} {a} same e₁ e₂ e₃ s =
+      steady-same (entriesHave index f g) (inHalf main arrivals (slotsIn row) k half) x a u (λ y. rw (e₁, e₂, e₃, same)) s
 
-  abbrev of-arrivals : ℕ → Bool
-  of-arrivals = entriesHave arrivals (firstIn slots (2 * k + 1)) (endIn slots (2 * k + 1))
+  -- a slot has what either half has
+  pub half-in : (half : ℕ) → half < 2 → {x u : ℕ} → Steady (inHalf main arrivals (slotsIn row) k half) x true u → Steady (having main arrivals row k) x true u
+  half-in zero h {x} {u} s =
+      let slots = slotsIn row in
+      steady-same (λ y. inHalf main arrivals slots k 0 y || inHalf main arrivals slots k 1 y) (having main arrivals row k) x true u
+      (λ y. sym (halves-next main arrivals slots k 1 (omega arith) y)) (either-first (inHalf main arrivals slots k 0) (inHalf main arrivals slots k 1) s)
+  half-in (suc zero) h {x} {u} s =
+      let slots = slotsIn row in
+      steady-same (λ y. inHalf main arrivals slots k 0 y || inHalf main arrivals slots k 1 y) (having main arrivals row k) x true u
+      (λ y. sym (halves-next main arrivals slots k 1 (omega arith) y)) (either-second (inHalf main arrivals slots k 0) (inHalf main arrivals slots k 1) s)
+  half-in (suc (suc n)) h s = absurd (omega arith)
 
-  pub slot-main : {x u : ℕ} → Steady of-main x true u → Steady (slotHas main arrivals slots k) x true u
-  unfolding slotHas
-  slot-main s = either-first of-main of-arrivals s
+  -- the halves before the first are out up to the end; one more is out as long as both are; behind the second it is the slot
+  pub halves-begun : {x : ℕ} → x ≤ recordMax → Steady (inHalves main arrivals (slotsIn row) k 0) x false (recordMax + 1)
+  halves-begun h = record { later = omega arith; near = omega arith; same = λ y g l. refl }
 
-  pub slot-arrivals : {x u : ℕ} → Steady of-arrivals x true u → Steady (slotHas main arrivals slots k) x true u
-  unfolding slotHas
-  slot-arrivals t = either-second of-main of-arrivals t
+  pub halves-out : (half : ℕ) → half < 2 → {x u v : ℕ} → Steady (inHalves main arrivals (slotsIn row) k half) x false u →
+      Steady (inHalf main arrivals (slotsIn row) k half) x false v → Steady (inHalves main arrivals (slotsIn row) k (half + 1)) x false (min u v)
+  halves-out half h {x} {u} {v} s t =
+      let slots = slotsIn row in
+      steady-same (λ y. inHalves main arrivals slots k half y || inHalf main arrivals slots k half y) (inHalves main arrivals slots k (half + 1)) x false (min u v)
+      (λ y. sym (halves-next main arrivals slots k half h y)) (either-out (inHalves main arrivals slots k half) (inHalf main arrivals slots k half) s t)
 
-  pub slot-out : {x u v : ℕ} → Steady of-main x false u → Steady of-arrivals x false v → Steady (slotHas main arrivals slots k) x false (min u v)
-  unfolding slotHas
-  slot-out s t = either-out of-main of-arrivals s t
+  pub halves-over : {half x u : ℕ} → half ≡ 2 → Steady (inHalves main arrivals (slotsIn row) k half) x false u → Steady (having main arrivals row k) x false u
+  halves-over {half} {x} {u} e s = subst (λ (h : ℕ). Steady (inHalves main arrivals (slotsIn row) k h) x false u) e s

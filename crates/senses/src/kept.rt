@@ -2,7 +2,7 @@
 ghost use mathlib.Core.Path.{_≡_};
 ghost use Prim.Native.Nat.{_≤_, _<_};
 ghost use lib.ListN.{length};
-ghost use Rattle.limits.specs.Limits.{questionWordsMax, recordMax};
+ghost use Rattle.limits.specs.Limits.{questionWordsMax, recordMax, wordsMax};
 ghost use Rattle.list.specs.Sense.{Steady};
 ghost use Rattle.index.specs.Sound.{Sound};
 ghost use Rattle.directory.specs.Regions.{EntryIn};
@@ -16,6 +16,7 @@ use list::sense::Sense;
 use list::sense::smaller;
 use slots::row::Entries;
 use slots::row::entries_of;
+use slots::row::half_of;
 use slots::row::hint_number;
 use slots::row::keep_sense;
 use slots::row::sense_of;
@@ -24,6 +25,7 @@ use slots::row::sense_of;
 fn sense_entry(index: &[u8], entries: Entries, i: usize, x: u32, row: &mut [usize]) -> Sense
     requires entry { ⌜ EntryIn (now index) i ⌝ }
     requires from { ⌜ entries .first ≤ i ⌝ }
+    requires few { ⌜ i ≤ wordsMax ⌝ }
     requires long { ⌜ length (now row) ≡ rowLong ⌝ }
     requires near { ⌜ x ≤ recordMax ⌝ }
     ensures moved { λ r. ⌜ HintsMoved (now (row .entry)) (now (row .exit)) ⌝ }
@@ -68,36 +70,40 @@ fn sense_entries(index: &[u8], entries: Entries, x: u32, row: &mut [usize]) -> S
     }
 }
 
-// What the word of slot k says of record x, by its entries in the main index and in the arrivals.
-fn look_slot(main: &[u8], arrivals: &[u8], row: &mut [usize], k: usize, x: u32) -> Sense
+// What the word of slot k says of record x, by its entries in the main index and in the arrivals: both halves, by one call, so that it is made part of the loop.
+fn look_slot<'a>(main: &'a [u8], arrivals: &'a [u8], row: &mut [usize], k: usize, x: u32) -> Sense
     requires lends { ⌜ ReadBy (now main) (now arrivals) (now row) ⌝ }
     requires within { ⌜ k < questionWordsMax ⌝ }
     requires near { ⌜ x ≤ recordMax ⌝ }
     ensures moved { λ r. ⌜ HintsMoved (now (row .entry)) (now (row .exit)) ⌝ }
     ensures steady { λ r. ⌜ Steady (having (now (main .entry)) (now (arrivals .entry)) (now (row .entry)) k) x (r .inside) (r .until) ⌝ }
 {
-    let of_main = sense_entries(main, entries_of(row, 2 * k), x, row);
-    if of_main.inside {
-        return Sense {
-            inside: true,
-            until: of_main.until,
-        };
-    }
-    let of_arrivals = sense_entries(arrivals, entries_of(row, 2 * k + 1), x, row);
-    if of_arrivals.inside {
-        return Sense {
-            inside: true,
-            until: of_arrivals.until,
-        };
+    let mut out = END;
+    let mut half = 0;
+    while half < 2 {
+        let Sense { inside, until } = sense_entries(
+            half_of(main, arrivals, half),
+            entries_of(row, 2 * k + half),
+            x,
+            row,
+        );
+        if inside {
+            return Sense {
+                inside: true,
+                until,
+            };
+        }
+        out = smaller(out, until);
+        half += 1;
     }
     Sense {
         inside: false,
-        until: smaller(of_main.until, of_arrivals.until),
+        until: out,
     }
 }
 
 // Renews the sense of slot k, if it ends at x or before.
-fn renew_sense(main: &[u8], arrivals: &[u8], row: &mut [usize], k: usize, x: u32)
+fn renew_sense<'a>(main: &'a [u8], arrivals: &'a [u8], row: &mut [usize], k: usize, x: u32)
     requires lends { ⌜ ReadBy (now main) (now arrivals) (now row) ⌝ }
     requires within { ⌜ k < questionWordsMax ⌝ }
     requires near { ⌜ x ≤ recordMax ⌝ }
@@ -114,7 +120,7 @@ fn renew_sense(main: &[u8], arrivals: &[u8], row: &mut [usize], k: usize, x: u32
 }
 
 // Renews the senses of the first `slots` slots, so that each of them is known at x.
-pub fn renew_senses(main: &[u8], arrivals: &[u8], row: &mut [usize], slots: usize, x: u32)
+pub fn renew_senses<'a>(main: &'a [u8], arrivals: &'a [u8], row: &mut [usize], slots: usize, x: u32)
     requires lends { ⌜ ReadBy (now main) (now arrivals) (now row) ⌝ }
     requires within { ⌜ slots ≤ questionWordsMax ⌝ }
     requires near { ⌜ x ≤ recordMax ⌝ }

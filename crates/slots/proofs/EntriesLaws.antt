@@ -8,7 +8,7 @@ use borrow.Author.Tests.{lt-ltb, le-ltb}
 use Rattle.list.specs.Interval.{names}
 use Rattle.index.specs.Format.{wordCount, listOf}
 use Rattle.slots.specs.Row.{firstIn, endIn}
-use Rattle.slots.specs.Having.{entryHas, inEntries, entriesHave, slotHas}
+use Rattle.slots.specs.Having.{entryHas, inEntries, entriesHave, halfOf, slotHas}
 
 module _ (index : List ℕ) where
   -- ---- one entry
@@ -85,3 +85,21 @@ pub slot-either : (main arrivals slots : List ℕ) (k x : ℕ) →
     entriesHave main (firstIn slots (2 * k)) (endIn slots (2 * k)) x || entriesHave arrivals (firstIn slots (2 * k + 1)) (endIn slots (2 * k + 1)) x
 unfolding slotHas
 slot-either main arrivals slots k x = refl
+
+module _ (main arrivals slots : List ℕ) (k : ℕ) where
+  -- what its range in half h has, and what those before half h have
+  abbrev pub inHalf : ℕ → ℕ → Bool
+  inHalf half = entriesHave (halfOf main arrivals half) (firstIn slots (2 * k + half)) (endIn slots (2 * k + half))
+
+  abbrev pub inHalves : ℕ → ℕ → Bool
+  inHalves zero x = false
+  inHalves (suc zero) x = inHalf 0 x
+  inHalves (suc (suc n)) x = slotHas main arrivals slots k x
+
+  pub first-half : (x : ℕ) → inHalf 0 x ≡ entriesHave main (firstIn slots (2 * k)) (endIn slots (2 * k)) x
+  first-half x = let e : 2 * k + 0 ≡ 2 * k = omega arith in ap (λ (j : ℕ). entriesHave main (firstIn slots j) (endIn slots j) x) e
+
+  pub halves-next : (half : ℕ) → half < 2 → (x : ℕ) → inHalves (half + 1) x ≡ inHalves half x || inHalf half x
+  halves-next zero h x = refl
+  halves-next (suc zero) h x = slot-either main arrivals slots k x ∙ ap (λ (b : Bool). b || inHalf 1 x) (sym (first-half x))
+  halves-next (suc (suc n)) h x = absurd (omega arith)

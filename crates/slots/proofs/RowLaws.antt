@@ -4,14 +4,16 @@ use native.Mathlib.Omega.{arith}
 use native.Mathlib.Decide.{ℕ-discrete}
 use mathlib.Core.Path.{_≡_, refl, sym, ap, _∙_}
 use mathlib.Core.List.{List}
+use lib.Dec.{eqb}
 use lib.ListN.{length, getD, take, drop, set, replicate, length-set, length-drop, length-replicate}
 use lib.Seq.{length-take-le, take-set-le, take-set-lt, drop-set-add, getD-take, getD-drop, getD-set-same, getD-set-other, ext-getD}
-use Rattle.laws.proofs.Tests.{leb-cases}
+use Rattle.laws.proofs.Tests.{by-test, leb-cases}
 use Rattle.laws.proofs.Lists.{zeros-at}
 use Rattle.list.specs.declared.Place.{Place}
+use Rattle.index.specs.Sound.{Sound}
 use Rattle.list.specs.Hints.{withHint}
 use Rattle.slots.specs.declared.row.Entries.{Entries}
-use Rattle.slots.specs.Having.{slotHas, having, ReadBy}
+use Rattle.slots.specs.Having.{halfOf, slotHas, having, ReadBy}
 use Rattle.slots.specs.Row.{rowLong, slotsIn, sensesIn, firstIn, endIn, withRange, SlotsStay, HintsMoved}
 
 -- ---- what is read
@@ -149,3 +151,7 @@ moved-having main arrivals m = stay-having main arrivals (m .stay)
 
 pub read-again : {main arrivals row row′ : List ℕ} → ReadBy main arrivals row → SlotsStay row row′ → ReadBy main arrivals row′
 read-again r s = record { main-sound = r .main-sound; arrivals-sound = r .arrivals-sound; long = s .long ∙ r .long }
+
+-- either index of those that slots are read by
+pub half-sound : {main arrivals row : List ℕ} → ReadBy main arrivals row → (half : ℕ) → Sound (halfOf main arrivals half)
+half-sound r half = by-test (eqb half 0) (λ e. rw e (r .main-sound)) (λ e. rw e (r .arrivals-sound))

@@ -3,7 +3,7 @@ use Prim.Native.Nat.{ℕ, zero, suc, _+_, _-_, _*_}
 use mathlib.Core.Path.{_≡_}
 use mathlib.Core.Bool.{Bool, false, cond, _||_}
 use mathlib.Core.List.{List}
-use lib.Dec.{ltb}
+use lib.Dec.{eqb, ltb}
 use lib.ListN.{length}
 use Rattle.list.specs.Interval.{names}
 use Rattle.index.specs.Format.{wordCount, listOf}
@@ -22,6 +22,10 @@ inEntries index i (suc n) x = entryHas index i x || inEntries index (i + 1) n x
 -- whether it is in that of one of the entries from `first` up to `end`
 abbrev pub entriesHave : List ℕ → ℕ → ℕ → ℕ → Bool
 entriesHave index first end x = inEntries index first (end - first) x
+
+-- the index of a slot's half: 0 is the main one, 1 the arrivals
+abbrev pub halfOf : List ℕ → List ℕ → ℕ → List ℕ
+halfOf main arrivals half = cond (eqb half 0) main arrivals
 
 -- whether the word of slot k stands in record x, by the entries that the slot has in the main index and in the arrivals
 unfoldable pub slotHas : List ℕ → List ℕ → List ℕ → ℕ → ℕ → Bool

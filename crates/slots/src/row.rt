@@ -3,7 +3,7 @@
 ghost use mathlib.Core.Path.{_≡_};
 ghost use Prim.Native.Nat.{_+_, _*_, _≤_, _<_};
 ghost use lib.ListN.{length, set, replicate};
-ghost use Rattle.limits.specs.Limits.{questionWordsMax, recordMax};
+ghost use Rattle.limits.specs.Limits.{questionWordsMax, recordMax, wordsMax};
 ghost use Rattle.slots.specs.Row.{
   rowLong,
   firstHint,
@@ -19,6 +19,7 @@ ghost use Rattle.slots.specs.Row.{
   packed,
   SlotsStay,
 };
+ghost use Rattle.slots.specs.Having.{halfOf};
 use limits::QUESTION_WORDS_MAX;
 use list::sense::Sense;
 
@@ -65,19 +66,21 @@ pub fn keep_entries(row: &mut [usize], j: usize, entries: Entries)
     row[3 * j + 2] = entries.hint;
 }
 
-// The number of the hint of entry i of a range; behind the last hint all lists share it.
+// The number of the hint of entry i of a range. With more lists than hints some share one, which costs time and no truth.
 pub fn hint_number(entries: Entries, i: usize) -> usize
-    requires { ⌜ entries .first ≤ i ⌝ }
+    requires from { ⌜ entries .first ≤ i ⌝ }
+    requires few { ⌜ i ≤ wordsMax ⌝ }
     ensures from { λ r. ⌜ firstHint ≤ r ⌝ }
     ensures below { λ r. ⌜ r < firstHint + hintsMax ⌝ }
 {
-    let last = HINTS - 1;
-    if entries.hint < last {
-        if i - entries.first < last - entries.hint {
-            return FIRST_HINT + entries.hint + (i - entries.first);
-        }
-    }
-    FIRST_HINT + last
+    FIRST_HINT + (entries.hint % HINTS + (i - entries.first)) % HINTS
+}
+
+// The index that a slot's range is of: the main one for half 0, and the arrivals for half 1.
+pub fn half_of<'a>(main: &'a [u8], arrivals: &'a [u8], half: usize) -> &'a [u8]
+    ensures { λ r. ⌜ now r ≡ halfOf (now (main .entry)) (now (arrivals .entry)) half ⌝ }
+{
+    if half == 0 { main } else { arrivals }
 }
 
 // The sense that is kept of slot k.

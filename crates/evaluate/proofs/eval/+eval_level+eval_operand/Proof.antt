@@ -33,23 +33,23 @@ use Rattle.evaluate.proofs.slot.fill_slot.Reads as fill-slot
 use Rattle.evaluate.proofs.eval.+eval_level+eval_operand.{statement}
 use Rattle.evaluate.proofs.eval.+eval_level+eval_operand.Tie.{close}
 
-abbrev μ-eval-level : Measures 5 eval-level-kinds.ps ℕ
+abbrev μ-eval-level : Measures 4 eval-level-kinds.ps ℕ
 μ-eval-level κs a = 2 * (a .1 .1 .0) + 1
 
-abbrev μ-eval-operand : Measures 5 eval-operand-kinds.ps ℕ
+abbrev μ-eval-operand : Measures 4 eval-operand-kinds.ps ℕ
 μ-eval-operand κs a = 2 * (a .1 .1 .0)
 
-abbrev eval-level-at : ℕ → In 5 eval-level-kinds.ps
-eval-level-at t = and 5 eval-level-kinds.ps (is 5 eval-level-kinds.ps μ-eval-level t) eval-level.Pre
+abbrev eval-level-at : ℕ → In 4 eval-level-kinds.ps
+eval-level-at t = and 4 eval-level-kinds.ps (is 4 eval-level-kinds.ps μ-eval-level t) eval-level.Pre
 
-abbrev eval-level-below : ℕ → In 5 eval-level-kinds.ps
-eval-level-below t = and 5 eval-level-kinds.ps (falls 5 eval-level-kinds.ps _<_ μ-eval-level t) eval-level.Pre
+abbrev eval-level-below : ℕ → In 4 eval-level-kinds.ps
+eval-level-below t = and 4 eval-level-kinds.ps (falls 4 eval-level-kinds.ps _<_ μ-eval-level t) eval-level.Pre
 
-abbrev eval-operand-at : ℕ → In 5 eval-operand-kinds.ps
-eval-operand-at t = and 5 eval-operand-kinds.ps (is 5 eval-operand-kinds.ps μ-eval-operand t) eval-operand.Pre
+abbrev eval-operand-at : ℕ → In 4 eval-operand-kinds.ps
+eval-operand-at t = and 4 eval-operand-kinds.ps (is 4 eval-operand-kinds.ps μ-eval-operand t) eval-operand.Pre
 
-abbrev eval-operand-below : ℕ → In 5 eval-operand-kinds.ps
-eval-operand-below t = and 5 eval-operand-kinds.ps (falls 5 eval-operand-kinds.ps _<_ μ-eval-operand t) eval-operand.Pre
+abbrev eval-operand-below : ℕ → In 4 eval-operand-kinds.ps
+eval-operand-below t = and 4 eval-operand-kinds.ps (falls 4 eval-operand-kinds.ps _<_ μ-eval-operand t) eval-operand.Pre
 
 -- what the calls of each promise
 abbrev level-claims : ℕ → eval-level-lts.Claims

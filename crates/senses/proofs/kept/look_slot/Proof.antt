@@ -1,83 +1,98 @@
--- Each range says it for its index; the slot has what either has.
-use Prim.Native.Nat.{ℕ, _+_, _*_}
-use mathlib.Core.Path.{ap, _∙_}
-use mathlib.Core.List.{List}
+-- The halves before this one are out; a look at one moves hints alone, so that the range of the next is still the slot's.
+use Prim.Native.Nat.{_-_, _≤_}
+use native.Mathlib.Omega.{arith}
+use mathlib.Core.Path.{sym, _∙_, subst}
 use Rattle.list.specs.Sense.{Steady}
-use Rattle.slots.specs.Row.{slotsIn, firstIn, endIn, HintsMoved}
-use Rattle.slots.specs.Having.{entriesHave}
-use Rattle.slots.proofs.RowLaws.{moved-both}
+use Rattle.index.specs.Sound.{Sound}
+use Rattle.slots.specs.Row.{slotsIn, HintsMoved}
+use Rattle.slots.proofs.RowLaws.{moved-none, moved-both, half-sound}
+use Rattle.slots.proofs.EntriesLaws.{inHalf, inHalves}
 use Rattle.senses.proofs.PairedSenses.{steady-is}
-use Rattle.senses.proofs.RangeSenses.{range-named, slot-main, slot-arrivals, slot-out}
+use Rattle.senses.proofs.RangeSenses.{half-said, half-in, halves-begun, halves-out, halves-over}
+use mathlib.Core.Bool.{false}
 use borrow.Author.Needs.{needs}
 use Rattle.senses.proofs.kept.look_slot.Statement.{statement}
 use Rattle.senses.proofs.kept.look_slot.Tie as tie
 
--- behind the look at the main index, and behind that at the arrivals
-abbrev Main : Type 0
-Main = tie.After-slice-known2
+abbrev Inv-loop : tie.InvT-loop
+Inv-loop main arrivals row₀ k x out₀ half₀ row out half =
+    (half ≤ 2) × HintsMoved row₀ row × Steady (inHalves main arrivals (slotsIn row₀) k half) x false out
 
-abbrev Arrivals : Type 0
-Arrivals = tie.After-slice-known3
+abbrev μ-loop : tie.MeasureT-loop
+μ-loop main arrivals row₀ k x out₀ half₀ row out half = 2 - half
 
-abbrev begin : Main → tie.Start
-begin c = c .before .before .before .before .before .before .before .before .before
+abbrev Loop : Type 0
+Loop = tie.At-loop Inv-loop μ-loop
 
-abbrev main-of : Arrivals → Main
-main-of c = c .before .before .before .before .before .before .before
+abbrev begun : Loop → tie.Start Inv-loop μ-loop
+begun c = c .before .before .before .before
 
-main-says : (c : Main) →
-    let a = begin c .args in
-    let slots = slotsIn (a .row .now) in
-    let r = c .before .before .sense-entries .result in
-    Steady (entriesHave (a .main .now) (firstIn slots (2 * a .k)) (endIn slots (2 * a .k))) (a .x) (r .inside) (r .until)
-main-says c =
-    let read = c .before .before .before .before .entries-of .ensures in
-    range-named (begin c .args .main .now) (read .0) (read .1) (c .before .before .sense-entries .ensures .1)
+-- behind the look at a half
+abbrev Looked : Type 0
+Looked = tie.After-sense-entries Inv-loop μ-loop
 
-arrivals-say : (c : Arrivals) →
-    let a = begin (main-of c) .args in
-    let slots = slotsIn (a .row .now) in
-    let r = c .before .before .sense-entries2 .result in
-    Steady (entriesHave (a .arrivals .now) (firstIn slots (2 * a .k + 1)) (endIn slots (2 * a .k + 1))) (a .x) (r .inside) (r .until)
-arrivals-say c =
-    let a = begin (main-of c) .args in
-    let read = c .before .before .before .before .entries-of2 .ensures in
-    let stay = main-of c .before .before .sense-entries .ensures .0 .stay .slots in
-    range-named (a .arrivals .now) (read .0 ∙ ap (λ (s : List ℕ). firstIn s (2 * a .k + 1)) stay) (read .1 ∙ ap (λ (s : List ℕ). endIn s (2 * a .k + 1)) stay)
-    (c .before .before .sense-entries2 .ensures .1)
+abbrev looped : Looked → Loop
+looped c = c .before .before .before .before .before .before
 
-moved : (c : Arrivals) → HintsMoved (begin (main-of c) .args .row .now) (c .before .before .sense-entries2 .last .1 .1 .1 .0)
-moved c = moved-both (main-of c .before .before .sense-entries .ensures .0) (c .before .before .sense-entries2 .ensures .0)
+says : (c : Looked) →
+    let a = begun (looped c) .args in
+    let r = c .sense-entries .result in
+    Steady (inHalf (a .main .now) (a .arrivals .now) (slotsIn (a .row .now)) (a .k) (looped c .loop .half)) (a .x) (r .inside) (r .until)
+says c =
+    let a = begun (looped c) .args in
+    let l = looped c .loop in
+    let found = c .before .before in
+    half-said (a .main .now) (a .arrivals .now) (a .row .now) (a .k) (l .half) (l .row) (l .inv .1 .stay .slots) (found .before .before .half-of .ensures)
+    (found .entries-of .ensures .0) (found .entries-of .ensures .1) (c .sense-entries .ensures .1)
 
-returns : tie.Need-returns
+moved : (c : Looked) → HintsMoved (begun (looped c) .args .row .now) (c .sense-entries .last .1 .1 .1 .0)
+moved c = moved-both (looped c .loop .inv .1) (c .sense-entries .ensures .0)
+
+sense-entries-requires : tie.Need-sense-entries-requires Inv-loop μ-loop
+sense-entries-requires c κs =
+    let here = c .before .before .before .before .before in
+    let pre = begun here .pre in (
+      subst Sound (sym (c .before .before .before .half-of .ensures)) (half-sound (pre .0) (here .loop .half)),
+      (here .loop .inv .1 .stay .long ∙ pre .0 .long, pre .1 .1),
+    )
+
+returns : tie.Need-returns Inv-loop μ-loop
 returns c =
-    let a = begin (c .before) .args in (
-      c .before .before .before .sense-entries .ensures .0,
-      slot-main (a .main .now) (a .arrivals .now) (slotsIn (a .row .now)) (a .k) (steady-is (c .if1 .taken) (main-says (c .before))),
+    let looked = c .before .before .before in
+    let a = begun (looped looked) .args in (
+      moved looked,
+      half-in (a .main .now) (a .arrivals .now) (a .row .now) (a .k) (looped looked .loop .half) (looked .before .before .before .before .before .loop-test .taken)
+          (steady-is (c .if1 .taken) (says looked)),
     )
 
-returns-2 : tie.Need-returns-2
-returns-2 c =
-    let a = begin (main-of (c .before)) .args in (
-      moved (c .before),
-      slot-arrivals (a .main .now) (a .arrivals .now) (slotsIn (a .row .now)) (a .k) (steady-is (c .if2 .taken) (arrivals-say (c .before))),
-    )
-
-returns-3 : tie.Need-returns-3
-returns-3 c =
-    let at = c .before .before in
-    let a = begin (main-of at) .args in
-    let out = at .before .before .before .before .before .before .if1 .left in (
-      moved at,
+loop-again : tie.Need-loop-again Inv-loop μ-loop
+loop-again c =
+    let looked = c .before .before .before .before in
+    let a = begun (looped looked) .args in
+    let l = looped looked .loop in
+    let more = looked .before .before .before .before .before .loop-test .taken in (
+      omega (arith, more),
+      moved looked,
       rw (c .smaller .ensures)
-          (slot-out (a .main .now) (a .arrivals .now) (slotsIn (a .row .now)) (a .k) (steady-is out (main-says (main-of at)))
-          (steady-is (c .before .if2 .left) (arrivals-say at))),
+          (halves-out (a .main .now) (a .arrivals .now) (a .row .now) (a .k) (l .half) more (l .inv .2) (steady-is (c .before .if1 .left) (says looked))),
     )
+
+returns-2 : tie.Need-returns-2 Inv-loop μ-loop
+returns-2 c =
+    let here = c .before in
+    let a = begun here .args in
+    let l = here .loop in
+    (l .inv .1, halves-over (a .main .now) (a .arrivals .now) (a .row .now) (a .k) {half = l .half} (omega (arith, l .inv .0, c .loop-test .left)) (l .inv .2))
 
 pub look-slot-spec : {M : Type 1} → statement M
 look-slot-spec =
     tie.close
     (tie.spec
-    (λ c. search needs) (λ c κs. search needs) (λ c κs. search needs) (λ c. search needs) returns
-    (λ c. search needs) (λ c. search needs) (λ c κs. search needs) (λ c κs. search needs) (λ c. search needs) returns-2
-    (λ c κs. search needs) (λ c. search needs) returns-3)
+    Inv-loop μ-loop
+    (λ c. let start = c .before .before .before in let a = start .args in
+    (omega arith, moved-none (a .row .now), halves-begun (a .main .now) (a .arrivals .now) (a .row .now) (a .k) (start .pre .1 .1)))
+    (λ c κs. search needs) (λ c. search needs) (λ c. search needs)
+    (λ c κs. let here = c .before .before .before in
+    (here .loop .inv .1 .stay .long ∙ begun here .pre .0 .long, omega (arith, begun here .pre .1 .0, c .before .before .loop-test .taken)))
+    sense-entries-requires (λ c. moved (c .before .before .before) .stay .long) returns (λ c κs. search needs) (λ c. search needs) (λ c. search needs)
+    loop-again (λ c. c .before .loop .inv .1 .stay .long) returns-2)

@@ -56,7 +56,7 @@ sense-entry-requires c κs =
     let pre = begun l .pre in
     let inv = l .loop .inv in (
       record { sound = pre .0; below = omega (arith, c .before .if2 .left, l .before .word-count .ensures .0) },
-      (inv .0, (inv .2 .stay .long ∙ pre .1 .0, pre .1 .1)),
+      (inv .0, (omega (arith, c .before .if2 .left, l .before .word-count .ensures .1), (inv .2 .stay .long ∙ pre .1 .0, pre .1 .1))),
     )
 
 returns-2 : tie.Need-returns-2 Inv-loop μ-loop
