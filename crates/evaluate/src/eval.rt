@@ -38,6 +38,7 @@ pub fn eval_level<'a>(
     ensures long { λ _. ⌜ length (now (ws .exit)) ≡ length (now (ws .entry)) ⌝ }
     ensures reads { λ r. ⌜ Evaluated (asLevel d) (now (codes .entry)) at (having (now (main .entry)) (now (arrivals .entry)) (now (row .entry))) base (now (ws .exit)) r ⌝ }
 {
+    // By its fields: of a step that was handed on whole nothing can be said behind the call.
     let Step { code: i, slot: k } = at;
     let first = Step { code: i, slot: k };
     let mut next = eval_operand(codes, first, d, main, arrivals, base, row, ws);

@@ -108,8 +108,8 @@ module _ {s : Source} {codes : List ℕ} {v : ℕ → ℕ → Bool} {n most : �
 
 -- ---- prepared for the driver
 
-pub slots-end : {main arrivals row : List ℕ} {n : ℕ} → ReadBy main arrivals row → lastOf main arrivals ≡ n → Ends (having main arrivals row) n
-slots-end {main} {arrivals} {row} {n} lent e = record {
+pub having-ends : {main arrivals row : List ℕ} {n : ℕ} → ReadBy main arrivals row → lastOf main arrivals ≡ n → Ends (having main arrivals row) n
+having-ends {main} {arrivals} {row} {n} lent e = record {
   near = omega (arith, sound-trailer main (lent .main-sound) .highest-bound, sound-trailer arrivals (lent .arrivals-sound) .highest-bound);
   above = slot-above main arrivals (slotsIn row) (lent .main-sound) (lent .arrivals-sound) n (omega arith) (omega arith);
 }

@@ -21,20 +21,20 @@ module _ (index : List ℕ) where
   unfolding entryIntervals
   entry-intervals-out i h = rw (le-ltb i (wordCount index) h)
 
-  pub range-next : (i end : ℕ) → i < end → i < wordCount index →
+  pub sum-next : (i end : ℕ) → i < end → i < wordCount index →
       rangeIntervals index i (end - i) ≡ intervals (listOf index i) + rangeIntervals index (i + 1) (end - (i + 1))
   unfolding rangeIntervals
-  range-next i end h g = let e : end - i ≡ suc (end - (i + 1)) = omega arith in rw (e, entry-intervals-in i g)
+  sum-next i end h g = let e : end - i ≡ suc (end - (i + 1)) = omega arith in rw (e, entry-intervals-in i g)
 
-  pub range-end : (i end : ℕ) → end ≤ i → rangeIntervals index i (end - i) ≡ 0
+  pub sum-end : (i end : ℕ) → end ≤ i → rangeIntervals index i (end - i) ≡ 0
   unfolding rangeIntervals
-  range-end i end h = let e : end - i ≡ 0 = omega arith in rw e
+  sum-end i end h = let e : end - i ≡ 0 = omega arith in rw e
 
   -- behind the last entry there is none
-  pub range-behind : (i n : ℕ) → wordCount index ≤ i → rangeIntervals index i n ≡ 0
+  pub sum-behind : (i n : ℕ) → wordCount index ≤ i → rangeIntervals index i n ≡ 0
   unfolding rangeIntervals
-  range-behind i zero h = refl
-  range-behind i (suc n) h = omega (arith, entry-intervals-out i h, range-behind (i + 1) n (omega arith))
+  sum-behind i zero h = refl
+  sum-behind i (suc n) h = omega (arith, entry-intervals-out i h, sum-behind (i + 1) n (omega arith))
 
 -- ---- the ranges of slot k, and the slots that are left at k
 

@@ -6,7 +6,7 @@ use Rattle.list.proofs.ListingLaws.{listed, counted-refused, counted-room, coun
 use Rattle.source.proofs.SatisfyLaws.{satisfying-even}
 use Rattle.slots.proofs.RowLaws.{stay-having, read-again}
 use Rattle.query.specs.Prepared.{lastOf}
-use Rattle.query.proofs.AskLaws.{slots-end, prepared-swept, prepared-length}
+use Rattle.query.proofs.AskLaws.{having-ends, prepared-swept, prepared-length}
 use borrow.Author.Needs.{needs}
 use Rattle.query.proofs.ask.put_answer.Statement.{statement}
 use Rattle.query.proofs.ask.put_answer.Tie as tie
@@ -27,7 +27,7 @@ sweep-question-requires c κs =
     let bound = is .prepared .bound in (
       asked here .pre .0,
       (
-        slots-end (asked here .pre .0 .lent) (limit here),
+        having-ends (asked here .pre .0 .lent) (limit here),
         record { tree = is .tree; reads = is .prepared .reads; room = λ w. omega (arith, prepared-length (is .last ∙ limit here) (is .prepared)) },
       ),
     )
@@ -44,7 +44,7 @@ sweep-question-requires-2 c κs =
     let is = asked here .pre .1 in (
       asked here .pre .0,
       (
-        slots-end (asked here .pre .0 .lent) (limit here),
+        having-ends (asked here .pre .0 .lent) (limit here),
         record { tree = is .tree; reads = is .prepared .reads; room = λ w. true-false (sym w) },
       ),
     )
@@ -72,7 +72,7 @@ sweep-question-requires-3 c κs =
     let fits = counted-room tallied (satisfying-even (is .source) (is .tree)) (c .before .before .if2 .left) in (
       record { lent = read-again (by .lent) stays; few = by .few; all = by .all },
       (
-        slots-end (read-again (by .lent) stays) (limit here),
+        having-ends (read-again (by .lent) stays) (limit here),
         rw same (record { tree = is .tree; reads = is .prepared .reads; room = λ w. omega (arith, prepared-length last (is .prepared), fits) }),
       ),
     )
