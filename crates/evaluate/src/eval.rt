@@ -1,7 +1,8 @@
 // A question answered for a window, by its codes: a level evaluates its first operand into the window, and each further one into a window of
 // its own, which is then combined with it. The bracket depth left falls at each call.
 ghost use mathlib.Core.Path.{_≡_};
-ghost use lib.ListN.{length};
+ghost use lib.ListN.{length, getD};
+ghost use Rattle.codes.specs.Code.{wordCode, noCode};
 ghost use Rattle.codes.specs.Reads.{asLevel, asOperand};
 ghost use Rattle.slots.specs.Row.{HintsMoved};
 ghost use Rattle.slots.specs.Having.{having};
@@ -67,7 +68,7 @@ pub fn eval_level<'a>(
     }
 }
 
-// Evaluates the operand that begins at a step: a word, or a level in brackets. Where none can stand there, the answer says nothing.
+// Evaluates the operand that begins at a step: a word, or a level in brackets. It is small, so that the words of a level are filled without a call of it.
 fn eval_operand<'a>(
     codes: &[u8],
     at: Step,
@@ -84,18 +85,39 @@ fn eval_operand<'a>(
     ensures reads { λ r. ⌜ Evaluated (asOperand d) (now (codes .entry)) at (having (now (main .entry)) (now (arrivals .entry)) (now (row .entry))) base (now (ws .exit)) r ⌝ }
 {
     let Step { code: i, slot: k } = at;
-    let code = code_at(codes, i);
-    if code == WORD_CODE {
-        if k < QUESTION_WORDS_MAX {
-            fill_slot(main, arrivals, row, k, base, ws);
-            return Step {
-                code: i + 1,
-                slot: k + 1,
-            };
-        }
+    if code_at(codes, i) != WORD_CODE {
+        let part = Step { code: i, slot: k };
+        return eval_part(codes, part, d, main, arrivals, base, row, ws);
+    }
+    if QUESTION_WORDS_MAX <= k {
         return Step { code: i, slot: k };
     }
-    if code != OPEN_CODE {
+    fill_slot(main, arrivals, row, k, base, ws);
+    Step {
+        code: i + 1,
+        slot: k + 1,
+    }
+}
+
+// Evaluates a level in brackets. Where none can stand there, the answer says nothing.
+fn eval_part<'a>(
+    codes: &[u8],
+    at: Step,
+    d: usize,
+    main: &'a [u8],
+    arrivals: &'a [u8],
+    base: u32,
+    row: &mut [usize],
+    ws: &mut [u64],
+) -> Step
+    requires ready { ⌜ Ready (now codes) at (now main) (now arrivals) base (now row) (now ws) ⌝ }
+    requires wordless { ⌜ (getD (now codes) (at .code) noCode ≡ wordCode → ⊥) ⌝ }
+    ensures moved { λ _. ⌜ HintsMoved (now (row .entry)) (now (row .exit)) ⌝ }
+    ensures long { λ _. ⌜ length (now (ws .exit)) ≡ length (now (ws .entry)) ⌝ }
+    ensures reads { λ r. ⌜ Evaluated (asOperand d) (now (codes .entry)) at (having (now (main .entry)) (now (arrivals .entry)) (now (row .entry))) base (now (ws .exit)) r ⌝ }
+{
+    let Step { code: i, slot: k } = at;
+    if code_at(codes, i) != OPEN_CODE {
         return Step { code: i, slot: k };
     }
     if d == 0 {

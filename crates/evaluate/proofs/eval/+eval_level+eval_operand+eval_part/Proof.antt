@@ -22,22 +22,28 @@ use borrow.Fn.Kinds.{In}
 use borrow.Fn.PlainCycle.{Measures, is, falls, and}
 use Rattle.evaluate.proofs.eval.eval_level.Reads as eval-level
 use Rattle.evaluate.proofs.eval.eval_level.Kinds as eval-level-kinds
-use Rattle.evaluate.proofs.eval.+eval_level+eval_operand.Lts-eval_level as eval-level-lts
+use Rattle.evaluate.proofs.eval.+eval_level+eval_operand+eval_part.Lts-eval_level as eval-level-lts
 use Rattle.evaluate.proofs.eval.eval_operand.Reads as eval-operand
 use Rattle.evaluate.proofs.eval.eval_operand.Kinds as eval-operand-kinds
-use Rattle.evaluate.proofs.eval.+eval_level+eval_operand.Lts-eval_operand as eval-operand-lts
+use Rattle.evaluate.proofs.eval.+eval_level+eval_operand+eval_part.Lts-eval_operand as eval-operand-lts
+use Rattle.evaluate.proofs.eval.eval_part.Reads as eval-part
+use Rattle.evaluate.proofs.eval.eval_part.Kinds as eval-part-kinds
+use Rattle.evaluate.proofs.eval.+eval_level+eval_operand+eval_part.Lts-eval_part as eval-part-lts
 use Rattle.codes.proofs.read.code_at.Reads as code-at
 use Rattle.codes.proofs.read.is_operator.Reads as is-operator
 use Rattle.evaluate.proofs.combine.combine_into.Reads as combine-into
 use Rattle.evaluate.proofs.slot.fill_slot.Reads as fill-slot
-use Rattle.evaluate.proofs.eval.+eval_level+eval_operand.{statement}
-use Rattle.evaluate.proofs.eval.+eval_level+eval_operand.Tie.{close}
+use Rattle.evaluate.proofs.eval.+eval_level+eval_operand+eval_part.{statement}
+use Rattle.evaluate.proofs.eval.+eval_level+eval_operand+eval_part.Tie.{close}
 
 abbrev μ-eval-level : Measures 4 eval-level-kinds.ps ℕ
-μ-eval-level κs a = 2 * (a .1 .1 .0) + 1
+μ-eval-level κs a = 3 * (a .1 .1 .0) + 2
 
 abbrev μ-eval-operand : Measures 4 eval-operand-kinds.ps ℕ
-μ-eval-operand κs a = 2 * (a .1 .1 .0)
+μ-eval-operand κs a = 3 * (a .1 .1 .0) + 1
+
+abbrev μ-eval-part : Measures 4 eval-part-kinds.ps ℕ
+μ-eval-part κs a = 3 * (a .1 .1 .0)
 
 abbrev eval-level-at : ℕ → In 4 eval-level-kinds.ps
 eval-level-at t = and 4 eval-level-kinds.ps (is 4 eval-level-kinds.ps μ-eval-level t) eval-level.Pre
@@ -50,6 +56,12 @@ eval-operand-at t = and 4 eval-operand-kinds.ps (is 4 eval-operand-kinds.ps μ-e
 
 abbrev eval-operand-below : ℕ → In 4 eval-operand-kinds.ps
 eval-operand-below t = and 4 eval-operand-kinds.ps (falls 4 eval-operand-kinds.ps _<_ μ-eval-operand t) eval-operand.Pre
+
+abbrev eval-part-at : ℕ → In 4 eval-part-kinds.ps
+eval-part-at t = and 4 eval-part-kinds.ps (is 4 eval-part-kinds.ps μ-eval-part t) eval-part.Pre
+
+abbrev eval-part-below : ℕ → In 4 eval-part-kinds.ps
+eval-part-below t = and 4 eval-part-kinds.ps (falls 4 eval-part-kinds.ps _<_ μ-eval-part t) eval-part.Pre
 
 -- what the calls of each promise
 abbrev level-claims : ℕ → eval-level-lts.Claims
@@ -65,7 +77,10 @@ level-claims t = (
 )
 
 abbrev operand-claims : ℕ → eval-operand-lts.Claims
-operand-claims t = (code-at.Asked, code-at.Learnt, fill-slot.Asked, fill-slot.Learnt, eval-level-below t, eval-level.Post)
+operand-claims t = (code-at.Asked, code-at.Learnt, eval-part-below t, eval-part.Post, fill-slot.Asked, fill-slot.Learnt)
+
+abbrev part-claims : ℕ → eval-part-lts.Claims
+part-claims t = (code-at.Asked, code-at.Learnt, eval-level-below t, eval-level.Post)
 
 abbrev eval-level-Inv-loop : eval-level-lts.InvT-loop
 eval-level-Inv-loop codes d main arrivals base row₀ ws₀ i k next₀ n row ws next =
@@ -220,47 +235,35 @@ module _ (t : ℕ) where
 -- ---- an operand
 
 module _ (t : ℕ) where
-  -- a word stands there
+  -- where it is no part, a word stands there
   abbrev AtWord : Type 0
-  AtWord = eval-operand-lts.Then1 (operand-claims t) (eval-operand-at t) eval-operand.Post
+  AtWord = eval-operand-lts.Else1 (operand-claims t) (eval-operand-at t) eval-operand.Post
 
   abbrev word-start : AtWord → eval-operand-lts.Start (operand-claims t) (eval-operand-at t) eval-operand.Post
   word-start c = c .before .before .before .before .before .before .before
 
   word-here : (c : AtWord) → let a = word-start c .args in Here (a .codes .now) (a .at .code) wordCode
-  word-here c = let a = word-start c .args in code-here (a .codes .now) (a .at .code) (c .before .code-at .ensures) (c .if1 .taken) (omega arith)
+  word-here c = let a = word-start c .args in code-here (a .codes .now) (a .at .code) (c .before .code-at .ensures) (c .if1 .left) (omega arith)
 
-  -- a bracket opens there
-  abbrev AtOpen : Type 0
-  AtOpen = eval-operand-lts.Else3 (operand-claims t) (eval-operand-at t) eval-operand.Post
+  operand-eval-part-requires : eval-operand-lts.Need-eval-part-requires (operand-claims t) (eval-operand-at t) eval-operand.Post
+  operand-eval-part-requires c κs =
+      let start = c .before .before .before .before .before .before .before .before .before in
+      (omega arith, (start .pre .1, λ e. c .before .before .if1 .taken (c .before .before .before .code-at .ensures ∙ e)))
 
-  abbrev open-start : AtOpen → eval-operand-lts.Start (operand-claims t) (eval-operand-at t) eval-operand.Post
-  open-start c = c .before .before .before .before .before .before .before .before
-
-  open-here : (c : AtOpen) → let a = open-start c .args in Here (a .codes .now) (a .at .code) openCode
-  open-here c = let a = open-start c .args in code-here (a .codes .now) (a .at .code) (c .before .before .code-at .ensures) (c .if3 .left) (omega arith)
-
-  -- and closes where the part ends
-  abbrev AtClose : Type 0
-  AtClose = eval-operand-lts.Else5 (operand-claims t) (eval-operand-at t) eval-operand.Post
-
-  abbrev opened : AtClose → AtOpen
-  opened c = c .before .before .before .before .before .before .before .before .before .before
-
-  close-here : (c : AtClose) → Here (open-start (opened c) .args .codes .now)
-      (c .before .before .before .before .before .before .eval-level .result .code) closeCode
-  close-here c =
-      code-here (open-start (opened c) .args .codes .now) (c .before .before .before .before .before .before .eval-level .result .code)
-      (c .before .code-at2 .ensures) (c .if5 .left) (omega arith)
+  operand-returns-2 : eval-operand-lts.Need-returns-2 (operand-claims t) (eval-operand-at t) eval-operand.Post
+  operand-returns-2 c =
+      let start = word-start (c .before) in
+      let a = start .args in
+      evaluated-none (start .pre .1 .inside)
+      (λ n. operand-many (a .codes .now) n (a .d) (a .at .slot) (a .at .code) (word-here (c .before) .0) (a .at .code) (a .at .slot) _ (c .if2 .taken))
 
   operand-fill-slot-requires : eval-operand-lts.Need-fill-slot-requires (operand-claims t) (eval-operand-at t) eval-operand.Post
   operand-fill-slot-requires c κs =
       let p = word-start (c .before .before .before) .pre .1 in
-      let h = c .before .before .if2 .taken in
-      (p .lent, (h, (p .size, p .near)))
+      (p .lent, (c .before .before .if2 .left, (p .size, p .near)))
 
-  operand-returns : eval-operand-lts.Need-returns (operand-claims t) (eval-operand-at t) eval-operand.Post
-  operand-returns c =
+  operand-returns-3 : eval-operand-lts.Need-returns-3 (operand-claims t) (eval-operand-at t) eval-operand.Post
+  operand-returns-3 c =
       let at = c .before .before .before .before .before .before .before .before in
       let a = word-start at .args in
       let f = c .before .before .before .before .fill-slot .ensures in (
@@ -276,40 +279,56 @@ module _ (t : ℕ) where
         ),
       )
 
-  operand-returns-2 : eval-operand-lts.Need-returns-2 (operand-claims t) (eval-operand-at t) eval-operand.Post
-  operand-returns-2 c =
-      let start = word-start (c .before) in
-      let a = start .args in
-      let h = c .if2 .left in
-      evaluated-none (start .pre .1 .inside) (λ n. operand-many (a .codes .now) n (a .d) (a .at .slot) (a .at .code) (word-here (c .before) .0) (a .at .code) (a .at .slot) _ (omega arith))
+-- ---- a part
 
-  operand-returns-3 : eval-operand-lts.Need-returns-3 (operand-claims t) (eval-operand-at t) eval-operand.Post
-  operand-returns-3 c =
-      let start = c .before .before .before .before .before .before .before .before in
-      let a = start .args in
-      let read = c .before .before .code-at .ensures in
-      evaluated-none (start .pre .1 .inside)
-      (λ n. operand-none (a .codes .now) n (a .d) (a .at .slot) (a .at .code) (a .at .code) (a .at .slot) _ (λ e. c .before .if1 .left (read ∙ e)) (λ e. c .if3 .taken (read ∙ e)))
+module _ (t : ℕ) where
+  -- where one can stand, its bracket opens there
+  abbrev AtOpen : Type 0
+  AtOpen = eval-part-lts.Else1 (part-claims t) (eval-part-at t) eval-part.Post
 
-  operand-returns-4 : eval-operand-lts.Need-returns-4 (operand-claims t) (eval-operand-at t) eval-operand.Post
-  operand-returns-4 c =
-      let start = open-start (c .before) in
-      let a = start .args in
-      evaluated-none (start .pre .1 .inside)
-      (λ n. operand-deep (a .codes .now) n (a .d) (a .at .slot) (a .at .code) (open-here (c .before) .0) (a .at .code) (a .at .slot) _ (c .if4 .taken))
+  abbrev asked : AtOpen → eval-part-lts.Start (part-claims t) (eval-part-at t) eval-part.Post
+  asked c = c .before .before .before .before .before .before .before
 
-  operand-eval-level-requires : eval-operand-lts.Need-eval-level-requires (operand-claims t) (eval-operand-at t) eval-operand.Post
-  operand-eval-level-requires c κs =
+  open-here : (c : AtOpen) → let a = asked c .args in Here (a .codes .now) (a .at .code) openCode
+  open-here c = let a = asked c .args in code-here (a .codes .now) (a .at .code) (c .before .code-at .ensures) (c .if1 .left) (omega arith)
+
+  -- and closes where the level in it ends
+  abbrev AtClose : Type 0
+  AtClose = eval-part-lts.Else3 (part-claims t) (eval-part-at t) eval-part.Post
+
+  abbrev opened : AtClose → AtOpen
+  opened c = c .before .before .before .before .before .before .before .before .before .before
+
+  close-here : (c : AtClose) → Here (asked (opened c) .args .codes .now) (c .before .before .before .before .before .before .eval-level .result .code) closeCode
+  close-here c =
+      code-here (asked (opened c) .args .codes .now) (c .before .before .before .before .before .before .eval-level .result .code)
+      (c .before .code-at2 .ensures) (c .if3 .left) (omega arith)
+
+  part-returns : eval-part-lts.Need-returns (part-claims t) (eval-part-at t) eval-part.Post
+  part-returns c =
+      let start = c .before .before .before .before .before .before .before in
+      let a = start .args in
+      evaluated-none (start .pre .1 .0 .inside)
+      (λ n. operand-none (a .codes .now) n (a .d) (a .at .slot) (a .at .code) (a .at .code) (a .at .slot) _ (start .pre .1 .1)
+      (λ e. c .if1 .taken (c .before .code-at .ensures ∙ e)))
+
+  part-returns-2 : eval-part-lts.Need-returns-2 (part-claims t) (eval-part-at t) eval-part.Post
+  part-returns-2 c =
+      let start = asked (c .before) in
+      let a = start .args in
+      evaluated-none (start .pre .1 .0 .inside)
+      (λ n. operand-deep (a .codes .now) n (a .d) (a .at .slot) (a .at .code) (open-here (c .before) .0) (a .at .code) (a .at .slot) _ (c .if2 .taken))
+
+  part-eval-level-requires : eval-part-lts.Need-eval-level-requires (part-claims t) (eval-part-at t) eval-part.Post
+  part-eval-level-requires c κs =
       let at = c .before .before .before in
-      let p = open-start at .pre .1 in
-      let m = open-start at .pre .0 in
-      let some = c .before .before .if4 .left in
+      let p = asked at .pre .1 .0 in
       (omega arith, record { lent = p .lent; inside = omega (arith, open-here at .1); blank = p .blank; size = p .size; near = omega arith })
 
-  operand-returns-5 : eval-operand-lts.Need-returns-5 (operand-claims t) (eval-operand-at t) eval-operand.Post
-  operand-returns-5 c =
+  part-returns-3 : eval-part-lts.Need-returns-3 (part-claims t) (eval-part-at t) eval-part.Post
+  part-returns-3 c =
       let at = c .before .before .before .before .before .before .before .before .before .before in
-      let a = open-start at .args in
+      let a = asked at .args in
       let r = c .before .before .before .before .before .before .eval-level in
       let e = r .ensures .1 .1 in (
         r .ensures .0,
@@ -317,17 +336,17 @@ module _ (t : ℕ) where
           r .ensures .1 .0,
           record {
             ahead = omega arith;
-            inside = open-start at .pre .1 .inside;
+            inside = asked at .pre .1 .0 .inside;
             reads = λ n. operand-unclosed (a .codes .now) n (a .d) (a .at .slot) (a .at .code) (open-here at .0) (r .result .code) (r .result .slot) _ (e .reads) (a .at .code)
                 (a .at .slot) _
-                (λ h. c .if5 .taken (c .before .code-at2 .ensures ∙ h));
+                (λ h. c .if3 .taken (c .before .code-at2 .ensures ∙ h));
           },
         ),
       )
 
-  operand-returns-6 : eval-operand-lts.Need-returns-6 (operand-claims t) (eval-operand-at t) eval-operand.Post
-  operand-returns-6 c =
-      let a = open-start (opened c) .args in
+  part-returns-4 : eval-part-lts.Need-returns-4 (part-claims t) (eval-part-at t) eval-part.Post
+  part-returns-4 c =
+      let a = asked (opened c) .args in
       let r = c .before .before .before .before .before .before .eval-level in
       let e = r .ensures .1 .1 in (
         r .ensures .0,
@@ -343,9 +362,9 @@ module _ (t : ℕ) where
         ),
       )
 
-pub +eval-level+eval-operand-spec : {M : Type 1} → statement M
-+eval-level+eval-operand-spec =
-    close μ-eval-level μ-eval-operand
+pub +eval-level+eval-operand+eval-part-spec : {M : Type 1} → statement M
++eval-level+eval-operand+eval-part-spec =
+    close μ-eval-level μ-eval-operand μ-eval-part
     (λ t. eval-level-lts.spec
     (level-claims t) (eval-level-at t) eval-level.Post eval-level-Inv-loop eval-level-μ-loop
     (λ c κs. let start = c .before .before .before .before .before .before .before in let m = start .pre .0 in (omega arith, start .pre .1))
@@ -357,18 +376,20 @@ pub +eval-level+eval-operand-spec : {M : Type 1} → statement M
     (λ c. let read = c .before .before .before .before .before .before .before .before .before in
     let e = read .eval-operand2 .ensures .1 .1 in omega (arith, operator t (read .before .before .before .before) .1, e .ahead, e .inside))
     (level-loop-again t))
-    λ t. eval-operand-lts.spec
+    (λ t. eval-operand-lts.spec
     (operand-claims t) (eval-operand-at t) eval-operand.Post
-    (λ c κs. search needs) (operand-fill-slot-requires t)
-    (λ c. let at = c .before .before .before .before .before .before .before .before in let b = word-start t at .good in omega (arith, word-here t at .1))
-    (λ c. let start = word-start t (c .before .before .before .before .before .before .before .before) in
-    let b = start .good in let h = c .before .before .before .before .before .before .before .if2 .taken in omega arith)
-    (λ c. c .before .before .before .before .fill-slot .ensures .0 .stay .long) (λ c. c .before .before .before .before .fill-slot .ensures .1 .long)
-    (operand-returns t) (operand-returns-2 t) (operand-returns-3 t) (operand-returns-4 t)
-    (λ c. let b = open-start t (c .before) .good in omega (arith, open-here t (c .before) .1)) (λ c. search needs)
-    (operand-eval-level-requires t) (λ c κs. search needs)
+    (λ c κs. search needs) (operand-eval-part-requires t) (λ c. c .before .before .before .before .eval-part .ensures .0 .stay .long)
+    (λ c. c .before .before .before .before .eval-part .ensures .1 .0) (λ c. c .before .before .before .before .eval-part .ensures) (operand-returns-2 t)
+    (operand-fill-slot-requires t)
+    (λ c. let at = c .before .before .before .before .before .before .before .before in omega (arith, word-here t at .1))
+    (λ c. omega arith)
+    (λ c. c .before .before .before .before .fill-slot .ensures .0 .stay .long) (λ c. c .before .before .before .before .fill-slot .ensures .1 .long) (operand-returns-3 t))
+    λ t. eval-part-lts.spec
+    (part-claims t) (eval-part-at t) eval-part.Post
+    (λ c κs. search needs) (part-returns t) (part-returns-2 t)
+    (λ c. omega (arith, open-here t (c .before) .1)) (λ c. search needs) (part-eval-level-requires t)
+    (λ c κs. search needs) (λ c. c .before .before .before .before .before .before .eval-level .ensures .0 .stay .long)
+    (λ c. c .before .before .before .before .before .before .eval-level .ensures .1 .0) (part-returns-3 t)
+    (λ c. omega (arith, close-here t c .1))
     (λ c. c .before .before .before .before .before .before .eval-level .ensures .0 .stay .long)
-    (λ c. c .before .before .before .before .before .before .eval-level .ensures .1 .0) (operand-returns-5 t)
-    (λ c. let b = open-start t (opened t c) .good in omega (arith, close-here t c .1))
-    (λ c. c .before .before .before .before .before .before .eval-level .ensures .0 .stay .long)
-    (λ c. c .before .before .before .before .before .before .eval-level .ensures .1 .0) (operand-returns-6 t)
+    (λ c. c .before .before .before .before .before .before .eval-level .ensures .1 .0) (part-returns-4 t)
