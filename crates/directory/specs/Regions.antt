@@ -41,6 +41,11 @@ pub record RegionsOf (index : List ℕ) (i : ℕ) (r : Regions) : Type 0 where
   pub singles-ascend : Ascends (numbersIn (singlesIn index r))
   pub upper-ascend : Ascends (numbersIn (upperIn index r))
 
+-- the marks of the list of some entry
+pub record Marked (index : List ℕ) (r : Regions) : Type 0 where
+  pub entry : ℕ
+  pub regions : RegionsOf index entry r
+
 -- where the list of entry i is read on for x: behind all that ends before x
 abbrev pub listPlace : List ℕ → ℕ → ℕ → Place
 listPlace index i x = readingPlace x (entrySingles index i) (entryUppers index i)

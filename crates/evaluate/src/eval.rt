@@ -1,14 +1,20 @@
 // A question answered for a window, by its codes: a level evaluates its first operand into the window, and each further one into a window of
 // its own, which is then combined with it. The bracket depth left falls at each call.
 ghost use mathlib.Core.Path.{_≡_};
+ghost use mathlib.Core.Bool.{true};
+ghost use Prim.Native.Nat.{_+_, _≤_, _<_};
 ghost use lib.ListN.{length, getD};
+ghost use Rattle.limits.specs.Limits.{questionWordsMax, recordMax};
+ghost use Rattle.window.specs.Tuning.{windowMost};
 ghost use Rattle.codes.specs.Code.{wordCode, noCode};
 ghost use Rattle.codes.specs.Reads.{asLevel, asOperand};
-ghost use Rattle.slots.specs.Row.{HintsMoved};
+ghost use Rattle.slots.specs.Row.{rowLong, sensesIn, NearEnd, HintsMoved};
 ghost use Rattle.slots.specs.Having.{having};
-ghost use Rattle.evaluate.specs.Evaluated.{Ready, Evaluated};
+ghost use Rattle.evaluate.specs.Evaluated.{OutFor, Ready, Evaluated};
+use crate::combine::combine_blank;
 use crate::combine::combine_into;
 use crate::slot::fill_slot;
+use crate::slot::is_out;
 use codes::code::CLOSE_CODE;
 use codes::code::OPEN_CODE;
 use codes::code::WORD_CODE;
@@ -49,23 +55,49 @@ pub fn eval_level<'a>(
         if !is_operator(code) {
             return next;
         }
-        let mut other: [u64; MOST] = [0; MOST];
-        let behind = Step {
-            code: next.code + 1,
-            slot: next.slot,
-        };
-        next = eval_operand(
-            codes,
-            behind,
-            d,
-            main,
-            arrivals,
-            base,
-            row,
-            &mut other[0..n],
-        );
-        combine_into(code, ws, &other[0..n]);
+        let right = next.code + 1;
+        let slot = next.slot;
+        if word_out(codes, right, slot, row, base, n) {
+            combine_blank(code, ws);
+            next = Step {
+                code: right + 1,
+                slot: slot + 1,
+            };
+        } else {
+            let behind = Step { code: right, slot };
+            let mut other: [u64; MOST] = [0; MOST];
+            next = eval_operand(
+                codes,
+                behind,
+                d,
+                main,
+                arrivals,
+                base,
+                row,
+                &mut other[0..n],
+            );
+            combine_into(code, ws, &other[0..n]);
+        }
     }
+}
+
+// Whether code i is that of a word, which has slot k, and the slot is out for a window of n numbers from base on.
+fn word_out(codes: &[u8], i: usize, k: usize, row: &[usize], base: u32, n: usize) -> bool
+    requires long { ⌜ length (now row) ≡ rowLong ⌝ }
+    requires senses { ⌜ NearEnd (sensesIn (now row)) ⌝ }
+    requires size { ⌜ n ≤ windowMost ⌝ }
+    requires near { ⌜ base ≤ recordMax + 1 ⌝ }
+    ensures word { λ r. ⌜ (r ≡ true → getD (now (codes .entry)) i noCode ≡ wordCode) ⌝ }
+    ensures slot { λ r. ⌜ (r ≡ true → k < questionWordsMax) ⌝ }
+    ensures out { λ r. ⌜ (r ≡ true → OutFor (sensesIn (now (row .entry))) k base n) ⌝ }
+{
+    if code_at(codes, i) != WORD_CODE {
+        return false;
+    }
+    if QUESTION_WORDS_MAX <= k {
+        return false;
+    }
+    is_out(row, k, base, n)
 }
 
 // Evaluates the operand that begins at a step: a word, or a level in brackets. It is small, so that the words of a level are filled without a call of it.

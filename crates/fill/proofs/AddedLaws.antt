@@ -10,8 +10,12 @@ use Rattle.window.specs.Filled.{within, Filled}
 use Rattle.window.proofs.HoldLaws.{bits-zeros}
 use Rattle.fill.specs.Added.{Added}
 
+-- no record of the window
+pub added-beyond : (p : ℕ → Bool) (base : ℕ) (ws : List ℕ) → ((n : ℕ) → n < 64 * length ws → p (base + n) ≡ false) → Added p base ws ws
+added-beyond p base ws e = record { long = refl; bits = λ n h. sym (rw (e n h) (or-false (bitAt ws n))) }
+
 pub added-none : (p : ℕ → Bool) (base : ℕ) (ws : List ℕ) → ((x : ℕ) → p x ≡ false) → Added p base ws ws
-added-none p base ws e = record { long = refl; bits = λ n h. sym (rw (e (base + n)) (or-false (bitAt ws n))) }
+added-none p base ws e = added-beyond p base ws (λ n h. e (base + n))
 
 -- nothing can be added to no words
 pub added-empty : {p : ℕ → Bool} {base : ℕ} {ws : List ℕ} → length ws ≡ 0 → Added p base ws ws

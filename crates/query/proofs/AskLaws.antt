@@ -34,9 +34,9 @@ use Rattle.slots.specs.Bound.{slotsIntervals}
 use Rattle.slots.specs.Compile.{WritesCodes, FillsSlots, TreeSlots}
 use Rattle.query.specs.Drive.{TreeOf, testOf, AskedBy, Ends}
 use Rattle.query.specs.Prepared.{MadeReady, Prepared, lastOf}
-use Rattle.slots.proofs.WholeLaws.{slot-satisfies, compiled-slots}
+use Rattle.slots.proofs.WholeLaws.{slot-satisfies, compiled-slots, compiled-read}
 use Rattle.slots.proofs.SlotBound.{slot-above, slots-bound}
-use Rattle.slots.proofs.RowLaws.{Alone}
+use Rattle.slots.proofs.RowLaws.{Blank}
 use Rattle.index.proofs.SoundLaws.{sound-trailer}
 
 -- ---- an accepted question made ready
@@ -54,16 +54,16 @@ module _ {index s codes codes′ row row′ : List ℕ} {n slots : ℕ} (c : Wri
   accepted = asked-parsed rule s t k is .1
 
   -- the index is lent as both
-  pub compiled-asked : Sound index → length row ≡ rowLong → AskedBy (take (n - 0) codes′) index index row′ slots
-  compiled-asked sound long = record {
-    lent = record { main-sound = sound; arrivals-sound = sound; long = c .1 .long ∙ long };
+  pub compiled-asked : Sound index → length row ≡ rowLong → Blank row → AskedBy (take (n - 0) codes′) index index row′ slots
+  compiled-asked sound long blank = record {
+    lent = compiled-read (c .1) blank sound long;
     few = omega (arith, c .1 .count, accepted-within (ruleOf rule) s t k accepted .words);
     all = c .1 .count ∙ sym (codes-words (tokens s)) ∙ ap wordCodes (sym compiled-codes);
   }
 
-  pub compiled-ready : Alone row → MadeReady (ofIndex index) (ruleOf rule) (take (n - 0) codes′) (having index index row′) slots t
-  compiled-ready alone =
-      let slotted = compiled-slots (c .1) alone index (ruleOf rule) (rule-keeps rule) t k accepted in
+  pub compiled-ready : Blank row → MadeReady (ofIndex index) (ruleOf rule) (take (n - 0) codes′) (having index index row′) slots t
+  compiled-ready blank =
+      let slotted = compiled-slots (c .1) blank index (ruleOf rule) (rule-keeps rule) t k accepted in
       record {
         reads =
             record {

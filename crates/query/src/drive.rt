@@ -80,6 +80,7 @@ fn take_window<'a>(
     out: &mut [u32],
 ) -> Done
     requires lends { ⌜ ReadBy (now main) (now arrivals) (now row) ⌝ }
+    requires sensed { ⌜ Sensed (having (now main) (now arrivals) (now row)) (sensesIn (now row)) (at .x) ⌝ }
     requires within { ⌜ WindowAt (now ws) at ⌝ }
     requires room { ⌜ Roomy (now codes) (having (now main) (now arrivals) (now row)) (at .x) writing (at .cells) (now out) ⌝ }
     ensures moved { λ _. ⌜ HintsMoved (now (row .entry)) (now (row .exit)) ⌝ }

@@ -8,61 +8,49 @@ use Rattle.limits.specs.Limits.{recordMax}
 use Rattle.list.specs.Interval.{names}
 use Rattle.list.specs.Sense.{Steady}
 use Rattle.index.specs.Format.{wordCount, listOf}
-use Rattle.slots.specs.Row.{slotsIn, firstIn, endIn}
+use Rattle.slots.specs.Row.{slotsIn, entriesAt}
 use Rattle.slots.specs.Having.{entryHas, inEntries, entriesHave, halfOf, having}
-use Rattle.slots.proofs.EntriesLaws.{entry-lists, entries-split, entries-next, entries-end, entries-past, range-none, inHalf, inHalves, halves-next}
+use Rattle.slots.proofs.EntriesLaws.{entry-lists, entries-split, entries-next, no-entry, inHalf, inHalves, halves-next}
 use Rattle.senses.proofs.PairedSenses.{steady-same, either-first, either-second, either-out}
 
 module _ (index : List ℕ) {x : ℕ} {a : Bool} {u : ℕ} where
   pub entry-steady : (i : ℕ) → i < wordCount index → Steady (names (listOf index i)) x a u → Steady (entryHas index i) x a u
   entry-steady i h = steady-same (names (listOf index i)) (entryHas index i) x a u (λ y. sym (entry-lists index i y h))
 
--- ---- the range from `first` on, as far as i
+-- ---- the first m entries of a range
 
-module _ (index : List ℕ) (x : ℕ) where
+module _ (index : List ℕ) (x first : ℕ) where
   -- of no entry: out up to the end
-  pub range-begun : (first : ℕ) → x ≤ recordMax → Steady (entriesHave index first first) x false (recordMax + 1)
-  range-begun first h = record { later = omega arith; near = omega arith; same = λ y g l. range-none index first first y (omega arith) }
+  pub range-begun : x ≤ recordMax → Steady (inEntries index first 0) x false (recordMax + 1)
+  range-begun h = record { later = omega arith; near = omega arith; same = λ y g l. no-entry index first y }
 
-  module _ (first i : ℕ) (from : first ≤ i) where
-    pub range-next : {u v : ℕ} → Steady (inEntries index first (i - first)) x false u → Steady (entryHas index i) x false v →
-        Steady (inEntries index first (i + 1 - first)) x false (min u v)
+  module _ (m : ℕ) where
+    pub range-next : {u v : ℕ} → Steady (inEntries index first m) x false u → Steady (entryHas index (first + m)) x false v →
+        Steady (inEntries index first (m + 1)) x false (min u v)
     range-next {u = u} {v = v} s t =
-        steady-same (λ y. inEntries index first (i - first) y || entryHas index i y) (inEntries index first (i + 1 - first)) x false (min u v)
-        (λ y. sym (entries-next index first i from y)) (either-out (inEntries index first (i - first)) (entryHas index i) s t)
+        steady-same (λ y. inEntries index first m y || entryHas index (first + m) y) (inEntries index first (m + 1)) x false (min u v)
+        (λ y. sym (entries-next index first m y)) (either-out (inEntries index first m) (entryHas index (first + m)) s t)
 
-    module _ (end : ℕ) where
-      -- a range has what one of its entries has
-      entry-among : i < end → (y : ℕ) → entryHas index i y ≡ true → entriesHave index first end y ≡ true
-      entry-among h y e =
-          let f : (i + 1 - first) + (end - (i + 1)) ≡ end - first = omega arith in
-          sym (ap (λ (n : ℕ). inEntries index first n y) f)
-          ∙ entries-split index first (i + 1 - first) (end - (i + 1)) y
-          ∙ ap (λ (b : Bool). b || inEntries index (first + (i + 1 - first)) (end - (i + 1)) y)
-          (entries-next index first i from y ∙ ap (λ (b : Bool). inEntries index first (i - first) y || b) e ∙ or-true (inEntries index first (i - first) y))
+    -- a range has what one of its entries has
+    entry-among : (count : ℕ) → m < count → (y : ℕ) → entryHas index (first + m) y ≡ true → inEntries index first count y ≡ true
+    entry-among count h y e =
+        let f : (m + 1) + (count - (m + 1)) ≡ count = omega arith in
+        sym (ap (λ (n : ℕ). inEntries index first n y) f)
+        ∙ entries-split index first (m + 1) (count - (m + 1)) y
+        ∙ ap (λ (b : Bool). b || inEntries index (first + (m + 1)) (count - (m + 1)) y)
+        (entries-next index first m y ∙ ap (λ (b : Bool). inEntries index first m y || b) e ∙ or-true (inEntries index first m y))
 
-      pub range-in : {u : ℕ} → i < end → Steady (entryHas index i) x true u → Steady (entriesHave index first end) x true u
-      range-in h s = record { later = s .later; near = s .near; same = λ y g l. entry-among h y (s .same y g l) }
-
-      -- it is the whole at its end, and behind the last entry
-      module _ {u : ℕ} (within : i - first ≤ end - first) (s : Steady (inEntries index first (i - first)) x false u) where
-        pub range-over : end ≤ i → Steady (entriesHave index first end) x false u
-        range-over h =
-            steady-same (inEntries index first (i - first)) (entriesHave index first end) x false u (entries-end index first i from end within h) s
-
-        pub range-past : wordCount index ≤ i → Steady (entriesHave index first end) x false u
-        range-past h =
-            steady-same (inEntries index first (i - first)) (entriesHave index first end) x false u (entries-past index first i from end within h) s
+    pub range-in : {u : ℕ} (count : ℕ) → m < count → Steady (entryHas index (first + m)) x true u → Steady (inEntries index first count) x true u
+    range-in count h s = record { later = s .later; near = s .near; same = λ y g l. entry-among count h y (s .same y g l) }
 
 -- ---- a slot, half by half
 
 module _ (main arrivals row : List ℕ) (k : ℕ) where
   -- what its range says, under the names that it is read by
-  pub half-said : (half : ℕ) (row₁ : List ℕ) {index : List ℕ} {f g x u : ℕ} {a : Bool} → slotsIn row₁ ≡ slotsIn row → index ≡ halfOf main arrivals half →
-      f ≡ firstIn (slotsIn row₁) (2 * k + half) → g ≡ endIn (slotsIn row₁) (2 * k + half) → Steady (entriesHave index f g) x a u →
-      Steady (inHalf main arrivals (slotsIn row) k half) x a u
-  half-said half row₁ {index} {f} {g} {x} {u} {a} same e₁ e₂ e₃ s =
-      steady-same (entriesHave index f g) (inHalf main arrivals (slotsIn row) k half) x a u (λ y. rw (e₁, e₂, e₃, same)) s
+  pub half-said : (half : ℕ) (row₁ : List ℕ) {index : List ℕ} {x u : ℕ} {a : Bool} → slotsIn row₁ ≡ slotsIn row → index ≡ halfOf main arrivals half →
+      Steady (entriesHave index (entriesAt (slotsIn row₁) (2 * k + half))) x a u → Steady (inHalf main arrivals (slotsIn row) k half) x a u
+  half-said half row₁ {index} {x} {u} {a} same e s =
+      steady-same (entriesHave index (entriesAt (slotsIn row₁) (2 * k + half))) (inHalf main arrivals (slotsIn row) k half) x a u (λ y. rw (e, same)) s
 
   -- a slot has what either half has
   pub half-in : (half : ℕ) → half < 2 → {x u : ℕ} → Steady (inHalf main arrivals (slotsIn row) k half) x true u → Steady (having main arrivals row k) x true u

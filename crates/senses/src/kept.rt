@@ -1,60 +1,41 @@
 // What each slot's word says from a record on, and until where, kept from look to look: most senses outlast many steps.
 ghost use mathlib.Core.Path.{_≡_};
-ghost use Prim.Native.Nat.{_≤_, _<_};
+ghost use Prim.Native.Nat.{_*_, _≤_, _<_};
 ghost use lib.ListN.{length};
-ghost use Rattle.limits.specs.Limits.{questionWordsMax, recordMax, wordsMax};
+ghost use Rattle.limits.specs.Limits.{questionWordsMax, recordMax};
 ghost use Rattle.list.specs.Sense.{Steady};
 ghost use Rattle.index.specs.Sound.{Sound};
-ghost use Rattle.directory.specs.Regions.{EntryIn};
-ghost use Rattle.slots.specs.Row.{rowLong, sensesIn, SlotsStay, HintsMoved};
-ghost use Rattle.slots.specs.Having.{entryHas, entriesHave, having, ReadBy};
+ghost use Rattle.slots.specs.Row.{rowLong, slotsIn, sensesIn, entriesAt, SlotsStay, HintsMoved};
+ghost use Rattle.slots.specs.Having.{entriesHave, having, EntriesIn, ReadBy};
 ghost use Rattle.senses.specs.Senses.{Sensed, Known, Renewed};
-use directory::sense::sense_in;
-use index::trailer::word_count;
+use directory::sense::sense_by;
 use list::END;
 use list::sense::Sense;
 use list::sense::smaller;
-use slots::row::Entries;
 use slots::row::entries_of;
 use slots::row::half_of;
 use slots::row::hint_number;
 use slots::row::keep_sense;
+use slots::row::regions_in;
 use slots::row::sense_of;
 
-// What the list of entry i of a range says of record x; its hint keeps where the list is read on.
-fn sense_entry(index: &[u8], entries: Entries, i: usize, x: u32, row: &mut [usize]) -> Sense
-    requires entry { ⌜ EntryIn (now index) i ⌝ }
-    requires from { ⌜ entries .first ≤ i ⌝ }
-    requires few { ⌜ i ≤ wordsMax ⌝ }
-    requires long { ⌜ length (now row) ≡ rowLong ⌝ }
-    requires near { ⌜ x ≤ recordMax ⌝ }
-    ensures moved { λ r. ⌜ HintsMoved (now (row .entry)) (now (row .exit)) ⌝ }
-    ensures steady { λ r. ⌜ Steady (entryHas (now (index .entry)) i) x (r .inside) (r .until) ⌝ }
-{
-    // By its fields: handed on whole, a sense is packed into one number and taken apart again, at each look.
-    let Sense { inside, until } = sense_in(index, i, x, hint_number(entries, i), row);
-    Sense { inside, until }
-}
-
-// What the entries of a range say of it together: the first that has it answers.
-fn sense_entries(index: &[u8], entries: Entries, x: u32, row: &mut [usize]) -> Sense
+// What the lists of range j say of record x together: the first that has it answers. The hint of each keeps where it is read on.
+fn sense_entries(index: &[u8], j: usize, x: u32, row: &mut [usize]) -> Sense
     requires sound { ⌜ Sound (now index) ⌝ }
     requires long { ⌜ length (now row) ≡ rowLong ⌝ }
+    requires range { ⌜ j < 2 * questionWordsMax ⌝ }
+    requires among { ⌜ EntriesIn (now index) (entriesAt (slotsIn (now row)) j) ⌝ }
     requires near { ⌜ x ≤ recordMax ⌝ }
     ensures moved { λ r. ⌜ HintsMoved (now (row .entry)) (now (row .exit)) ⌝ }
-    ensures steady { λ r. ⌜ Steady (entriesHave (now (index .entry)) (entries .first) (entries .end)) x (r .inside) (r .until) ⌝ }
+    ensures steady { λ r. ⌜ Steady (entriesHave (now (index .entry)) (entriesAt (slotsIn (now (row .entry))) j)) x (r .inside) (r .until) ⌝ }
 {
-    let count = word_count(index);
+    let count = entries_of(row, j).count;
     let mut out = END;
-    let mut i = entries.first;
-    while i < entries.end {
-        if count <= i {
-            return Sense {
-                inside: false,
-                until: out,
-            };
-        }
-        let Sense { inside, until } = sense_entry(index, entries, i, x, row);
+    let mut m = 0;
+    while m < count {
+        let regions = regions_in(index, entries_of(row, j), m);
+        // By its fields: handed on whole, a sense is packed into one number and taken apart again, at each look.
+        let Sense { inside, until } = sense_by(index, regions, x, hint_number(j, m), row);
         if inside {
             return Sense {
                 inside: true,
@@ -62,7 +43,7 @@ fn sense_entries(index: &[u8], entries: Entries, x: u32, row: &mut [usize]) -> S
             };
         }
         out = smaller(out, until);
-        i += 1;
+        m += 1;
     }
     Sense {
         inside: false,
@@ -81,12 +62,8 @@ fn look_slot<'a>(main: &'a [u8], arrivals: &'a [u8], row: &mut [usize], k: usize
     let mut out = END;
     let mut half = 0;
     while half < 2 {
-        let Sense { inside, until } = sense_entries(
-            half_of(main, arrivals, half),
-            entries_of(row, 2 * k + half),
-            x,
-            row,
-        );
+        let index = half_of(main, arrivals, half);
+        let Sense { inside, until } = sense_entries(index, 2 * k + half, x, row);
         if inside {
             return Sense {
                 inside: true,

@@ -10,10 +10,10 @@ use lib.Seq.{take-suc-set}
 use types.Run.{OneOf, miss}
 use denote.Enum.Declared.{tagOf}
 use Rattle.laws.proofs.Tests.{leb-cases}
-use Rattle.limits.specs.Limits.{wordsMax}
+use Rattle.index.specs.Format.{wordCount}
 use Rattle.index.specs.Sound.{Sound}
-use Rattle.index.proofs.SoundLaws.{sound-trailer}
-use Rattle.directory.specs.Has.{has}
+use Rattle.directory.specs.declared.parts.Regions.{Regions}
+use Rattle.directory.specs.Regions.{RegionsOf}
 use Rattle.directory.specs.declared.Standing.the-variants.{Here, Absent}
 use Rattle.directory.specs.Standing.{standingOf}
 use Rattle.directory.proofs.StandingLaws.{stands-at, here-has, absent-has}
@@ -26,24 +26,25 @@ use Rattle.question.specs.Next.{headed, TokenWithin, NextToken, endOf}
 use Rattle.question.specs.Limits.{tokenWords}
 use Rattle.codes.specs.Code.{wordCode, codesOf, tokenCode}
 use Rattle.slots.specs.declared.row.Entries.{Entries}
-use Rattle.slots.specs.Row.{slotsIn, firstIn, endIn, withRange}
-use Rattle.slots.specs.Having.{entriesHave}
+use Rattle.slots.specs.Row.{slotsIn, entriesAt}
 use Rattle.slots.specs.Compile.{StandsFor, WritesCodes, FillsSlots}
-use Rattle.slots.proofs.EntriesLaws.{entry-lists, range-none, range-one}
-use Rattle.slots.proofs.RowLaws.{slots-long, ranged-first, ranged-end, other-first, other-end}
+use Rattle.slots.proofs.EntriesLaws.{entry-lists, no-entry, one-entry}
+use Rattle.slots.proofs.RowLaws.{noEntries, none-among}
 
 -- ---- the entries for a word
 
 module _ (index : List ℕ) (sound : Sound index) (w : List ℕ) where
-  pub entries-here : (i : ℕ) → standingOf index w ≡ Here i → StandsFor index w i (i + 1)
-  entries-here i e x =
-      range-one index i x ∙ entry-lists index i x (stands-at index sound w (Here i) e .1) ∙ sym (here-has index sound w i x e)
+  pub here-below : (i : ℕ) → standingOf index w ≡ Here i → i < wordCount index
+  here-below i e = stands-at index sound w (Here i) e .1
 
-  pub entries-absent : (p : ℕ) → standingOf index w ≡ Absent p → StandsFor index w p p
-  entries-absent p e x = range-none index p p x (omega arith) ∙ sym (absent-has index sound w p x e)
+  pub entries-here : (i : ℕ) (r : Regions) → standingOf index w ≡ Here i → RegionsOf index i r → StandsFor index w (record { first = i; count = 1; regions = r })
+  entries-here i r e marks = record {
+    among = record { within = omega (arith, here-below i e); marked = λ h. marks };
+    have = λ x. one-entry index i x ∙ entry-lists index i x (here-below i e) ∙ sym (here-has index sound w i x e);
+  }
 
-  pub here-below : (i : ℕ) → standingOf index w ≡ Here i → i < wordsMax
-  here-below i e = omega (arith, stands-at index sound w (Here i) e .1, sound-trailer index sound .count-bound)
+  pub entries-absent : (p : ℕ) → standingOf index w ≡ Absent p → StandsFor index w noEntries
+  entries-absent p e = record { among = none-among index; have = λ x. no-entry index 0 x ∙ sym (absent-has index sound w p x e) }
 
 -- ---- the next token
 
@@ -102,38 +103,27 @@ drop-head (v ∷ l) (suc k) w r e =
     let h = drop-head l k w r e in
     (omega (arith, h .0), h .1, rw i (h .2))
 
--- one half of the first n slots has what the index has of the words
+-- one half of the first n slots stands for the words
 abbrev Filled : ℕ → List ℕ → List (List ℕ) → List ℕ → ℕ → Type 0
-Filled half index words slots n =
-    (k : ℕ) → k < n → StandsFor index (getD words k []) (firstIn slots (2 * k + half)) (endIn slots (2 * k + half))
+Filled half index words slots n = (k : ℕ) → k < n → StandsFor index (getD words k []) (entriesAt slots (2 * k + half))
 
--- the ranges of the other half stay
-pub record OthersStay (half : ℕ) (slots slots′ : List ℕ) : Type 0 where
-  pub firsts : (k : ℕ) → let j = 2 * k + (1 - half) in firstIn slots′ j ≡ firstIn slots j
-  pub ends : (k : ℕ) → let j = 2 * k + (1 - half) in endIn slots′ j ≡ endIn slots j
+-- and all other ranges stay
+abbrev OthersStay : ℕ → List ℕ → List ℕ → ℕ → Type 0
+OthersStay half slots slots′ n = (j : ℕ) → ((k : ℕ) → k < n → j ≡ 2 * k + half → ⊥) → entriesAt slots′ j ≡ entriesAt slots j
 
 -- a range for slot n
-module _ (half n j : ℕ) (low : half ≤ 1) (is : j ≡ 2 * n + half) (e : Entries) where
-  filled-next : (index : List ℕ) (words : List (List ℕ)) (slots : List ℕ) → 3 * j + 1 < length slots → Filled half index words slots n →
-      StandsFor index (getD words n []) (e .first) (e .end) → Filled half index words (withRange slots j e) (n + 1)
-  filled-next index words slots room f new k l x = go (ℕ-discrete k n)
+module _ (half n j : ℕ) (low : half ≤ 1) (is : j ≡ 2 * n + half) {e : Entries} (slots slots′ : List ℕ)
+    (kept : entriesAt slots′ j ≡ e) (others : (i : ℕ) → (i ≡ j → ⊥) → entriesAt slots′ i ≡ entriesAt slots i) where
+  filled-next : (index : List ℕ) (words : List (List ℕ)) → Filled half index words slots n → StandsFor index (getD words n []) e →
+      Filled half index words slots′ (n + 1)
+  filled-next index words f new k l = go (ℕ-discrete k n)
     where
-      go : Dec (k ≡ n) → entriesHave index (firstIn (withRange slots j e) (2 * k + half)) (endIn (withRange slots j e) (2 * k + half)) x
-          ≡ has index (getD words k []) x
-      go (yes q) = rw (q, ← is, ranged-first slots j e (omega arith), ranged-end slots j e room) (new x)
-      go (no q) =
-          let other : 2 * k + half ≡ j → ⊥ = λ h. q (omega arith) in
-          rw (other-first slots j e (2 * k + half) other, other-end slots j e (2 * k + half) other)
-          (f k (leb-cases n k (λ g. absurd (q (omega arith))) (λ g. g)) x)
+      go : Dec (k ≡ n) → StandsFor index (getD words k []) (entriesAt slots′ (2 * k + half))
+      go (yes q) = rw (q, ← is, kept) new
+      go (no q) = rw (others (2 * k + half) (λ h. q (omega arith))) (f k (leb-cases n k (λ g. absurd (q (omega arith))) (λ g. g)))
 
-  others-next : {slots₀ slots : List ℕ} → OthersStay half slots₀ slots → OthersStay half slots₀ (withRange slots j e)
-  others-next {slots₀} {slots} s = record {
-    firsts = λ k. other-first slots j e (2 * k + (1 - half)) (apart k) ∙ s .firsts k;
-    ends = λ k. other-end slots j e (2 * k + (1 - half)) (apart k) ∙ s .ends k;
-  }
-    where
-      apart : (k : ℕ) → 2 * k + (1 - half) ≡ j → ⊥
-      apart k q = omega arith
+  others-next : (slots₀ : List ℕ) → OthersStay half slots₀ slots n → OthersStay half slots₀ slots′ (n + 1)
+  others-next slots₀ s i free = others i (λ q. free n (omega arith) (q ∙ is)) ∙ s i (λ k l. free k (omega arith))
 
 -- ---- the pass
 
@@ -147,7 +137,7 @@ pub record Compiling (half : ℕ) (index s codes₀ row₀ codes row : List ℕ)
   pub some : slots ≤ length (tokenWords (tokens s))
   pub left : drop slots (tokenWords (tokens s)) ≡ tokenWords (tokensAt s at)
   pub filled : Filled half index (tokenWords (tokens s)) (slotsIn row) slots
-  pub others : OthersStay half (slotsIn row₀) (slotsIn row)
+  pub others : OthersStay half (slotsIn row₀) (slotsIn row) slots
 
 pub compile-start : (half : ℕ) (index s codes row : List ℕ) → Compiling half index s codes row codes row 0 0 0
 unfolding tokens
@@ -160,7 +150,7 @@ compile-start half index s codes row = record {
   some = omega arith;
   left = refl;
   filled = λ j h. absurd (omega arith);
-  others = record { firsts = λ k. refl; ends = λ k. refl };
+  others = λ j free. refl;
 }
 
 module _ {half : ℕ} {index s codes₀ row₀ codes row : List ℕ} {count slots at : ℕ} (c : Compiling half index s codes₀ row₀ codes row count slots at) where
@@ -183,13 +173,12 @@ module _ {half : ℕ} {index s codes₀ row₀ codes row : List ℕ} {count slot
     }
 
     -- the slot's range j is kept, and the row is row′
-    pub compile-word : {w row′ : List ℕ} {j : ℕ} (e : Entries) → half ≤ 1 → j ≡ 2 * slots + half → length row₀ ≡ 176 → length (tokenWords (tokens s)) ≤ 16 →
-        tokenWords (tokensAt s at) ≡ w ∷ tokenWords (tokensAt s n) → StandsFor index w (e .first) (e .end) →
-        length row′ ≡ length row → slotsIn row′ ≡ withRange (slotsIn row) j e →
+    pub compile-word : {w row′ : List ℕ} {j : ℕ} {e : Entries} → half ≤ 1 → j ≡ 2 * slots + half →
+        tokenWords (tokensAt s at) ≡ w ∷ tokenWords (tokensAt s n) → StandsFor index w e → length row′ ≡ length row → entriesAt (slotsIn row′) j ≡ e →
+        ((i : ℕ) → (i ≡ j → ⊥) → entriesAt (slotsIn row′) i ≡ entriesAt (slotsIn row) i) →
         Compiling half index s codes₀ row₀ (set codes count v) row′ (count + 1) (slots + 1) n
-    compile-word {w} {row′} {j} e low range whole few is stands long kept =
+    compile-word {w} {row′} {j} low range is stands long kept others =
         let head = drop-head (tokenWords (tokens s)) slots w (tokenWords (tokensAt s n)) (c .left ∙ is) in
-        let ranges = slots-long row (c .row-long ∙ whole) in
         record {
           near = omega arith;
           inside = next .inside;
@@ -198,9 +187,8 @@ module _ {half : ℕ} {index s codes₀ row₀ codes row : List ℕ} {count slot
           coded = code-written;
           some = omega (arith, head .0);
           left = head .2;
-          filled = rw kept
-              (filled-next half slots j low range e index (tokenWords (tokens s)) (slotsIn row) (omega (arith, head .0, ranges)) (c .filled) (rw (head .1) stands));
-          others = rw kept (others-next half slots j low range e (c .others));
+          filled = filled-next half slots j low range (slotsIn row) (slotsIn row′) kept others index (tokenWords (tokens s)) (c .filled) (rw (head .1) stands);
+          others = others-next half slots j low range (slotsIn row) (slotsIn row′) kept others (slotsIn row₀) (c .others);
         }
 
   -- there is a slot for a word that is left
@@ -221,7 +209,6 @@ module _ {half : ℕ} {index s codes₀ row₀ codes row : List ℕ} {count slot
     slots-filled = record {
       long = c .row-long;
       count = omega (arith, length-drop slots (tokenWords (tokens s)), ap length (c .left ∙ ap tokenWords e));
-      have = c .filled;
-      other-first = c .others .firsts;
-      other-end = c .others .ends;
+      stand = c .filled;
+      stay = c .others;
     }

@@ -1,5 +1,5 @@
 -- Laws of the row: what is read of it, and what a store into one of its parts leaves of the others.
-use Prim.Native.Nat.{ℕ, _+_, _-_, _*_, _≤_, _<_}
+use Prim.Native.Nat.{ℕ, zero, suc, _+_, _-_, _*_, _≤_, _<_}
 use native.Mathlib.Omega.{arith}
 use native.Mathlib.Decide.{ℕ-discrete}
 use mathlib.Core.Path.{_≡_, refl, sym, ap, _∙_}
@@ -13,91 +13,143 @@ use Rattle.list.specs.declared.Place.{Place}
 use Rattle.index.specs.Sound.{Sound}
 use Rattle.list.specs.Hints.{withHint}
 use Rattle.slots.specs.declared.row.Entries.{Entries}
-use Rattle.slots.specs.Having.{halfOf, slotHas, having, ReadBy}
-use Rattle.slots.specs.Row.{rowLong, slotsIn, sensesIn, firstIn, endIn, withRange, SlotsStay, HintsMoved}
+use Rattle.slots.specs.Having.{halfOf, slotHas, having, EntriesIn, ReadBy}
+use Rattle.slots.specs.Row.{rowLong, slotsIn, sensesIn, entriesAt, SlotsStay, HintsMoved}
 
 -- ---- what is read
 
-module _ (row : List ℕ) (j : ℕ) (h : j < 32) where
-  pub range-first : getD row (3 * j) 0 ≡ firstIn (slotsIn row) j
-  unfolding slotsIn
-  range-first = sym (getD-take 96 row (3 * j) 0 (omega arith))
+pub range-read : (row : List ℕ) (j : ℕ) → j < 32 → _≡_ {A = Entries} (record {
+  first = getD row (8 * j) 0;
+  count = getD row (8 * j + 1) 0;
+  regions = record { s = getD row (8 * j + 2) 0; l = getD row (8 * j + 3) 0; u = getD row (8 * j + 4) 0; end = getD row (8 * j + 5) 0 };
+}) (entriesAt (slotsIn row) j)
+unfolding slotsIn entriesAt
+range-read row j h =
+    rw (
+      getD-take 256 row (8 * j) 0 (omega arith),
+      getD-take 256 row (8 * j + 1) 0 (omega arith),
+      getD-take 256 row (8 * j + 2) 0 (omega arith),
+      getD-take 256 row (8 * j + 3) 0 (omega arith),
+      getD-take 256 row (8 * j + 4) 0 (omega arith),
+      getD-take 256 row (8 * j + 5) 0 (omega arith),
+    ) refl
 
-  pub range-end : getD row (3 * j + 1) 0 ≡ endIn (slotsIn row) j
-  unfolding slotsIn
-  range-end = sym (getD-take 96 row (3 * j + 1) 0 (omega arith))
-
-pub slots-long : (row : List ℕ) → length row ≡ 176 → length (slotsIn row) ≡ 96
+pub slots-long : (row : List ℕ) → length row ≡ 336 → length (slotsIn row) ≡ 256
 unfolding slotsIn
-slots-long row e = length-take-le 96 row (omega arith)
+slots-long row e = length-take-le 256 row (omega arith)
 
-pub sense-read : (row : List ℕ) (k : ℕ) → k < 16 → getD row (96 + k) 0 ≡ getD (sensesIn row) k 0
+pub sense-read : (row : List ℕ) (k : ℕ) → k < 16 → getD row (256 + k) 0 ≡ getD (sensesIn row) k 0
 unfolding sensesIn
-sense-read row k h = sym (getD-take 16 (drop 96 row) k 0 h ∙ getD-drop 96 row k 0)
+sense-read row k h = sym (getD-take 16 (drop 256 row) k 0 h ∙ getD-drop 256 row k 0)
 
-pub senses-long : (row : List ℕ) → length row ≡ 176 → length (sensesIn row) ≡ 16
+pub senses-long : (row : List ℕ) → length row ≡ 336 → length (sensesIn row) ≡ 16
 unfolding sensesIn
-senses-long row e = length-take-le 16 (drop 96 row) (omega (arith, length-drop 96 row))
+senses-long row e = length-take-le 16 (drop 256 row) (omega (arith, length-drop 256 row))
 
 -- ---- what is stored
 
-pub range-kept : (row : List ℕ) (j : ℕ) (e : Entries) → j < 32 →
-    slotsIn (set (set (set row (3 * j) (e .first)) (3 * j + 1) (e .end)) (3 * j + 2) (e .hint)) ≡ withRange (slotsIn row) j e
-unfolding slotsIn
-range-kept row j e h =
-    take-set-lt 96 (set (set row (3 * j) (e .first)) (3 * j + 1) (e .end)) (3 * j + 2) (e .hint) (omega arith)
-    ∙ ap (λ (l : List ℕ). set l (3 * j + 2) (e .hint))
-    (take-set-lt 96 (set row (3 * j) (e .first)) (3 * j + 1) (e .end) (omega arith)
-    ∙ ap (λ (l : List ℕ). set l (3 * j + 1) (e .end)) (take-set-lt 96 row (3 * j) (e .first) (omega arith)))
+-- the first n of some numbers stored from i on
+unfoldable laid : List ℕ → ℕ → (ℕ → ℕ) → ℕ → List ℕ
+laid l i f zero = l
+laid l i f (suc n) = set (laid l i f n) (i + n) (f n)
 
--- another range for range j: what is read of it, and that the others stay
+laid-long : (l : List ℕ) (i : ℕ) (f : ℕ → ℕ) (n : ℕ) → length (laid l i f n) ≡ length l
+unfolding laid
+laid-long l i f zero = refl
+laid-long l i f (suc n) = length-set (laid l i f n) (i + n) (f n) ∙ laid-long l i f n
+
+laid-read : (l : List ℕ) (i : ℕ) (f : ℕ → ℕ) (n c : ℕ) → c < n → i + n ≤ length l → getD (laid l i f n) (i + c) 0 ≡ f c
+unfolding laid
+laid-read l i f zero c h r = absurd (omega arith)
+laid-read l i f (suc n) c h r = go (ℕ-discrete c n) (λ g. laid-read l i f n c g (omega arith))
+  where
+    go : Dec (c ≡ n) → (c < n → getD (laid l i f n) (i + c) 0 ≡ f c) → getD (set (laid l i f n) (i + n) (f n)) (i + c) 0 ≡ f c
+    go (yes q) before = rw q (getD-set-same (laid l i f n) (i + n) (f n) 0 (omega (arith, laid-long l i f n)))
+    go (no q) before = getD-set-other (laid l i f n) (i + n) (i + c) (f n) 0 (λ e. q (omega arith))
+        ∙ before (leb-cases {A = c < n} n c (λ g. absurd (q (omega arith))) (λ g. g))
+
+laid-past : (l : List ℕ) (i : ℕ) (f : ℕ → ℕ) (n m : ℕ) → ((c : ℕ) → c < n → m ≡ i + c → ⊥) → getD (laid l i f n) m 0 ≡ getD l m 0
+unfolding laid
+laid-past l i f zero m h = refl
+laid-past l i f (suc n) m h =
+    getD-set-other (laid l i f n) (i + n) m (f n) 0 (h n (omega arith)) ∙ laid-past l i f n m (λ c g. h c (omega arith))
+
+laid-in : (row : List ℕ) (i : ℕ) (f : ℕ → ℕ) (n : ℕ) → i + n ≤ 256 → slotsIn (laid row i f n) ≡ laid (slotsIn row) i f n
+unfolding laid slotsIn
+laid-in row i f zero h = refl
+laid-in row i f (suc n) h =
+    take-set-lt 256 (laid row i f n) (i + n) (f n) (omega arith) ∙ ap (λ (l : List ℕ). set l (i + n) (f n)) (laid-in row i f n (omega arith))
+
+-- the six numbers of a range
+abbrev numbersOf : Entries → ℕ → ℕ
+numbersOf e zero = e .first
+numbersOf e (suc zero) = e .count
+numbersOf e (suc (suc zero)) = e .regions .s
+numbersOf e (suc (suc (suc zero))) = e .regions .l
+numbersOf e (suc (suc (suc (suc zero)))) = e .regions .u
+numbersOf e (suc (suc (suc (suc (suc c))))) = e .regions .end
+
 module _ (slots : List ℕ) (j : ℕ) (e : Entries) where
-  pub ranged-first : 3 * j < length slots → firstIn (withRange slots j e) j ≡ e .first
-  ranged-first h =
-      getD-set-other (set (set slots (3 * j) (e .first)) (3 * j + 1) (e .end)) (3 * j + 2) (3 * j) (e .hint) 0 (λ q. omega arith)
-      ∙ getD-set-other (set slots (3 * j) (e .first)) (3 * j + 1) (3 * j) (e .end) 0 (λ q. omega arith)
-      ∙ getD-set-same slots (3 * j) (e .first) 0 h
+  laid-range : 8 * j + 6 ≤ length slots → entriesAt (laid slots (8 * j) (numbersOf e) 6) j ≡ e
+  unfolding entriesAt
+  laid-range h =
+      let read : (c : ℕ) → c < 6 → getD (laid slots (8 * j) (numbersOf e) 6) (8 * j + c) 0 ≡ numbersOf e c =
+      λ c g. laid-read slots (8 * j) (numbersOf e) 6 c g h in
+      let z : 8 * j + 0 ≡ 8 * j = omega arith in
+      rw (rw z at (read 0 (omega arith)), read 1 (omega arith), read 2 (omega arith), read 3 (omega arith), read 4 (omega arith), read 5 (omega arith)) refl
 
-  pub ranged-end : 3 * j + 1 < length slots → endIn (withRange slots j e) j ≡ e .end
-  ranged-end h =
-      getD-set-other (set (set slots (3 * j) (e .first)) (3 * j + 1) (e .end)) (3 * j + 2) (3 * j + 1) (e .hint) 0 (λ q. omega arith)
-      ∙ getD-set-same (set slots (3 * j) (e .first)) (3 * j + 1) (e .end) 0 (omega (arith, length-set slots (3 * j) (e .first)))
+  laid-others : (i : ℕ) → (i ≡ j → ⊥) → entriesAt (laid slots (8 * j) (numbersOf e) 6) i ≡ entriesAt slots i
+  unfolding entriesAt
+  laid-others i n =
+      let same : (d : ℕ) → d < 6 → getD (laid slots (8 * j) (numbersOf e) 6) (8 * i + d) 0 ≡ getD slots (8 * i + d) 0 =
+      λ d g. laid-past slots (8 * j) (numbersOf e) 6 (8 * i + d) (λ c h q. n (omega arith)) in
+      let z : 8 * i + 0 ≡ 8 * i = omega arith in
+      rw (rw z at (same 0 (omega arith)), same 1 (omega arith), same 2 (omega arith), same 3 (omega arith), same 4 (omega arith), same 5 (omega arith)) refl
 
-  module _ (i : ℕ) (n : i ≡ j → ⊥) where
-    -- none of the three numbers is read at m
-    unset : (m : ℕ) → (m ≡ 3 * j → ⊥) → (m ≡ 3 * j + 1 → ⊥) → (m ≡ 3 * j + 2 → ⊥) → getD (withRange slots j e) m 0 ≡ getD slots m 0
-    unset m f g h =
-        getD-set-other (set (set slots (3 * j) (e .first)) (3 * j + 1) (e .end)) (3 * j + 2) m (e .hint) 0 h
-        ∙ getD-set-other (set slots (3 * j) (e .first)) (3 * j + 1) m (e .end) 0 g
-        ∙ getD-set-other slots (3 * j) m (e .first) 0 f
+-- another range for range j, as it is stored: it is read again, and the others stay
+abbrev pub withRange : List ℕ → ℕ → Entries → List ℕ
+withRange row j e =
+    set (set (set (set (set (set row (8 * j) (e .first)) (8 * j + 1) (e .count)) (8 * j + 2) (e .regions .s)) (8 * j + 3) (e .regions .l))
+    (8 * j + 4) (e .regions .u)) (8 * j + 5) (e .regions .end)
 
-    pub other-first : firstIn (withRange slots j e) i ≡ firstIn slots i
-    other-first = unset (3 * i) (λ q. n (omega arith)) (λ q. omega arith) (λ q. omega arith)
+module _ (row : List ℕ) (j : ℕ) (e : Entries) (h : j < 32) where
+  six : laid row (8 * j) (numbersOf e) 6 ≡ withRange row j e
+  unfolding laid
+  six =
+      let z : 8 * j + 0 ≡ 8 * j = omega arith in
+      ap (λ (i : ℕ). set (set (set (set (set (set row i (e .first)) (8 * j + 1) (e .count)) (8 * j + 2) (e .regions .s)) (8 * j + 3) (e .regions .l))
+      (8 * j + 4) (e .regions .u)) (8 * j + 5) (e .regions .end)) z
 
-    pub other-end : endIn (withRange slots j e) i ≡ endIn slots i
-    other-end = unset (3 * i + 1) (λ q. omega arith) (λ q. n (omega arith)) (λ q. omega arith)
+  stored : slotsIn (withRange row j e) ≡ laid (slotsIn row) (8 * j) (numbersOf e) 6
+  stored = ap slotsIn (sym six) ∙ laid-in row (8 * j) (numbersOf e) 6 (omega arith)
+
+  pub range-kept : length row ≡ 336 → entriesAt (slotsIn (withRange row j e)) j ≡ e
+  range-kept long = rw stored (laid-range (slotsIn row) j e (omega (arith, slots-long row long)))
+
+  pub ranges-stay : (i : ℕ) → (i ≡ j → ⊥) → entriesAt (slotsIn (withRange row j e)) i ≡ entriesAt (slotsIn row) i
+  ranges-stay i n = rw stored (laid-others (slotsIn row) j e i n)
 
 module _ (row : List ℕ) (k n : ℕ) where
-  pub sense-slots : SlotsStay row (set row (96 + k) n)
+  pub sense-slots : SlotsStay row (set row (256 + k) n)
   unfolding slotsIn
-  sense-slots = record { long = length-set row (96 + k) n; slots = take-set-le 96 row (96 + k) n (omega arith) }
+  sense-slots = record { long = length-set row (256 + k) n; slots = take-set-le 256 row (256 + k) n (omega arith) }
 
-  pub sense-kept : k < 16 → sensesIn (set row (96 + k) n) ≡ set (sensesIn row) k n
+  pub sense-kept : k < 16 → sensesIn (set row (256 + k) n) ≡ set (sensesIn row) k n
   unfolding sensesIn
-  sense-kept h = ap (λ (l : List ℕ). take 16 l) (drop-set-add 96 row k n) ∙ take-set-lt 16 (drop 96 row) k n h
+  sense-kept h = ap (λ (l : List ℕ). take 16 l) (drop-set-add 256 row k n) ∙ take-set-lt 16 (drop 256 row) k n h
 
 -- a number behind the senses
-behind-senses : (row : List ℕ) (i n : ℕ) → 16 ≤ i → sensesIn (set row (96 + i) n) ≡ sensesIn row
+behind-senses : (row : List ℕ) (i n : ℕ) → 16 ≤ i → sensesIn (set row (256 + i) n) ≡ sensesIn row
 unfolding sensesIn
-behind-senses row i n h = ap (λ (l : List ℕ). take 16 l) (drop-set-add 96 row i n) ∙ take-set-le 16 (drop 96 row) i n h
+behind-senses row i n h = ap (λ (l : List ℕ). take 16 l) (drop-set-add 256 row i n) ∙ take-set-le 16 (drop 256 row) i n h
 
-pub behind-moved : (row : List ℕ) (i n : ℕ) → 112 ≤ i → HintsMoved row (set row i n)
+pub behind-moved : (row : List ℕ) (i n : ℕ) → 272 ≤ i → HintsMoved row (set row i n)
 unfolding slotsIn
 behind-moved row i n h =
-    let e : 96 + (i - 96) ≡ i = omega arith in
+    let e : 256 + (i - 256) ≡ i = omega arith in
     record {
-      stay = record { long = length-set row i n; slots = take-set-le 96 row i n (omega arith) };
-      senses = ap (λ (m : ℕ). sensesIn (set row m n)) (sym e) ∙ behind-senses row (i - 96) n (omega arith);
+      stay = record { long = length-set row i n; slots = take-set-le 256 row i n (omega arith) };
+      senses = ap (λ (m : ℕ). sensesIn (set row m n)) (sym e) ∙ behind-senses row (i - 256) n (omega arith);
     }
 
 -- ---- one after the other
@@ -112,29 +164,37 @@ pub moved-both : {a b c : List ℕ} → HintsMoved a b → HintsMoved b c → Hi
 moved-both s t = record { stay = stay-both (s .stay) (t .stay); senses = t .senses ∙ s .senses }
 
 -- a hint that is kept
-pub hint-moved : (row : List ℕ) (n : ℕ) (place : Place) → 56 ≤ n → HintsMoved row (withHint row n place)
+pub hint-moved : (row : List ℕ) (n : ℕ) (place : Place) → 136 ≤ n → HintsMoved row (withHint row n place)
 hint-moved row n place h =
     moved-both (behind-moved row (2 * n) (place .p .0) (omega arith)) (behind-moved (set row (2 * n) (place .p .0)) (2 * n + 1) (place .q .0) (omega arith))
 
 -- ---- a row of zeros
 
--- no slot has entries of arrivals
-abbrev pub Alone : List ℕ → Type 0
-Alone row = (k : ℕ) → endIn (slotsIn row) (2 * k + 1) ≤ firstIn (slotsIn row) (2 * k + 1)
+-- a range of none, which is one of any index
+abbrev pub noEntries : Entries
+noEntries = record { first = 0; count = 0; regions = record { s = 0; l = 0; u = 0; end = 0 } }
 
-pub blank-alone : Alone (replicate rowLong 0)
-unfolding slotsIn
-blank-alone k = omega (arith, zeros-at 96 (3 * (2 * k + 1) + 1))
+pub none-among : (index : List ℕ) → EntriesIn index noEntries
+none-among index = record { within = omega arith; marked = λ h. absurd (omega arith) }
+
+-- no slot has entries
+abbrev pub Blank : List ℕ → Type 0
+Blank row = (j : ℕ) → entriesAt (slotsIn row) j ≡ noEntries
+
+pub zeros-blank : Blank (replicate rowLong 0)
+unfolding slotsIn entriesAt
+zeros-blank j =
+    rw (zeros-at 256 (8 * j), zeros-at 256 (8 * j + 1), zeros-at 256 (8 * j + 2), zeros-at 256 (8 * j + 3), zeros-at 256 (8 * j + 4), zeros-at 256 (8 * j + 5)) refl
 
 -- ---- no sense that says anything
 
-pub senses-none : (row : List ℕ) → length row ≡ 176 → ((j : ℕ) → j < 16 → getD (sensesIn row) j 0 ≡ 0) → sensesIn row ≡ replicate 16 0
+pub senses-none : (row : List ℕ) → length row ≡ 336 → ((j : ℕ) → j < 16 → getD (sensesIn row) j 0 ≡ 0) → sensesIn row ≡ replicate 16 0
 senses-none row e f =
     let long = senses-long row e in
     ext-getD 0 (sensesIn row) (replicate 16 0) (long ∙ sym (length-replicate {A = ℕ} 16 0)) (λ j h. f j (omega arith) ∙ sym (zeros-at 16 j))
 
-pub none-more : (row : List ℕ) (k : ℕ) → length row ≡ 176 → k < 16 → ((j : ℕ) → j < k → getD (sensesIn row) j 0 ≡ 0) →
-    (j : ℕ) → j < k + 1 → getD (sensesIn (set row (96 + k) 0)) j 0 ≡ 0
+pub none-more : (row : List ℕ) (k : ℕ) → length row ≡ 336 → k < 16 → ((j : ℕ) → j < k → getD (sensesIn row) j 0 ≡ 0) →
+    (j : ℕ) → j < k + 1 → getD (sensesIn (set row (256 + k) 0)) j 0 ≡ 0
 none-more row k e h f j l = ap (λ (s : List ℕ). getD s j 0) (sense-kept row k 0 h) ∙ go (ℕ-discrete j k)
   where
     go : Dec (j ≡ k) → getD (set (sensesIn row) k 0) j 0 ≡ 0
@@ -150,8 +210,20 @@ pub moved-having : (main arrivals : List ℕ) {row row′ : List ℕ} → HintsM
 moved-having main arrivals m = stay-having main arrivals (m .stay)
 
 pub read-again : {main arrivals row row′ : List ℕ} → ReadBy main arrivals row → SlotsStay row row′ → ReadBy main arrivals row′
-read-again r s = record { main-sound = r .main-sound; arrivals-sound = r .arrivals-sound; long = s .long ∙ r .long }
+read-again {main} {arrivals} r s = record {
+  main-sound = r .main-sound;
+  arrivals-sound = r .arrivals-sound;
+  long = s .long ∙ r .long;
+  ranges = λ k half h. rw (s .slots) (r .ranges k half h);
+}
 
 -- either index of those that slots are read by
 pub half-sound : {main arrivals row : List ℕ} → ReadBy main arrivals row → (half : ℕ) → Sound (halfOf main arrivals half)
 half-sound r half = by-test (eqb half 0) (λ e. rw e (r .main-sound)) (λ e. rw e (r .arrivals-sound))
+
+-- the two ranges of slot k
+pub main-among : {main arrivals row : List ℕ} → ReadBy main arrivals row → (k : ℕ) → EntriesIn main (entriesAt (slotsIn row) (2 * k))
+main-among r k = let e : 2 * k + 0 ≡ 2 * k = omega arith in rw e at (r .ranges k 0 (omega arith))
+
+pub arrivals-among : {main arrivals row : List ℕ} → ReadBy main arrivals row → (k : ℕ) → EntriesIn arrivals (entriesAt (slotsIn row) (2 * k + 1))
+arrivals-among r k = r .ranges k 1 (omega arith)

@@ -1,5 +1,5 @@
 -- What fits a question by its slots only changes where the list of one of their entries does: it has no more intervals than those lists together.
-use Prim.Native.Nat.{ℕ, zero, suc, _+_, _-_, _*_, _≤_, _<_}
+use Prim.Native.Nat.{ℕ, zero, suc, _+_, _*_, _≤_, _<_}
 use native.Mathlib.Omega.{arith}
 use mathlib.Core.Path.{_≡_, refl, sym, ap, ap₂, _∙_}
 use mathlib.Core.Bool.{Bool, false, _||_}
@@ -16,7 +16,7 @@ use Rattle.index.specs.Sound.{Sound}
 use Rattle.directory.proofs.HasLaws.{list-proper}
 use Rattle.question.specs.Grammar.{Tree, word, pair, part, treeWords}
 use Rattle.question.specs.Meaning.{combine}
-use Rattle.slots.specs.Row.{firstIn, endIn}
+use Rattle.slots.specs.Row.{entriesAt}
 use Rattle.slots.specs.Having.{entryHas, inEntries, slotHas}
 use Rattle.slots.specs.Slots.{slotSatisfies}
 use Rattle.slots.specs.Bound.{entryIntervals, rangeIntervals, slotIntervals, slotsIntervals}
@@ -111,10 +111,10 @@ satisfies-still v (part t) k x f = satisfies-still v t k x f
 module _ (main arrivals slots : List ℕ) where
   -- the entries of slot k in the one and in the other
   abbrev mainTests : ℕ → List (ℕ → Bool)
-  mainTests k = entryTests main (firstIn slots (2 * k)) (endIn slots (2 * k) - firstIn slots (2 * k))
+  mainTests k = entryTests main (entriesAt slots (2 * k) .first) (entriesAt slots (2 * k) .count)
 
   abbrev arrivalsTests : ℕ → List (ℕ → Bool)
-  arrivalsTests k = entryTests arrivals (firstIn slots (2 * k + 1)) (endIn slots (2 * k + 1) - firstIn slots (2 * k + 1))
+  arrivalsTests k = entryTests arrivals (entriesAt slots (2 * k + 1) .first) (entriesAt slots (2 * k + 1) .count)
 
   unfoldable slotsTests : ℕ → ℕ → List (ℕ → Bool)
   slotsTests k zero = []
@@ -137,8 +137,8 @@ module _ (main arrivals slots : List ℕ) where
   module _ (s : Sound main) (r : Sound arrivals) where
     pub slot-zero : (k : ℕ) → slotHas main arrivals slots k 0 ≡ false
     unfolding slotHas
-    slot-zero k = rw (entries-none main 0 (entry-zero main s) (firstIn slots (2 * k)) (endIn slots (2 * k) - firstIn slots (2 * k)))
-        (entries-none arrivals 0 (entry-zero arrivals r) (firstIn slots (2 * k + 1)) (endIn slots (2 * k + 1) - firstIn slots (2 * k + 1)))
+    slot-zero k = rw (entries-none main 0 (entry-zero main s) (entriesAt slots (2 * k) .first) (entriesAt slots (2 * k) .count))
+        (entries-none arrivals 0 (entry-zero arrivals r) (entriesAt slots (2 * k + 1) .first) (entriesAt slots (2 * k + 1) .count))
 
     slots-out : (k n : ℕ) → AllOut (slotsTests k n) 0
     unfolding slotsTests
@@ -151,8 +151,8 @@ module _ (main arrivals slots : List ℕ) where
       pub slot-above : (k x : ℕ) → n < x → slotHas main arrivals slots k x ≡ false
       unfolding slotHas
       slot-above k x l =
-          rw (entries-none main x (λ i. entry-above main s n h i x l) (firstIn slots (2 * k)) (endIn slots (2 * k) - firstIn slots (2 * k)))
-          (entries-none arrivals x (λ i. entry-above arrivals r n g i x l) (firstIn slots (2 * k + 1)) (endIn slots (2 * k + 1) - firstIn slots (2 * k + 1)))
+          rw (entries-none main x (λ i. entry-above main s n h i x l) (entriesAt slots (2 * k) .first) (entriesAt slots (2 * k) .count))
+          (entries-none arrivals x (λ i. entry-above arrivals r n g i x l) (entriesAt slots (2 * k + 1) .first) (entriesAt slots (2 * k + 1) .count))
 
       slots-together : (k m : ℕ) → together (slotsTests k m) n ≡ slotsIntervals main arrivals slots k m
       unfolding slotsTests together slotsIntervals slotIntervals

@@ -1,11 +1,12 @@
 -- How many intervals the lists of a question's words have together: its answer never has more.
-use Prim.Native.Nat.{ℕ, zero, suc, _+_, _-_, _*_}
+use Prim.Native.Nat.{ℕ, zero, suc, _+_, _*_}
 use mathlib.Core.Bool.{cond}
 use mathlib.Core.List.{List}
 use lib.Dec.{ltb}
 use Rattle.list.specs.Interval.{intervals}
 use Rattle.index.specs.Format.{wordCount, listOf}
-use Rattle.slots.specs.Row.{firstIn, endIn}
+use Rattle.slots.specs.declared.row.Entries.{Entries}
+use Rattle.slots.specs.Row.{entriesAt}
 
 -- of the list of an entry; a number that is no entry's has none
 unfoldable pub entryIntervals : List ℕ → ℕ → ℕ
@@ -16,14 +17,14 @@ unfoldable pub rangeIntervals : List ℕ → ℕ → ℕ → ℕ
 rangeIntervals index i zero = 0
 rangeIntervals index i (suc n) = entryIntervals index i + rangeIntervals index (i + 1) n
 
--- of those of the entries from `first` up to `end`
-abbrev pub entriesIntervals : List ℕ → ℕ → ℕ → ℕ
-entriesIntervals index first end = rangeIntervals index first (end - first)
+-- of those of the entries of a range
+abbrev pub entriesIntervals : List ℕ → Entries → ℕ
+entriesIntervals index e = rangeIntervals index (e .first) (e .count)
 
 -- of the lists of slot k, in the main index and in the arrivals
 unfoldable pub slotIntervals : List ℕ → List ℕ → List ℕ → ℕ → ℕ
 slotIntervals main arrivals slots k =
-    entriesIntervals main (firstIn slots (2 * k)) (endIn slots (2 * k)) + entriesIntervals arrivals (firstIn slots (2 * k + 1)) (endIn slots (2 * k + 1))
+    entriesIntervals main (entriesAt slots (2 * k)) + entriesIntervals arrivals (entriesAt slots (2 * k + 1))
 
 -- of the lists of the n slots from k on
 unfoldable pub slotsIntervals : List ℕ → List ℕ → List ℕ → ℕ → ℕ → ℕ

@@ -5,17 +5,17 @@ use mathlib.Core.Path.{_≡_}
 use mathlib.Core.Bool.{Bool, cond}
 use mathlib.Core.List.{List}
 use lib.Dec.{eqb}
-use lib.ListN.{length, getD, take, drop, set}
+use lib.ListN.{length, getD, take, drop}
 use Rattle.limits.specs.Limits.{questionWordsMax, recordMax}
 use Rattle.list.specs.declared.sense.Sense.{Sense}
 use Rattle.slots.specs.declared.row.Entries.{Entries}
 
--- three numbers for each range of each slot; a number for each sense; two for each hint
+-- eight numbers for each range of each slot; a number for each sense; two for each hint
 abbrev pub rangesLong : ℕ
-rangesLong = 6 * questionWordsMax
+rangesLong = 16 * questionWordsMax
 
 abbrev pub firstHint : ℕ
-firstHint = 56
+firstHint = 136
 
 abbrev pub hintsMax : ℕ
 hintsMax = 32
@@ -33,16 +33,13 @@ sensesIn row = take questionWordsMax (drop rangesLong row)
 
 -- ---- a range: slot k has 2 * k in the main index and 2 * k + 1 in the arrivals
 
--- its first entry, and the end of its entries; the third number is that of its first hint
-abbrev pub firstIn : List ℕ → ℕ → ℕ
-firstIn slots j = getD slots (3 * j) 0
-
-abbrev pub endIn : List ℕ → ℕ → ℕ
-endIn slots j = getD slots (3 * j + 1) 0
-
--- the ranges with another one for range j
-abbrev pub withRange : List ℕ → ℕ → Entries → List ℕ
-withRange slots j e = set (set (set slots (3 * j) (e .first)) (3 * j + 1) (e .end)) (3 * j + 2) (e .hint)
+-- its first entry, how many it has, and the marks of the first one's list; two numbers more say nothing
+unfoldable pub entriesAt : List ℕ → ℕ → Entries
+entriesAt slots j = record {
+  first = getD slots (8 * j) 0;
+  count = getD slots (8 * j + 1) 0;
+  regions = record { s = getD slots (8 * j + 2) 0; l = getD slots (8 * j + 3) 0; u = getD slots (8 * j + 4) 0; end = getD slots (8 * j + 5) 0 };
+}
 
 -- ---- a sense is one number: twice the number until which it holds, and one more where it is in
 

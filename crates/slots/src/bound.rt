@@ -1,7 +1,8 @@
 // How many intervals the lists of a question's words have together: its answer never has more.
 ghost use mathlib.Core.Path.{_≡_};
-ghost use Prim.Native.Nat.{_*_, _≤_, _<_};
+ghost use Prim.Native.Nat.{_+_, _*_, _≤_, _<_};
 ghost use Rattle.limits.specs.Limits.{questionWordsMax, wordsMax};
+ghost use Rattle.index.specs.Format.{wordCount};
 ghost use Rattle.index.specs.Sound.{Sound};
 ghost use Rattle.slots.specs.Row.{slotsIn};
 ghost use Rattle.slots.specs.Having.{ReadBy};
@@ -9,23 +10,18 @@ ghost use Rattle.slots.specs.Bound.{entriesIntervals, slotIntervals, slo
 use crate::row::Entries;
 use crate::row::entries_of;
 use directory::parts::interval_count;
-use index::trailer::word_count;
 
-// A range may end behind the last entry.
 fn entries_sum(index: &[u8], entries: Entries) -> usize
-    requires { ⌜ Sound (now index) ⌝ }
-    ensures is { λ r. ⌜ r ≡ entriesIntervals (now (index .entry)) (entries .first) (entries .end) ⌝ }
+    requires sound { ⌜ Sound (now index) ⌝ }
+    requires within { ⌜ entries .first + entries .count ≤ wordCount (now index) ⌝ }
+    ensures is { λ r. ⌜ r ≡ entriesIntervals (now (index .entry)) entries ⌝ }
     ensures few { λ r. ⌜ r ≤ wordsMax * 4194304 ⌝ }
 {
-    let count = word_count(index);
     let mut sum = 0;
-    let mut i = entries.first;
-    while i < entries.end {
-        if count <= i {
-            return sum;
-        }
-        sum += interval_count(index, i);
-        i += 1;
+    let mut m = 0;
+    while m < entries.count {
+        sum += interval_count(index, entries.first + m);
+        m += 1;
     }
     sum
 }

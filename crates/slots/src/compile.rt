@@ -14,6 +14,8 @@ use codes::code::WORD_CODE;
 use codes::code::token_code;
 use directory::Standing;
 use directory::find::find_word;
+use directory::parts::Regions;
+use directory::parts::regions_of;
 use question::token::Token;
 use question::token::next_token;
 use question::token::token_end;
@@ -25,20 +27,25 @@ pub struct Compiled {
 }
 
 // The one entry whose word it is; where the index has no such word, none.
-fn entries_for(index: &[u8], word: &[u8], hint: usize) -> Entries
+fn entries_for(index: &[u8], word: &[u8]) -> Entries
     requires { ⌜ Sound (now index) ⌝ }
-    ensures { λ r. ⌜ StandsFor (now (index .entry)) (now (word .entry)) (r .first) (r .end) ⌝ }
+    ensures { λ r. ⌜ StandsFor (now (index .entry)) (now (word .entry)) r ⌝ }
 {
     match find_word(index, word) {
         Standing::Here(i) => Entries {
             first: i,
-            end: i + 1,
-            hint,
+            count: 1,
+            regions: regions_of(index, i),
         },
-        Standing::Absent(place) => Entries {
-            first: place,
-            end: place,
-            hint,
+        Standing::Absent(_) => Entries {
+            first: 0,
+            count: 0,
+            regions: Regions {
+                s: 0,
+                l: 0,
+                u: 0,
+                end: 0,
+            },
         },
     }
 }
@@ -64,7 +71,7 @@ pub fn compile(index: &[u8], question: &[u8], codes: &mut [u8], row: &mut [usize
                 };
             }
             Token::Word(start, end) => {
-                let entries = entries_for(index, &question[start..end], slots);
+                let entries = entries_for(index, &question[start..end]);
                 keep_entries(row, 2 * slots, entries);
                 slots += 1;
                 codes[count] = WORD_CODE;

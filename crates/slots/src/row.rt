@@ -1,57 +1,63 @@
 // The row of a question, one lent slice of numbers. Its ranges and its senses are made and taken apart here alone; its hints are places as `list::hints` keeps
 // them, by the numbers that are told here.
 ghost use mathlib.Core.Path.{_≡_};
-ghost use Prim.Native.Nat.{_+_, _*_, _≤_, _<_};
+ghost use Prim.Native.Nat.{ℕ, _+_, _*_, _≤_, _<_};
 ghost use lib.ListN.{length, set, replicate};
 ghost use Rattle.limits.specs.Limits.{questionWordsMax, recordMax, wordsMax};
+ghost use Rattle.index.specs.Sound.{Sound};
+ghost use Rattle.directory.specs.Regions.{RegionsOf};
 ghost use Rattle.slots.specs.Row.{
   rowLong,
   firstHint,
   hintsMax,
   slotsIn,
   sensesIn,
-  firstIn,
-  endIn,
-  withRange,
+  entriesAt,
   untilOf,
   insideOf,
   NearEnd,
   packed,
   SlotsStay,
 };
-ghost use Rattle.slots.specs.Having.{halfOf};
+ghost use Rattle.slots.specs.Having.{halfOf, EntriesIn};
+use directory::parts::Regions;
+use directory::parts::regions_of;
 use limits::QUESTION_WORDS_MAX;
 use list::sense::Sense;
 
-// Two ranges a slot, three numbers a range.
-const RANGES: usize = 6 * QUESTION_WORDS_MAX;
+// Two ranges a slot, eight numbers a range: six are used, and the place of a range is found by a shift.
+const RANGES: usize = 16 * QUESTION_WORDS_MAX;
 
 // The hints stand behind the ranges and the senses, two numbers each.
-const FIRST_HINT: usize = 56;
+const FIRST_HINT: usize = 136;
 
-// As many lists as a question's words have in two indexes.
+// As many as a question's words have lists in two indexes.
 const HINTS: usize = 32;
 
 pub const ROW: usize = RANGES + QUESTION_WORDS_MAX + 2 * HINTS;
 
-// A range of entries of an index: the first, the end, and the number of the first one's hint.
+// A range of entries of an index: the first, how many there are, and the regions of the first one's list, so that its entry is not read again.
 pub struct Entries {
     pub first: usize,
-    pub end: usize,
-    pub hint: usize,
+    pub count: usize,
+    pub regions: Regions,
 }
 
 // Range j: of slot k it is range 2 * k in the main index, and 2 * k + 1 in the arrivals.
 pub fn entries_of(row: &[usize], j: usize) -> Entries
     requires long { ⌜ length (now row) ≡ rowLong ⌝ }
     requires range { ⌜ j < 2 * questionWordsMax ⌝ }
-    ensures first { λ r. ⌜ r .first ≡ firstIn (slotsIn (now (row .entry))) j ⌝ }
-    ensures end { λ r. ⌜ r .end ≡ endIn (slotsIn (now (row .entry))) j ⌝ }
+    ensures { λ r. ⌜ r ≡ entriesAt (slotsIn (now (row .entry))) j ⌝ }
 {
     Entries {
-        first: row[3 * j],
-        end: row[3 * j + 1],
-        hint: row[3 * j + 2],
+        first: row[8 * j],
+        count: row[8 * j + 1],
+        regions: Regions {
+            s: row[8 * j + 2],
+            l: row[8 * j + 3],
+            u: row[8 * j + 4],
+            end: row[8 * j + 5],
+        },
     }
 }
 
@@ -59,21 +65,39 @@ pub fn keep_entries(row: &mut [usize], j: usize, entries: Entries)
     requires long { ⌜ length (now row) ≡ rowLong ⌝ }
     requires range { ⌜ j < 2 * questionWordsMax ⌝ }
     ensures long { λ _. ⌜ length (now (row .exit)) ≡ length (now (row .entry)) ⌝ }
-    ensures slots { λ _. ⌜ slotsIn (now (row .exit)) ≡ withRange (slotsIn (now (row .entry))) j entries ⌝ }
+    ensures kept { λ _. ⌜ entriesAt (slotsIn (now (row .exit))) j ≡ entries ⌝ }
+    ensures others { λ _. ⌜ ((i : ℕ) → (i ≡ j → ⊥) → entriesAt (slotsIn (now (row .exit))) i ≡ entriesAt (slotsIn (now (row .entry))) i) ⌝ }
 {
-    row[3 * j] = entries.first;
-    row[3 * j + 1] = entries.end;
-    row[3 * j + 2] = entries.hint;
+    row[8 * j] = entries.first;
+    row[8 * j + 1] = entries.count;
+    row[8 * j + 2] = entries.regions.s;
+    row[8 * j + 3] = entries.regions.l;
+    row[8 * j + 4] = entries.regions.u;
+    row[8 * j + 5] = entries.regions.end;
 }
 
-// The number of the hint of entry i of a range. With more lists than hints some share one, which costs time and no truth.
-pub fn hint_number(entries: Entries, i: usize) -> usize
-    requires from { ⌜ entries .first ≤ i ⌝ }
-    requires few { ⌜ i ≤ wordsMax ⌝ }
+// The number of the hint of list m of range j. With more lists than hints some share one, which costs time and no truth.
+pub fn hint_number(j: usize, m: usize) -> usize
+    requires range { ⌜ j < 2 * questionWordsMax ⌝ }
+    requires few { ⌜ m ≤ wordsMax ⌝ }
     ensures from { λ r. ⌜ firstHint ≤ r ⌝ }
     ensures below { λ r. ⌜ r < firstHint + hintsMax ⌝ }
 {
-    FIRST_HINT + (entries.hint % HINTS + (i - entries.first)) % HINTS
+    FIRST_HINT + (j + m) % HINTS
+}
+
+// The regions of list m of a range: those of the first are kept, and the entries behind it are read.
+pub fn regions_in(index: &[u8], entries: Entries, m: usize) -> Regions
+    requires sound { ⌜ Sound (now index) ⌝ }
+    requires among { ⌜ EntriesIn (now index) entries ⌝ }
+    requires list { ⌜ m < entries .count ⌝ }
+    ensures { λ r. ⌜ RegionsOf (now (index .entry)) (entries .first + m) r ⌝ }
+{
+    if m == 0 {
+        entries.regions
+    } else {
+        regions_of(index, entries.first + m)
+    }
 }
 
 // The index that a slot's range is of: the main one for half 0, and the arrivals for half 1.

@@ -1,28 +1,15 @@
--- The three regions are the entry's, and keep the list rule; the place at which they are read is the one that is kept.
-use Rattle.directory.proofs.EntryLaws.{regions-list}
+-- The regions that were found are those of the entry.
 use borrow.Author.Needs.{needs}
 use Rattle.directory.proofs.sense.sense_in.Statement.{statement}
 use Rattle.directory.proofs.sense.sense_in.Tie as tie
 
-abbrev regions : tie.After-reading-place → tie.After-regions-of
-regions c = c .before .before .before .before .before
-
 returns : tie.Need-returns
 returns c =
-    let kept = c .before .before .before .before in
-    let at = kept .before .before in
-    let found = regions at .regions-of .ensures in (
-      search needs,
-      (
-        rw (at .reading-place .ensures, found .singles, found .upper) at (kept .keep-hint .ensures .1),
-        rw (regions-list found) at (c .sense-at .ensures),
-      ),
-    )
+    let told = c .before .before .sense-by .ensures in
+    let start = c .before .before .before .before in
+    let found = start .regions-of .ensures in
+    let entry = start .before .before .before .args .entry in
+    (told .0, (told .1 .0 entry found, told .1 .1 entry found))
 
 pub sense-in-spec : {M : Type 1} → statement M
-sense-in-spec =
-    tie.close
-    (tie.spec
-    (λ c κs. search needs) (λ c. search needs) (λ c. search needs) (λ c. search needs) (λ c. search needs) (λ c. search needs)
-    (λ c. search needs) (λ c κs. search needs) (λ c κs. search needs) (λ c κs. search needs) (λ c. search needs) (λ c. search needs)
-    (λ c. search needs) (λ c κs. search needs) (λ c. search needs) returns)
+sense-in-spec = tie.close (tie.spec (λ c κs. search needs) (λ c κs. search needs) (λ c. search needs) returns)

@@ -3,7 +3,7 @@ use Prim.Native.Nat.{ℕ, _+_, _-_, _*_, _≤_, _<_}
 use native.Mathlib.Omega.{arith}
 use mathlib.Core.Path.{_≡_, refl, sym, ap, _∙_}
 use mathlib.Core.List.{List, _++_}
-use lib.ListN.{length, drop, replicate}
+use lib.ListN.{length, drop, replicate, length-replicate}
 use lib.Seq.{length-take-le}
 use borrow.Author.Tests.{not-true, not-false}
 use borrow.Rule.Slice.PartMut.{same-len-mid}
@@ -15,7 +15,7 @@ use Rattle.slots.specs.Row.{HintsMoved}
 use Rattle.slots.specs.Having.{having}
 use Rattle.slots.proofs.RowLaws.{moved-none, moved-both, moved-having, read-again}
 use Rattle.codes.proofs.ReadsLaws.{Here, code-here, operator-here, Level, level-start, level-step, level-end, operand-none, operand-word, operand-many, operand-deep, operand-part, operand-unclosed}
-use Rattle.evaluate.proofs.EvalLaws.{front-blank, front-back, evaluated-none, holds-word, holds-part, holds-pair}
+use Rattle.evaluate.proofs.EvalLaws.{front-blank, front-back, evaluated-none, sensed-moved, reads-out, holds-word, holds-part, holds-pair}
 use Rattle.codes.specs.Code.{wordCode, openCode, closeCode, opCode, opOf}
 use Rattle.codes.proofs.CodeLaws.{operator-none}
 use borrow.Fn.Kinds.{In}
@@ -31,7 +31,9 @@ use Rattle.evaluate.proofs.eval.eval_part.Kinds as eval-part-kinds
 use Rattle.evaluate.proofs.eval.+eval_level+eval_operand+eval_part.Lts-eval_part as eval-part-lts
 use Rattle.codes.proofs.read.code_at.Reads as code-at
 use Rattle.codes.proofs.read.is_operator.Reads as is-operator
+use Rattle.evaluate.proofs.combine.combine_blank.Reads as combine-blank
 use Rattle.evaluate.proofs.combine.combine_into.Reads as combine-into
+use Rattle.evaluate.proofs.eval.word_out.Reads as word-out
 use Rattle.evaluate.proofs.slot.fill_slot.Reads as fill-slot
 use Rattle.evaluate.proofs.eval.+eval_level+eval_operand+eval_part.{statement}
 use Rattle.evaluate.proofs.eval.+eval_level+eval_operand+eval_part.Tie.{close}
@@ -72,6 +74,10 @@ level-claims t = (
   code-at.Learnt,
   is-operator.Asked,
   is-operator.Learnt,
+  word-out.Asked,
+  word-out.Learnt,
+  combine-blank.Asked,
+  combine-blank.Learnt,
   combine-into.Asked,
   combine-into.Learnt,
 )
@@ -134,7 +140,7 @@ module _ (t : ℕ) where
   RightRead = eval-level-lts.After-eval-operand2 (level-claims t) (eval-level-at t) eval-level.Post eval-level-Inv-loop eval-level-μ-loop
 
   abbrev loop : RightRead → Loop
-  loop c = c .before .before .before .before .before .before .before
+  loop c = c .before .before .before .before .before .before .before .before .before .before
 
   abbrev right : RightRead → List ℕ
   right c = c .eval-operand2 .last .1 .1 .1 .1 .1 .1 .1 .0
@@ -179,7 +185,7 @@ module _ (t : ℕ) where
   level-operand-requires-2 : eval-level-lts.Need-eval-operand-requires-2 (level-claims t)
       (eval-level-at t) eval-level.Post eval-level-Inv-loop eval-level-μ-loop
   level-operand-requires-2 c κs =
-      let looped = c .before .before .before .before .before .before in
+      let looped = c .before .before .before .before .before .before .before .before .before in
       let start = begun looped in
       let p = start .pre .1 in
       let most = size-most looped in
@@ -187,11 +193,57 @@ module _ (t : ℕ) where
         omega arith,
         record {
           lent = read-again (p .lent) (moved looped .stay);
-          inside = omega (arith, operator (c .before .before .before) .1);
+          sensed = sensed-moved _ _ (p .sensed) (moved looped);
+          inside = omega (arith, operator (c .before .before .before .before .before .before) .1);
           blank = front-blank (size looped - 0) windowMost;
           size = rw (length-take-le {A = ℕ} (size looped - 0) (replicate windowMost 0) (omega arith)) (omega arith);
           near = p .near;
         },
+      )
+
+  -- a word behind the operator that is out for the window
+  abbrev PassedOver : Type 0
+  PassedOver = eval-level-lts.After-combine-blank (level-claims t) (eval-level-at t) eval-level.Post eval-level-Inv-loop eval-level-μ-loop
+
+  abbrev asked-out : PassedOver → eval-level-lts.After-word-out (level-claims t) (eval-level-at t) eval-level.Post eval-level-Inv-loop eval-level-μ-loop
+  asked-out c = c .before .before .before
+
+  abbrev passed : PassedOver → Loop
+  passed c = asked-out c .before .before .before .before .before .before
+
+  word-behind : (c : PassedOver) → Here (begun (passed c) .args .codes .now) (passed c .loop .next .code + 1) wordCode
+  word-behind c =
+      let l = passed c in
+      code-here (begun l .args .codes .now) (l .loop .next .code + 1) refl (asked-out c .word-out .ensures .0 (c .before .before .if2 .taken)) (omega arith)
+
+  level-word-out-requires : eval-level-lts.Need-word-out-requires (level-claims t) (eval-level-at t) eval-level.Post eval-level-Inv-loop eval-level-μ-loop
+  level-word-out-requires c κs =
+      let looped = c .before .before .before .before .before in
+      let p = begun looped .pre .1 in
+      let moves = moved looped in
+      (moves .stay .long ∙ p .lent .long, (rw (moves .senses) (p .sensed .near), (size-most looped, p .near)))
+
+  level-loop-again : eval-level-lts.Need-loop-again (level-claims t) (eval-level-at t) eval-level.Post eval-level-Inv-loop eval-level-μ-loop
+  level-loop-again c =
+      let over = c .before .before in
+      let looped = passed over in
+      let a = begun looped .args in
+      let l = looped .loop in
+      let o = opOf (asked-out over .before .before .before .before .before .code-at .result) in
+      let out = asked-out over .word-out .ensures .1 .1 (over .before .before .if2 .taken) in
+      let both = over .combine-blank .ensures in
+      let size-here : size looped ≡ length (l .ws) = sym (l .inv .3) in
+      let sensed = sensed-moved (a .main .now) (a .arrivals .now) (begun looped .pre .1 .sensed) (moved looped) in (
+        omega (arith, l .inv .0),
+        omega (arith, word-behind over .1),
+        l .inv .2,
+        both .long ∙ l .inv .3,
+        level-step (a .codes .now) (a .d) (a .at .slot) (a .at .code) (l .next .code) (l .next .slot) (l .next .code + 1 + 1) (l .next .slot + 1) _ _ _ o
+            (operator (asked-out over .before .before .before) .0) (l .inv .4)
+            (rw (moved-having (a .main .now) (a .arrivals .now) (l .inv .2)) at
+            (reads-out (having (a .main .now) (a .arrivals .now) (l .row)) (l .next .slot) sensed (a .codes .now) (a .d) (l .next .code + 1) (length (l .ws))
+            (rw size-here at out) (word-behind over)))
+            (λ u v g h m. holds-pair (having (a .main .now) (a .arrivals .now) (row looped)) (a .at .slot) o u v g (length-replicate {A = ℕ} (length (l .ws)) 0) both h m),
       )
 
   level-part-combine-into-end : eval-level-lts.Need-part-combine-into-end (level-claims t)
@@ -212,12 +264,12 @@ module _ (t : ℕ) where
       let w = loop read .loop .inv .3 in
       ap length (front-back (size (loop read) - 0) (right read) _ long) ∙ (let q : length (right read) ≡ length (loop read .loop .ws) = omega arith in q)
 
-  level-loop-again : eval-level-lts.Need-loop-again (level-claims t) (eval-level-at t) eval-level.Post eval-level-Inv-loop eval-level-μ-loop
-  level-loop-again c =
+  level-loop-again-2 : eval-level-lts.Need-loop-again-2 (level-claims t) (eval-level-at t) eval-level.Post eval-level-Inv-loop eval-level-μ-loop
+  level-loop-again-2 c =
       let read = c .before .before .before .before .before .before .before .before .before in
       let a = begun (loop read) .args in
       let l = loop read .loop in
-      let o = opOf (read .before .before .before .before .before .before .code-at .result) in
+      let o = opOf (read .before .before .before .before .before .before .before .before .before .code-at .result) in
       let r = read .eval-operand2 in
       let f = rw (moved-having (a .main .now) (a .arrivals .now) (l .inv .2)) at (r .ensures .1 .1) in
       let long = right-long read in
@@ -228,7 +280,7 @@ module _ (t : ℕ) where
         moved-both (l .inv .2) (r .ensures .0),
         both .long ∙ w,
         level-step (a .codes .now) (a .d) (a .at .slot) (a .at .code) (l .next .code) (l .next .slot) (r .result .code) (r .result .slot) _ _ _ o
-            (operator (read .before .before .before .before) .0) (l .inv .4) (f .reads)
+            (operator (read .before .before .before .before .before .before .before) .0) (l .inv .4) (f .reads)
             (λ u v g h m. holds-pair (having (a .main .now) (a .arrivals .now) (row (loop read))) (a .at .slot) o u v g (omega arith) both h m),
       )
 
@@ -260,7 +312,7 @@ module _ (t : ℕ) where
   operand-fill-slot-requires : eval-operand-lts.Need-fill-slot-requires (operand-claims t) (eval-operand-at t) eval-operand.Post
   operand-fill-slot-requires c κs =
       let p = word-start (c .before .before .before) .pre .1 in
-      (p .lent, (c .before .before .if2 .left, (p .size, p .near)))
+      (p .lent, (c .before .before .if2 .left, (p .sensed, (p .size, p .near))))
 
   operand-returns-3 : eval-operand-lts.Need-returns-3 (operand-claims t) (eval-operand-at t) eval-operand.Post
   operand-returns-3 c =
@@ -323,7 +375,7 @@ module _ (t : ℕ) where
   part-eval-level-requires c κs =
       let at = c .before .before .before in
       let p = asked at .pre .1 .0 in
-      (omega arith, record { lent = p .lent; inside = omega (arith, open-here at .1); blank = p .blank; size = p .size; near = omega arith })
+      (omega arith, record { lent = p .lent; sensed = p .sensed; inside = omega (arith, open-here at .1); blank = p .blank; size = p .size; near = omega arith })
 
   part-returns-3 : eval-part-lts.Need-returns-3 (part-claims t) (eval-part-at t) eval-part.Post
   part-returns-3 c =
@@ -370,12 +422,15 @@ pub +eval-level+eval-operand+eval-part-spec : {M : Type 1} → statement M
     (λ c κs. let start = c .before .before .before .before .before .before .before in let m = start .pre .0 in (omega arith, start .pre .1))
     (level-loop-holds t) (λ c κs. search needs) (λ c κs. search needs) (λ c. moved t (c .before .before .before) .stay .long)
     (λ c. long t (c .before .before .before)) (level-returns t)
-    (λ c. let b = begun t (c .before .before .before .before) .good in omega (arith, operator t (c .before) .1)) (λ c. omega arith) (λ c. omega arith)
-    (λ c. omega (arith, size-most t (c .before .before .before .before .before))) (level-operand-requires-2 t) (λ c. omega arith)
+    (λ c. let b = begun t (c .before .before .before .before) .good in omega (arith, operator t (c .before) .1)) (level-word-out-requires t) (λ c κs. search needs)
+    (λ c. let b = begun t (passed t (c .before .before)) .good in omega (arith, word-behind t (c .before .before) .1))
+    (λ c. omega (arith, asked-out t (c .before .before) .word-out .ensures .1 .0 (c .before .before .before .before .if2 .taken)))
+    (λ c. omega (arith, word-behind t (c .before .before) .1)) (level-loop-again t) (λ c. omega arith) (λ c. omega arith)
+    (λ c. omega (arith, size-most t (c .before .before .before .before .before .before .before .before))) (level-operand-requires-2 t) (λ c. omega arith)
     (λ c. omega arith) (level-part-combine-into-end t) (level-combine-into-requires t)
     (λ c. let read = c .before .before .before .before .before .before .before .before .before in
-    let e = read .eval-operand2 .ensures .1 .1 in omega (arith, operator t (read .before .before .before .before) .1, e .ahead, e .inside))
-    (level-loop-again t))
+    let e = read .eval-operand2 .ensures .1 .1 in omega (arith, operator t (read .before .before .before .before .before .before .before) .1, e .ahead, e .inside))
+    (level-loop-again-2 t))
     (λ t. eval-operand-lts.spec
     (operand-claims t) (eval-operand-at t) eval-operand.Post
     (λ c κs. search needs) (operand-eval-part-requires t) (λ c. c .before .before .before .before .eval-part .ensures .0 .stay .long)

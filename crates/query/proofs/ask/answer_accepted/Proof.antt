@@ -5,7 +5,7 @@ use Rattle.question.specs.Rules.{ruleOf}
 use Rattle.question.proofs.ParsedLaws.{accepted-within, asked-parsed}
 use Rattle.source.specs.Source.{satisfying, ofIndex}
 use Rattle.source.proofs.AskLaws.{listing-answers}
-use Rattle.slots.proofs.RowLaws.{blank-alone}
+use Rattle.slots.proofs.RowLaws.{zeros-blank}
 use Rattle.query.proofs.AskLaws.{compiled-short, compiled-asked, compiled-ready, alone-last}
 use borrow.Author.Needs.{needs}
 use Rattle.query.proofs.ask.answer_accepted.Statement.{statement}
@@ -29,14 +29,14 @@ answer-codes-requires c κs =
     let a = begun made .args in
     let is = begun made .pre .1 in
     let compiled = made .compile .ensures in (
-      compiled-asked compiled (a .rule) (is .tree) (is .words) (is .is) (begun made .pre .0) refl,
+      compiled-asked compiled (a .rule) (is .tree) (is .words) (is .is) (begun made .pre .0) refl zeros-blank,
       (
         compiled-short compiled (a .rule) (is .tree) (is .words) (is .is) refl,
         record {
           source = ofIndex (a .index .now);
           last = alone-last (a .index .now);
           tree = is .tree;
-          ready = compiled-ready compiled (a .rule) (is .tree) (is .words) (is .is) blank-alone;
+          ready = compiled-ready compiled (a .rule) (is .tree) (is .words) (is .is) zeros-blank;
         },
       ),
     )
@@ -48,7 +48,7 @@ returns c =
     let is = begun made .pre .1 in
     listing-answers (satisfying (ofIndex (a .index .now))) (is .is)
     (c .before .before .before .answer-codes .ensures (ofIndex (a .index .now)) (alone-last (a .index .now)) (is .tree)
-    (compiled-ready (made .compile .ensures) (a .rule) (is .tree) (is .words) (is .is) blank-alone))
+    (compiled-ready (made .compile .ensures) (a .rule) (is .tree) (is .words) (is .is) zeros-blank))
 
 pub answer-accepted-spec : {M : Type 1} → statement M
 answer-accepted-spec =

@@ -97,8 +97,11 @@ take-window-requires c κs =
     let width = part-width (a .at .width) (a .ws .now) (omega (arith, asked here .pre .1 .0)) in (
       read-again (asked here .pre .0) stays,
       (
-        record { wide = width; some = stands .some; most = stands .most; begun = omega arith; near = omega arith; few = omega arith; counted = omega arith },
-        rw (stay-having (a .main .now) (a .arrivals .now) stays) (asked here .pre .1 .1 .1 .1),
+        rw (stay-having (a .main .now) (a .arrivals .now) stays) (here .look-at .ensures .1 .0),
+        (
+          record { wide = width; some = stands .some; most = stands .most; begun = omega arith; near = omega arith; few = omega arith; counted = omega arith },
+          rw (stay-having (a .main .now) (a .arrivals .now) stays) (asked here .pre .1 .1 .1 .1),
+        ),
       ),
     )
 

@@ -18,16 +18,16 @@ eval-level-requires c κs =
     let start = c .before .before .before .before .before .before .before .before .before .before .before .before in
     let blank = c .before .before .before .before .clear .ensures in
     let long = blank-length _ (start .args .ws .now) blank in
-    let within = start .pre .1 .0 in
-    record { lent = start .pre .0; inside = omega arith; blank = blank-again _ (start .args .ws .now) blank; size = omega arith; near = omega arith }
+    let within = start .pre .1 .1 .0 in
+    record { lent = start .pre .0; sensed = start .pre .1 .0; inside = omega arith; blank = blank-again _ (start .args .ws .now) blank; size = omega arith; near = omega arith }
 
 put-flips-requires : tie.Need-put-flips-requires
 put-flips-requires c κs =
     let done = c .before .before .before .before .before .before in
     let a = asked done .args in
     let same = evaluated-length (a .ws .now) (done .eval-level .ensures .1 .0) (done .before .before .before .before .before .clear .ensures) in
-    let within = asked done .pre .1 .0 in
-    let roomy = asked done .pre .1 .1 in
+    let within = asked done .pre .1 .1 .0 in
+    let roomy = asked done .pre .1 .1 .1 in
     let holds = tree-holds (roomy .reads) (done .eval-level .ensures .1 .1) in (
       within .begun,
       (
@@ -44,14 +44,14 @@ count-members-requires : tie.Need-count-members-requires
 count-members-requires c κs =
     let done = c .before .before .before .before .before .before .before .before .before .before in
     let same = evaluated-length (asked done .args .ws .now) (done .eval-level .ensures .1 .0) (done .before .before .before .before .before .clear .ensures) in
-    let within = asked done .pre .1 .0 in
+    let within = asked done .pre .1 .1 .0 in
     omega arith
 
 add-t27 : tie.Need-add-t27
 add-t27 c =
     let done = c .before .before .before .before .before .before .before .before .before .before .before .before in
     let same = evaluated-length (asked done .args .ws .now) (done .eval-level .ensures .1 .0) (done .before .before .before .before .before .clear .ensures) in
-    let within = asked done .pre .1 .0 in
+    let within = asked done .pre .1 .1 .0 in
     let few = members-few _ _ (c .before .count-members .ensures) in
     omega arith
 
@@ -64,7 +64,7 @@ returns c =
       evaluated .0,
       (
         same,
-        λ t o. rw (ap (λ (m : ℕ). 64 * m) (same ∙ asked done .pre .1 .0 .wide)) at
+        λ t o. rw (ap (λ (m : ℕ). 64 * m) (same ∙ asked done .pre .1 .1 .0 .wide)) at
             (stepped-window (testOf (having (a .main .now) (a .arrivals .now) (a .row .now)) t) (a .at .x) (a .at .cells) (a .at .records) _ (a .writing) (a .out .now) _ _ _
             (tree-holds o (evaluated .1 .1)) (c .before .before .before .before .before .put-flips .ensures)
             (ap (λ (m : ℕ). a .at .records + m) (c .before .count-members .ensures (a .at .x)))),

@@ -32,7 +32,7 @@ abbrev Looked : Type 0
 Looked = tie.After-sense-entries Inv-loop μ-loop
 
 abbrev looped : Looked → Loop
-looped c = c .before .before .before .before .before .before
+looped c = c .before .before .before .before
 
 says : (c : Looked) →
     let a = begun (looped c) .args in
@@ -41,19 +41,28 @@ says : (c : Looked) →
 says c =
     let a = begun (looped c) .args in
     let l = looped c .loop in
-    let found = c .before .before in
-    half-said (a .main .now) (a .arrivals .now) (a .row .now) (a .k) (l .half) (l .row) (l .inv .1 .stay .slots) (found .before .before .half-of .ensures)
-    (found .entries-of .ensures .0) (found .entries-of .ensures .1) (c .sense-entries .ensures .1)
+    half-said (a .main .now) (a .arrivals .now) (a .row .now) (a .k) (l .half) (l .row) (l .inv .1 .stay .slots) (c .before .before .half-of .ensures)
+    (c .sense-entries .ensures .1)
 
 moved : (c : Looked) → HintsMoved (begun (looped c) .args .row .now) (c .sense-entries .last .1 .1 .1 .0)
 moved c = moved-both (looped c .loop .inv .1) (c .sense-entries .ensures .0)
 
 sense-entries-requires : tie.Need-sense-entries-requires Inv-loop μ-loop
 sense-entries-requires c κs =
-    let here = c .before .before .before .before .before in
-    let pre = begun here .pre in (
-      subst Sound (sym (c .before .before .before .half-of .ensures)) (half-sound (pre .0) (here .loop .half)),
-      (here .loop .inv .1 .stay .long ∙ pre .0 .long, pre .1 .1),
+    let here = c .before .before .before in
+    let l = here .loop in
+    let a = begun here .args in
+    let pre = begun here .pre in
+    let more = c .before .before .loop-test .taken in
+    let half = c .before .half-of .ensures in (
+      subst Sound (sym half) (half-sound (pre .0) (l .half)),
+      (
+        l .inv .1 .stay .long ∙ pre .0 .long,
+        (
+          omega (arith, pre .1 .0, more),
+          (rw (half, l .inv .1 .stay .slots) (pre .0 .ranges (a .k) (l .half) more), pre .1 .1),
+        ),
+      ),
     )
 
 returns : tie.Need-returns Inv-loop μ-loop
@@ -61,7 +70,7 @@ returns c =
     let looked = c .before .before .before in
     let a = begun (looped looked) .args in (
       moved looked,
-      half-in (a .main .now) (a .arrivals .now) (a .row .now) (a .k) (looped looked .loop .half) (looked .before .before .before .before .before .loop-test .taken)
+      half-in (a .main .now) (a .arrivals .now) (a .row .now) (a .k) (looped looked .loop .half) (looked .before .before .before .loop-test .taken)
           (steady-is (c .if1 .taken) (says looked)),
     )
 
@@ -70,7 +79,7 @@ loop-again c =
     let looked = c .before .before .before .before in
     let a = begun (looped looked) .args in
     let l = looped looked .loop in
-    let more = looked .before .before .before .before .before .loop-test .taken in (
+    let more = looked .before .before .before .loop-test .taken in (
       omega (arith, more),
       moved looked,
       rw (c .smaller .ensures)
@@ -91,8 +100,5 @@ look-slot-spec =
     Inv-loop μ-loop
     (λ c. let start = c .before .before .before in let a = start .args in
     (omega arith, moved-none (a .row .now), halves-begun (a .main .now) (a .arrivals .now) (a .row .now) (a .k) (start .pre .1 .1)))
-    (λ c κs. search needs) (λ c. search needs) (λ c. search needs)
-    (λ c κs. let here = c .before .before .before in
-    (here .loop .inv .1 .stay .long ∙ begun here .pre .0 .long, omega (arith, begun here .pre .1 .0, c .before .before .loop-test .taken)))
-    sense-entries-requires (λ c. moved (c .before .before .before) .stay .long) returns (λ c κs. search needs) (λ c. search needs) (λ c. search needs)
+    (λ c κs. search needs) (λ c. search needs) (λ c. search needs) sense-entries-requires (λ c. moved (c .before .before .before) .stay .long) returns (λ c κs. search needs) (λ c. search needs) (λ c. search needs)
     loop-again (λ c. c .before .loop .inv .1 .stay .long) returns-2)

@@ -4,7 +4,7 @@ use native.Mathlib.Omega.{arith}
 use mathlib.Core.Path.{refl, sym, _∙_}
 use Rattle.slots.specs.Row.{sensesIn, untilOf, SlotsStay}
 use Rattle.slots.specs.Having.{having}
-use Rattle.slots.proofs.RowLaws.{stay-both}
+use Rattle.slots.proofs.RowLaws.{stay-both, read-again}
 use Rattle.senses.specs.Senses.{Sensed}
 use Rattle.senses.proofs.KeptSenses.{sensed-known, renewed-next}
 use borrow.Author.Needs.{needs}
@@ -29,7 +29,7 @@ renew-sense-requires c κs =
     let l = c .before .before in
     let inv = l .loop .inv in
     let pre = begun l .pre in (
-      record { main-sound = pre .0 .main-sound; arrivals-sound = pre .0 .arrivals-sound; long = inv .0 .long ∙ pre .0 .long },
+      read-again (pre .0) (inv .0),
       (omega (arith, c .before .loop-test .taken, pre .1 .0), (pre .1 .1 .0, rw (inv .0 .slots) (inv .1))),
     )
 

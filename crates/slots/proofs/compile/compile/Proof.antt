@@ -53,8 +53,8 @@ loop-again c =
     let made = kept .before .before in
     let here = told c .before .before .before .before in
     let found = word (told c) in
-    compile-word (here .loop .inv) (asked here .pre .1 .0) (found .coded) (made .entries-for .result) (omega arith) (omega arith) (asked here .pre .1 .1 .0)
-    (asked here .pre .1 .1 .1) (found .words) (made .entries-for .ensures) (kept .keep-entries .ensures .0) (kept .keep-entries .ensures .1)
+    compile-word (here .loop .inv) (asked here .pre .1 .0) (found .coded) (omega arith) (omega arith) (found .words) (made .entries-for .ensures)
+    (kept .keep-entries .ensures .0) (kept .keep-entries .ensures .1 .0) (kept .keep-entries .ensures .1 .1)
 
 -- the token of a turn that is neither a word nor the end
 other : (c : tie.At-match-keys3 Inv-loop μ-loop) → let here = c .before .before in

@@ -5,7 +5,6 @@ use Rattle.slots.proofs.CompileLaws.{entries-here, entries-absent, here
 use Rattle.slots.proofs.compile.entries_for.Statement.{statement}
 use Rattle.slots.proofs.compile.entries_for.Tie as tie
 use mathlib.Core.Path.{_≡_, sym, _∙_}
-use native.Mathlib.Omega.{arith}
 use borrow.Author.Needs.{needs}
 
 -- where the word was sought
@@ -16,22 +15,21 @@ start c = c .before .before .before
 here : (c : tie.After-known-told) → let a = start (c .before .before .before) .args in standingOf (a .index .now) (a .word .now) ≡ Here (c .before .i .given .0 .0)
 here c = sym (c .before .before .before .find-word .ensures) ∙ c .before .i .given .1
 
-add-t8 : tie.Need-add-t8
-add-t8 c =
+regions-of-requires : tie.Need-regions-of-requires
+regions-of-requires c κs =
     let begin = start (c .before .before .before) in
-    record { fits = omega (arith, here-below (begin .args .index .now) (begin .pre) (begin .args .word .now) _ (here c)) }
+    record { sound = begin .pre; below = here-below (begin .args .index .now) (begin .pre) (begin .args .word .now) _ (here c) }
 
 returns : tie.Need-returns
 returns c =
-    let begin = start (c .before .before .before) in
-    entries-here (begin .args .index .now) (begin .pre) (begin .args .word .now) _ (here c)
+    let begin = start (c .before .before .before .before) in
+    entries-here (begin .args .index .now) (begin .pre) (begin .args .word .now) _ _ (here (c .before)) (c .regions-of .ensures)
 
 returns-2 : tie.Need-returns-2
 returns-2 c =
-    let found = c .before .before .before in
+    let found = c .before .before in
     let begin = start found in
-    entries-absent (begin .args .index .now) (begin .pre) (begin .args .word .now) _ (sym (found .find-word .ensures) ∙ c .before .place .given .1)
+    entries-absent (begin .args .index .now) (begin .pre) (begin .args .word .now) _ (sym (found .find-word .ensures) ∙ c .enum-told .given .1)
 
 pub entries-for-spec : {M : Type 1} → statement M
-entries-for-spec =
-    tie.close (tie.spec (λ c κs. search needs) (λ c. search needs) add-t8 (λ c. search needs) returns returns-2)
+entries-for-spec = tie.close (tie.spec (λ c κs. search needs) (λ c. search needs) regions-of-requires (λ c. search needs) returns returns-2)
