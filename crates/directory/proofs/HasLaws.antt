@@ -3,14 +3,13 @@ use mathlib.Core.Path.{_≡_, refl, sym, _∙_}
 use Prim.Native.Nat.{ℕ, zero, suc, _<_}
 use native.Mathlib.Omega.{arith}
 use native.Mathlib.Decide.{ℕ-discrete}
-use mathlib.Core.Bool.{true, false, _&&_, _||_, and-false, or-false}
+use mathlib.Core.Bool.{true, false, _&&_, _||_, or-false}
 use mathlib.Core.List.{List}
 use Rattle.laws.proofs.Tests.{and-both, by-test, leb-cases}
 use Rattle.word.specs.Word.{same}
 use Rattle.word.proofs.WordLaws.{same-equal, equal-same}
 use Rattle.list.specs.Interval.{isProper, names}
 use Rattle.list.specs.Kept.{areLonger, walked, isKept}
-use Rattle.list.proofs.NamesLaws.{proper-names-zero, proper-names-above}
 use Rattle.index.specs.Format.{wordCount, highest, wordOf, listOf, entrySingles, entryLowers, entryUppers}
 use Rattle.index.specs.Sound.{Sound}
 use Rattle.index.proofs.SoundLaws.{word-injective, sound-list}
@@ -34,11 +33,6 @@ module _ (index word : List ℕ) (x : ℕ) where
           (same (wordOf index k) word && names (listOf index k) x) || hasWithin index k word x ≡ names (listOf index i) x
       go (yes q) ih = rw (q, e, none-within i (λ j l. f j (omega arith) (λ r. omega arith))) (or-false (names (listOf index i) x))
       go (no q) ih = rw (f k (omega arith) q) (ih (leb-cases k i (λ d. absurd (q (omega arith))) (λ d. d)))
-
-  false-within : (k : ℕ) → ((j : ℕ) → j < k → names (listOf index j) x ≡ false) → hasWithin index k word x ≡ false
-  unfolding hasWithin
-  false-within zero f = refl
-  false-within (suc k) f = rw (f k (omega arith), and-false (same (wordOf index k) word)) (false-within k (λ j h. f j (omega arith)))
 
   -- Reference 5.5: a word without an entry
   pub has-nowhere : ((j : ℕ) → j < wordCount index → same (wordOf index j) word ≡ false) → has index word x ≡ false
@@ -66,13 +60,3 @@ module _ (index : List ℕ) (s : Sound index) (word : List ℕ) where
   unfolding has
   has-entry i x h e =
       one-within index word x (wordCount index) i h (equal-same (wordOf index i) word e) (λ j k n. word-others i j h k e n)
-
-  -- within 1 to N
-  pub has-zero : has index word 0 ≡ false
-  unfolding has
-  has-zero = false-within index word 0 (wordCount index) (λ j h. proper-names-zero (highest index) (listOf index j) (list-proper index s j h))
-
-  pub has-above : (x : ℕ) → highest index < x → has index word x ≡ false
-  unfolding has
-  has-above x g =
-      false-within index word x (wordCount index) (λ j h. proper-names-above (highest index) x (listOf index j) (list-proper index s j h) g)

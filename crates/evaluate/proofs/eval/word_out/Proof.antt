@@ -1,5 +1,5 @@
 -- Where no word stands, or no slot is left for one, it is not said to be out.
-use mathlib.Core.Path.{sym, _∙_}
+use mathlib.Core.Path.{sym}
 use Rattle.laws.proofs.Tests.{true-false}
 use borrow.Author.Needs.{needs}
 use Rattle.evaluate.proofs.eval.word_out.Statement.{statement}

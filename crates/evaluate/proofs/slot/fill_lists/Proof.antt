@@ -4,7 +4,6 @@ use native.Mathlib.Omega.{arith}
 use mathlib.Core.Path.{_≡_, sym, ap, _∙_, subst}
 use mathlib.Core.List.{List}
 use Rattle.limits.specs.Limits.{wordsMax}
-use Rattle.index.specs.Format.{wordCount}
 use Rattle.index.specs.Sound.{Sound}
 use Rattle.index.proofs.SoundLaws.{sound-trailer}
 use Rattle.slots.specs.declared.row.Entries.{Entries}

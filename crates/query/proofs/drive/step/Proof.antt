@@ -1,5 +1,5 @@
 -- A look says how far a jump may go; a jump and a window are both steps of the sweep, to the record behind them or to n + 1. Neither changes what a slot has.
-use mathlib.Core.Path.{_≡_, refl, _∙_}
+use mathlib.Core.Path.{refl}
 use Prim.Native.Nat.{ℕ, _-_, _*_}
 use native.Mathlib.Omega.{arith}
 use mathlib.Core.Bool.{Bool}

@@ -1,7 +1,7 @@
 -- The slots below k are known at x, and have what they had.
 use Prim.Native.Nat.{ℕ, _-_, _<_}
 use native.Mathlib.Omega.{arith}
-use mathlib.Core.Path.{refl, sym, _∙_}
+use mathlib.Core.Path.{refl, sym}
 use Rattle.slots.specs.Row.{sensesIn, untilOf, SlotsStay}
 use Rattle.slots.specs.Having.{having}
 use Rattle.slots.proofs.RowLaws.{stay-both, read-again}

@@ -1,5 +1,5 @@
 -- The loop's invariant: the sum so far, with that of the lists that are left, is the whole. The measure is how many are left.
-use Prim.Native.Nat.{_+_, _-_, _*_, _≤_, _<_}
+use Prim.Native.Nat.{_+_, _-_, _*_, _≤_}
 use native.Mathlib.Omega.{arith}
 use mathlib.Core.Path.{_≡_}
 use Rattle.limits.specs.Limits.{wordsMax}

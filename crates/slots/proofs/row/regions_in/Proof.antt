@@ -1,6 +1,6 @@
 -- List 0 is the first one of the range.
 use native.Mathlib.Omega.{arith}
-use mathlib.Core.Path.{_≡_, sym}
+use mathlib.Core.Path.{_≡_}
 use Prim.Native.Nat.{_+_}
 use Rattle.index.proofs.SoundLaws.{sound-trailer}
 use borrow.Author.Needs.{needs}
