@@ -66,16 +66,8 @@ pub fn eval_level<'a>(
         } else {
             let behind = Step { code: right, slot };
             let mut other: [u64; MOST] = [0; MOST];
-            next = eval_operand(
-                codes,
-                behind,
-                d,
-                main,
-                arrivals,
-                base,
-                row,
-                &mut other[0..n],
-            );
+            let part = &mut other[0..n];
+            next = eval_operand(codes, behind, d, main, arrivals, base, row, part);
             combine_into(code, ws, &other[0..n]);
         }
     }

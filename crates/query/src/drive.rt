@@ -155,16 +155,8 @@ fn step<'a>(
         };
     }
     let width = at.width;
-    let done = take_window(
-        codes,
-        main,
-        arrivals,
-        row,
-        at,
-        &mut ws[0..width],
-        writing,
-        out,
-    );
+    let part = &mut ws[0..width];
+    let done = take_window(codes, main, arrivals, row, at, part, writing, out);
     At {
         x: smaller(x + 64 * width as u32, n + 1),
         width: doubled(width),

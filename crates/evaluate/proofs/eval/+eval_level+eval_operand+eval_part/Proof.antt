@@ -426,7 +426,7 @@ pub +eval-level+eval-operand+eval-part-spec : {M : Type 1} → statement M
     (λ c. let b = begun t (passed t (c .before .before)) .good in omega (arith, word-behind t (c .before .before) .1))
     (λ c. omega (arith, asked-out t (c .before .before) .word-out .ensures .1 .0 (c .before .before .before .before .if2 .taken)))
     (λ c. omega (arith, word-behind t (c .before .before) .1)) (level-loop-again t) (λ c. omega arith) (λ c. omega arith)
-    (λ c. omega (arith, size-most t (c .before .before .before .before .before .before .before .before))) (level-operand-requires-2 t) (λ c. omega arith)
+    (λ c. omega (arith, size-most t (c .before .before .before .before .before .before .before))) (level-operand-requires-2 t) (λ c. omega arith)
     (λ c. omega arith) (level-part-combine-into-end t) (level-combine-into-requires t)
     (λ c. let read = c .before .before .before .before .before .before .before .before .before in
     let e = read .eval-operand2 .ensures .1 .1 in omega (arith, operator t (read .before .before .before .before .before .before .before) .1, e .ahead, e .inside))

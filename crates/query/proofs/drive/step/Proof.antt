@@ -81,9 +81,9 @@ returns c =
       ),
     )
 
-part-take-window-end : tie.Need-part-take-window-end
-part-take-window-end c =
-    let here = c .before .before .before .before .before in
+part-part-end : tie.Need-part-part-end
+part-part-end c =
+    let here = c .before .before .before .before in
     let stands = stood here in
     let long = asked here .pre .1 .0 in
     omega arith
@@ -147,7 +147,7 @@ step-spec =
     look-at-requires (λ c. let stands = stood (c .before .before) in omega arith)
     (λ c κs. search needs) (λ c. let stands = stood (c .before .before .before) in omega arith)
     take-jump-requires (λ c. search needs) (λ c. search needs) returns (λ c. search needs)
-    (λ c. search needs) part-take-window-end take-window-requires
+    (λ c. search needs) part-part-end take-window-requires
     (λ c. let stands = window-stood (c .before .before .before .before .before .before) in omega arith)
     (λ c. let stands = window-stood (c .before .before .before .before .before .before) in omega arith)
     (λ c. let stands = window-stood (c .before .before .before .before .before .before) in omega arith)
