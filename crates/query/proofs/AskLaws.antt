@@ -41,7 +41,7 @@ use Rattle.index.proofs.SoundLaws.{sound-trailer}
 
 -- ---- an accepted question made ready
 
-module _ {index s codes codes′ row row′ : List ℕ} {n slots : ℕ} (c : WritesCodes s codes codes′ n × FillsSlots 0 index s row row′ slots)
+module _ {index s codes codes′ row row′ : List ℕ} {n slots : ℕ} (c : WritesCodes s codes codes′ n × FillsSlots 1 index index s row row′ slots)
     (rule : ℕ) (t : Tree) (k : ℕ) (is : asked rule s ≡ parses t k) where
   -- they are lent from the first on
   compiled-codes : take (n - 0) codes′ ≡ codesOf (tokens s)

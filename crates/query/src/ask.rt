@@ -105,7 +105,7 @@ fn answer_accepted(index: &[u8], rule: u32, question: &[u8], out: &mut [u32]) ->
 {
     let mut codes: [u8; QUESTION_MAX] = [0; QUESTION_MAX];
     let mut row: [usize; ROW] = [0; ROW];
-    let compiled = compile(index, question, &mut codes, &mut row);
+    let compiled = compile(index, index, 1, question, &mut codes, &mut row);
     let count = compiled.codes;
     answer_codes(
         rule,

@@ -27,7 +27,8 @@ use Rattle.question.specs.Limits.{tokenWords}
 use Rattle.codes.specs.Code.{wordCode, codesOf, tokenCode}
 use Rattle.slots.specs.declared.row.Entries.{Entries}
 use Rattle.slots.specs.Row.{slotsIn, entriesAt}
-use Rattle.slots.specs.Compile.{StandsFor, WritesCodes, FillsSlots}
+use Rattle.slots.specs.Having.{halfOf}
+use Rattle.slots.specs.Compile.{StandsFor, HalvesStand, HalvesAlone, WritesCodes, FillsSlots}
 use Rattle.slots.proofs.EntriesLaws.{entry-lists, no-entry, one-entry}
 use Rattle.slots.proofs.RowLaws.{noEntries, none-among}
 
@@ -103,32 +104,52 @@ drop-head (v ∷ l) (suc k) w r e =
     let h = drop-head l k w r e in
     (omega (arith, h .0), h .1, rw i (h .2))
 
--- one half of the first n slots stands for the words
-abbrev Filled : ℕ → List ℕ → List (List ℕ) → List ℕ → ℕ → Type 0
-Filled half index words slots n = (k : ℕ) → k < n → StandsFor index (getD words k []) (entriesAt slots (2 * k + half))
+-- ---- the halves of a slot, one after the other
+
+module _ (main arrivals word : List ℕ) (k : ℕ) where
+  pub halves-none : (slots : List ℕ) → HalvesStand 0 main arrivals word k slots × HalvesAlone 0 k slots slots
+  halves-none slots = (λ half h. absurd (omega arith), λ j free. refl)
+
+  -- a range for one half more
+  module _ (half : ℕ) {e : Entries} (slots₀ slots slots′ : List ℕ) (kept : entriesAt slots′ (2 * k + half) ≡ e)
+      (others : (i : ℕ) → (i ≡ 2 * k + half → ⊥) → entriesAt slots′ i ≡ entriesAt slots i) where
+    pub halves-more : HalvesStand half main arrivals word k slots → StandsFor (halfOf main arrivals half) word e →
+        HalvesStand (half + 1) main arrivals word k slots′
+    halves-more f new h l = go (ℕ-discrete h half)
+      where
+        go : Dec (h ≡ half) → StandsFor (halfOf main arrivals h) word (entriesAt slots′ (2 * k + h))
+        go (yes q) = rw (q, kept) new
+        go (no q) = rw (others (2 * k + h) (λ r. q (omega arith))) (f h (leb-cases half h (λ g. absurd (q (omega arith))) (λ g. g)))
+
+    pub alone-more : HalvesAlone half k slots₀ slots → HalvesAlone (half + 1) k slots₀ slots′
+    alone-more f j free = others j (free half (omega arith)) ∙ f j (λ h l. free h (omega arith))
+
+-- ---- the slots, one after the other
+
+-- the halves of the first n slots stand for the words
+abbrev Filled : ℕ → List ℕ → List ℕ → List (List ℕ) → List ℕ → ℕ → Type 0
+Filled halves main arrivals words slots n = (k : ℕ) → k < n → HalvesStand halves main arrivals (getD words k []) k slots
 
 -- and all other ranges stay
 abbrev OthersStay : ℕ → List ℕ → List ℕ → ℕ → Type 0
-OthersStay half slots slots′ n = (j : ℕ) → ((k : ℕ) → k < n → j ≡ 2 * k + half → ⊥) → entriesAt slots′ j ≡ entriesAt slots j
+OthersStay halves slots slots′ n = (j : ℕ) → ((k half : ℕ) → k < n → half < halves → j ≡ 2 * k + half → ⊥) → entriesAt slots′ j ≡ entriesAt slots j
 
--- a range for slot n
-module _ (half n j : ℕ) (low : half ≤ 1) (is : j ≡ 2 * n + half) {e : Entries} (slots slots′ : List ℕ)
-    (kept : entriesAt slots′ j ≡ e) (others : (i : ℕ) → (i ≡ j → ⊥) → entriesAt slots′ i ≡ entriesAt slots i) where
-  filled-next : (index : List ℕ) (words : List (List ℕ)) → Filled half index words slots n → StandsFor index (getD words n []) e →
-      Filled half index words slots′ (n + 1)
-  filled-next index words f new k l = go (ℕ-discrete k n)
+module _ (halves n : ℕ) (both : halves ≤ 2) (slots slots′ : List ℕ) (others : HalvesAlone halves n slots slots′) where
+  filled-next : (main arrivals : List ℕ) (words : List (List ℕ)) → Filled halves main arrivals words slots n →
+      HalvesStand halves main arrivals (getD words n []) n slots′ → Filled halves main arrivals words slots′ (n + 1)
+  filled-next main arrivals words f new k l half h = go (ℕ-discrete k n)
     where
-      go : Dec (k ≡ n) → StandsFor index (getD words k []) (entriesAt slots′ (2 * k + half))
-      go (yes q) = rw (q, ← is, kept) new
-      go (no q) = rw (others (2 * k + half) (λ h. q (omega arith))) (f k (leb-cases n k (λ g. absurd (q (omega arith))) (λ g. g)))
+      go : Dec (k ≡ n) → StandsFor (halfOf main arrivals half) (getD words k []) (entriesAt slots′ (2 * k + half))
+      go (yes q) = rw q (new half h)
+      go (no q) = rw (others (2 * k + half) (λ i g r. q (omega arith))) (f k (leb-cases n k (λ g. absurd (q (omega arith))) (λ g. g)) half h)
 
-  others-next : (slots₀ : List ℕ) → OthersStay half slots₀ slots n → OthersStay half slots₀ slots′ (n + 1)
-  others-next slots₀ s i free = others i (λ q. free n (omega arith) (q ∙ is)) ∙ s i (λ k l. free k (omega arith))
+  others-next : (slots₀ : List ℕ) → OthersStay halves slots₀ slots n → OthersStay halves slots₀ slots′ (n + 1)
+  others-next slots₀ s j free = others j (λ half h. free n half (omega arith) h) ∙ s j (λ k half l. free k half (omega arith))
 
 -- ---- the pass
 
 -- before the token at `at`
-pub record Compiling (half : ℕ) (index s codes₀ row₀ codes row : List ℕ) (count slots at : ℕ) : Type 0 where
+pub record Compiling (halves : ℕ) (main arrivals s codes₀ row₀ codes row : List ℕ) (count slots at : ℕ) : Type 0 where
   pub near : count ≤ at
   pub inside : at ≤ length s
   pub codes-long : length codes ≡ length codes₀
@@ -136,12 +157,12 @@ pub record Compiling (half : ℕ) (index s codes₀ row₀ codes row : List ℕ)
   pub coded : take count codes ++ codesOf (tokensAt s at) ≡ codesOf (tokens s)
   pub some : slots ≤ length (tokenWords (tokens s))
   pub left : drop slots (tokenWords (tokens s)) ≡ tokenWords (tokensAt s at)
-  pub filled : Filled half index (tokenWords (tokens s)) (slotsIn row) slots
-  pub others : OthersStay half (slotsIn row₀) (slotsIn row) slots
+  pub filled : Filled halves main arrivals (tokenWords (tokens s)) (slotsIn row) slots
+  pub others : OthersStay halves (slotsIn row₀) (slotsIn row) slots
 
-pub compile-start : (half : ℕ) (index s codes row : List ℕ) → Compiling half index s codes row codes row 0 0 0
+pub compile-start : (halves : ℕ) (main arrivals s codes row : List ℕ) → Compiling halves main arrivals s codes row codes row 0 0 0
 unfolding tokens
-compile-start half index s codes row = record {
+compile-start halves main arrivals s codes row = record {
   near = omega arith;
   inside = omega arith;
   codes-long = refl;
@@ -153,13 +174,14 @@ compile-start half index s codes row = record {
   others = λ j free. refl;
 }
 
-module _ {half : ℕ} {index s codes₀ row₀ codes row : List ℕ} {count slots at : ℕ} (c : Compiling half index s codes₀ row₀ codes row count slots at) where
+module _ {halves : ℕ} {main arrivals s codes₀ row₀ codes row : List ℕ} {count slots at : ℕ}
+    (c : Compiling halves main arrivals s codes₀ row₀ codes row count slots at) where
   module _ {n v : ℕ} (room : length s ≤ length codes₀) (next : Coded s at n v) where
     code-written : take (count + 1) (set codes count v) ++ codesOf (tokensAt s n) ≡ codesOf (tokens s)
     code-written = write-next codes (codesOf (tokensAt s at)) (codesOf (tokensAt s n)) (codesOf (tokens s)) count v (omega arith) (next .codes) (c .coded)
 
     pub compile-other : tokenWords (tokensAt s at) ≡ tokenWords (tokensAt s n) →
-        Compiling half index s codes₀ row₀ (set codes count v) row (count + 1) slots n
+        Compiling halves main arrivals s codes₀ row₀ (set codes count v) row (count + 1) slots n
     compile-other e = record {
       near = omega arith;
       inside = next .inside;
@@ -172,12 +194,11 @@ module _ {half : ℕ} {index s codes₀ row₀ codes row : List ℕ} {count slot
       others = c .others;
     }
 
-    -- the slot's range j is kept, and the row is row′
-    pub compile-word : {w row′ : List ℕ} {j : ℕ} {e : Entries} → half ≤ 1 → j ≡ 2 * slots + half →
-        tokenWords (tokensAt s at) ≡ w ∷ tokenWords (tokensAt s n) → StandsFor index w e → length row′ ≡ length row → entriesAt (slotsIn row′) j ≡ e →
-        ((i : ℕ) → (i ≡ j → ⊥) → entriesAt (slotsIn row′) i ≡ entriesAt (slotsIn row) i) →
-        Compiling half index s codes₀ row₀ (set codes count v) row′ (count + 1) (slots + 1) n
-    compile-word {w} {row′} {j} low range is stands long kept others =
+    -- the slot's halves are filled, and the row is row′
+    pub compile-word : {w row′ : List ℕ} → halves ≤ 2 → tokenWords (tokensAt s at) ≡ w ∷ tokenWords (tokensAt s n) → length row′ ≡ length row →
+        HalvesStand halves main arrivals w slots (slotsIn row′) → HalvesAlone halves slots (slotsIn row) (slotsIn row′) →
+        Compiling halves main arrivals s codes₀ row₀ (set codes count v) row′ (count + 1) (slots + 1) n
+    compile-word {w} {row′} both is long stand others =
         let head = drop-head (tokenWords (tokens s)) slots w (tokenWords (tokensAt s n)) (c .left ∙ is) in
         record {
           near = omega arith;
@@ -187,8 +208,8 @@ module _ {half : ℕ} {index s codes₀ row₀ codes row : List ℕ} {count slot
           coded = code-written;
           some = omega (arith, head .0);
           left = head .2;
-          filled = filled-next half slots j low range (slotsIn row) (slotsIn row′) kept others index (tokenWords (tokens s)) (c .filled) (rw (head .1) stands);
-          others = others-next half slots j low range (slotsIn row) (slotsIn row′) kept others (slotsIn row₀) (c .others);
+          filled = filled-next halves slots both (slotsIn row) (slotsIn row′) others main arrivals (tokenWords (tokens s)) (c .filled) (rw (head .1) stand);
+          others = others-next halves slots both (slotsIn row) (slotsIn row′) others (slotsIn row₀) (c .others);
         }
 
   -- there is a slot for a word that is left
@@ -204,7 +225,7 @@ module _ {half : ℕ} {index s codes₀ row₀ codes row : List ℕ} {count slot
       coded = sym (append-nil (take count codes)) ∙ ap (λ (r : List ℕ). take count codes ++ r) (sym (ap codesOf e)) ∙ c .coded;
     }
 
-    pub slots-filled : FillsSlots half index s row₀ row slots
+    pub slots-filled : FillsSlots halves main arrivals s row₀ row slots
     unfolding tokenWords
     slots-filled = record {
       long = c .row-long;

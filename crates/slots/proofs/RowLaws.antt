@@ -217,9 +217,12 @@ read-again {main} {arrivals} r s = record {
   ranges = λ k half h. rw (s .slots) (r .ranges k half h);
 }
 
--- either index of those that slots are read by
+-- either of two sound indexes
+pub sound-half : {main arrivals : List ℕ} → Sound main → Sound arrivals → (half : ℕ) → Sound (halfOf main arrivals half)
+sound-half s r half = by-test (eqb half 0) (λ e. rw e s) (λ e. rw e r)
+
 pub half-sound : {main arrivals row : List ℕ} → ReadBy main arrivals row → (half : ℕ) → Sound (halfOf main arrivals half)
-half-sound r half = by-test (eqb half 0) (λ e. rw e (r .main-sound)) (λ e. rw e (r .arrivals-sound))
+half-sound r = sound-half (r .main-sound) (r .arrivals-sound)
 
 -- the two ranges of slot k
 pub main-among : {main arrivals row : List ℕ} → ReadBy main arrivals row → (k : ℕ) → EntriesIn main (entriesAt (slotsIn row) (2 * k))

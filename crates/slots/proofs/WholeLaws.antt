@@ -37,9 +37,9 @@ slot-satisfies v had t x h =
 
 -- ---- an index that is asked alone: all other ranges are none, so that it may be lent as the arrivals too
 
-module _ {index s row row′ : List ℕ} {slots : ℕ} (c : FillsSlots 0 index s row row′ slots) (blank : Blank row) where
+module _ {index lent s row row′ : List ℕ} {slots : ℕ} (c : FillsSlots 1 index lent s row row′ slots) (blank : Blank row) where
   none-second : (k : ℕ) → entriesAt (slotsIn row′) (2 * k + 1) ≡ noEntries
-  none-second k = c .stay (2 * k + 1) (λ i l q. omega arith) ∙ blank (2 * k + 1)
+  none-second k = c .stay (2 * k + 1) (λ i half l h q. omega arith) ∙ blank (2 * k + 1)
 
   alone-has : (arrivals : List ℕ) (k x : ℕ) → having index arrivals row′ k x ≡ entriesHave index (entriesAt (slotsIn row′) (2 * k + 0)) x
   unfolding slotHas
@@ -52,7 +52,7 @@ module _ {index s row row′ : List ℕ} {slots : ℕ} (c : FillsSlots 0 index s
   compiled-slots arrivals rule keeps t n e =
       let w = accepted-words rule keeps s t n e .0 in (
         c .count ∙ ap length w,
-        λ i h x. alone-has arrivals i x ∙ rw w at (c .stand i (omega (arith, c .count, ap length w)) .have x),
+        λ i h x. alone-has arrivals i x ∙ rw w at (c .stand i (omega (arith, c .count, ap length w)) 0 (omega arith) .have x),
       )
 
   pub compiled-read : Sound index → length row ≡ rowLong → ReadBy index index row′
@@ -61,7 +61,7 @@ module _ {index s row row′ : List ℕ} {slots : ℕ} (c : FillsSlots 0 index s
       ranges : (k half : ℕ) → half < 2 → EntriesIn (halfOf index index half) (entriesAt (slotsIn row′) (2 * k + half))
       ranges k zero h =
           leb-cases slots k
-          (λ g. rw (c .stay (2 * k + 0) (λ i l q. omega arith), blank (2 * k + 0)) (none-among index))
-          (λ g. c .stand k g .among)
+          (λ g. rw (c .stay (2 * k + 0) (λ i half l h q. omega arith), blank (2 * k + 0)) (none-among index))
+          (λ g. c .stand k g 0 (omega arith) .among)
       ranges k (suc zero) h = rw (none-second k) (none-among index)
       ranges k (suc (suc half)) h = absurd (omega arith)

@@ -11,7 +11,7 @@ use Rattle.question.specs.Grammar.{Tree, treeWords}
 use Rattle.codes.specs.Code.{codesOf}
 use Rattle.slots.specs.declared.row.Entries.{Entries}
 use Rattle.slots.specs.Row.{slotsIn, entriesAt}
-use Rattle.slots.specs.Having.{entriesHave, EntriesIn}
+use Rattle.slots.specs.Having.{entriesHave, halfOf, EntriesIn}
 
 -- a range stands for a word: it is one of the index, and has the word's records
 pub record StandsFor (index word : List ℕ) (e : Entries) : Type 0 where
@@ -24,12 +24,20 @@ pub record WritesCodes (question codes codes′ : List ℕ) (n : ℕ) : Type 0 w
   pub within : n ≤ length codes
   pub coded : take n codes′ ≡ codesOf (tokens question)
 
--- one half of each of the first n slots, 0 the main index and 1 the arrivals, stands for the slot's word; all other ranges stay
-pub record FillsSlots (half : ℕ) (index question row row′ : List ℕ) (n : ℕ) : Type 0 where
+-- the first `halves` halves of slot k, of which 0 is of the main index and 1 of the arrivals, stand for a word
+abbrev pub HalvesStand : ℕ → List ℕ → List ℕ → List ℕ → ℕ → List ℕ → Type 0
+HalvesStand halves main arrivals word k slots = (half : ℕ) → half < halves → StandsFor (halfOf main arrivals half) word (entriesAt slots (2 * k + half))
+
+-- and all other ranges stay
+abbrev pub HalvesAlone : ℕ → ℕ → List ℕ → List ℕ → Type 0
+HalvesAlone halves k slots slots′ = (j : ℕ) → ((half : ℕ) → half < halves → j ≡ 2 * k + half → ⊥) → entriesAt slots′ j ≡ entriesAt slots j
+
+-- those of the first n slots stand for the words in their order, and all other ranges stay
+pub record FillsSlots (halves : ℕ) (main arrivals question row row′ : List ℕ) (n : ℕ) : Type 0 where
   pub long : length row′ ≡ length row
   pub count : n ≡ length (tokenWords (tokens question))
-  pub stand : (k : ℕ) → k < n → StandsFor index (getD (tokenWords (tokens question)) k []) (entriesAt (slotsIn row′) (2 * k + half))
-  pub stay : (j : ℕ) → ((k : ℕ) → k < n → j ≡ 2 * k + half → ⊥) → entriesAt (slotsIn row′) j ≡ entriesAt (slotsIn row) j
+  pub stand : (k : ℕ) → k < n → HalvesStand halves main arrivals (getD (tokenWords (tokens question)) k []) k (slotsIn row′)
+  pub stay : (j : ℕ) → ((k half : ℕ) → k < n → half < halves → j ≡ 2 * k + half → ⊥) → entriesAt (slotsIn row′) j ≡ entriesAt (slotsIn row) j
 
 -- each slot has what is said of the tree's word
 abbrev pub TreeSlots : (ℕ → ℕ → Bool) → (List ℕ → ℕ → Bool) → Tree → Type 0

@@ -1,14 +1,15 @@
 // An accepted question made ready: one pass over its tokens writes the code of each, and the entries of each word into its slot.
 ghost use mathlib.Core.Path.{_≡_};
-ghost use Prim.Native.Nat.{_≤_};
+ghost use Prim.Native.Nat.{_≤_, _<_};
 ghost use lib.ListN.{length};
 ghost use Rattle.limits.specs.Limits.{questionWordsMax};
 ghost use Rattle.index.specs.Sound.{Sound};
 ghost use Rattle.question.specs.Token.{tokens};
 ghost use Rattle.question.specs.Limits.{tokenWords};
-ghost use Rattle.slots.specs.Row.{rowLong};
-ghost use Rattle.slots.specs.Compile.{StandsFor, WritesCodes, FillsSlots};
+ghost use Rattle.slots.specs.Row.{rowLong, slotsIn};
+ghost use Rattle.slots.specs.Compile.{StandsFor, HalvesStand, HalvesAlone, WritesCodes, FillsSlots};
 use crate::row::Entries;
+use crate::row::half_of;
 use crate::row::keep_entries;
 use codes::code::WORD_CODE;
 use codes::code::token_code;
@@ -50,13 +51,49 @@ fn entries_for(index: &[u8], word: &[u8]) -> Entries
     }
 }
 
-pub fn compile(index: &[u8], question: &[u8], codes: &mut [u8], row: &mut [usize]) -> Compiled
-    requires sound { ⌜ Sound (now index) ⌝ }
+// The first `halves` halves of slot k stand for the word.
+fn fill_halves<'a>(
+    main: &'a [u8],
+    arrivals: &'a [u8],
+    halves: usize,
+    word: &[u8],
+    k: usize,
+    row: &mut [usize],
+)
+    requires main { ⌜ Sound (now main) ⌝ }
+    requires arrivals { ⌜ Sound (now arrivals) ⌝ }
+    requires both { ⌜ halves ≤ 2 ⌝ }
+    requires slot { ⌜ k < questionWordsMax ⌝ }
+    requires long { ⌜ length (now row) ≡ rowLong ⌝ }
+    ensures long { λ _. ⌜ length (now (row .exit)) ≡ length (now (row .entry)) ⌝ }
+    ensures stand { λ _. ⌜ HalvesStand halves (now (main .entry)) (now (arrivals .entry)) (now (word .entry)) k (slotsIn (now (row .exit))) ⌝ }
+    ensures others { λ _. ⌜ HalvesAlone halves k (slotsIn (now (row .entry))) (slotsIn (now (row .exit))) ⌝ }
+{
+    let mut half = 0;
+    while half < halves {
+        let entries = entries_for(half_of(main, arrivals, half), word);
+        keep_entries(row, 2 * k + half, entries);
+        half += 1;
+    }
+}
+
+// Where one index is asked, the arrivals' halves are left as they are, and any index may be lent for them.
+pub fn compile<'a>(
+    main: &'a [u8],
+    arrivals: &'a [u8],
+    halves: usize,
+    question: &[u8],
+    codes: &mut [u8],
+    row: &mut [usize],
+) -> Compiled
+    requires main { ⌜ Sound (now main) ⌝ }
+    requires arrivals { ⌜ Sound (now arrivals) ⌝ }
+    requires both { ⌜ halves ≤ 2 ⌝ }
     requires room { ⌜ length (now question) ≤ length (now codes) ⌝ }
     requires long { ⌜ length (now row) ≡ rowLong ⌝ }
     requires few { ⌜ length (tokenWords (tokens (now question))) ≤ questionWordsMax ⌝ }
     ensures codes { λ r. ⌜ WritesCodes (now (question .entry)) (now (codes .entry)) (now (codes .exit)) (r .codes) ⌝ }
-    ensures slots { λ r. ⌜ FillsSlots 0 (now (index .entry)) (now (question .entry)) (now (row .entry)) (now (row .exit)) (r .slots) ⌝ }
+    ensures slots { λ r. ⌜ FillsSlots halves (now (main .entry)) (now (arrivals .entry)) (now (question .entry)) (now (row .entry)) (now (row .exit)) (r .slots) ⌝ }
 {
     let mut count = 0;
     let mut slots = 0;
@@ -71,8 +108,7 @@ pub fn compile(index: &[u8], question: &[u8], codes: &mut [u8], row: &mut [usize
                 };
             }
             Token::Word(start, end) => {
-                let entries = entries_for(index, &question[start..end]);
-                keep_entries(row, 2 * slots, entries);
+                fill_halves(main, arrivals, halves, &question[start..end], slots, row);
                 slots += 1;
                 codes[count] = WORD_CODE;
                 count += 1;

@@ -18,7 +18,7 @@ compile-requires c κs =
     let is = start .pre .1 in
     let within = accepted-within (ruleOf (a .rule)) (a .question .now) (is .tree) (is .words)
     (asked-parsed (a .rule) (a .question .now) (is .tree) (is .words) (is .is) .1) in
-    (start .pre .0, (omega arith, (refl, omega arith)))
+    (start .pre .0, (start .pre .0, (omega arith, (omega arith, (refl, omega arith)))))
 
 abbrev begun : tie.After-compile → tie.Start
 begun c = c .before .before .before .before .before .before

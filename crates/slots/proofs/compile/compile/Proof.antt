@@ -12,22 +12,25 @@ use Rattle.slots.proofs.compile.compile.Statement.{statement}
 use Rattle.slots.proofs.compile.compile.Tie as tie
 
 abbrev Inv-loop : tie.InvT-loop
-Inv-loop index question codes₀ row₀ count₀ slots₀ at₀ codes row count slots at = Compiling 0 index question codes₀ row₀ codes row count slots at
+Inv-loop main arrivals halves question codes₀ row₀ count₀ slots₀ at₀ codes row count slots at =
+    Compiling halves main arrivals question codes₀ row₀ codes row count slots at
 
 abbrev μ-loop : tie.MeasureT-loop
-μ-loop index question codes₀ row₀ count₀ slots₀ at₀ codes row count slots at = length question - at
+μ-loop main arrivals halves question codes₀ row₀ count₀ slots₀ at₀ codes row count slots at = length question - at
 
 abbrev asked : tie.At-loop Inv-loop μ-loop → tie.Start Inv-loop μ-loop
-asked c = c .before .before .before .before .before
+asked c = c .before .before .before .before .before .before
 
 loop-holds : tie.Need-loop-holds Inv-loop μ-loop
-loop-holds c = let a = c .before .before .before .before .args in compile-start 0 (a .index .now) (a .question .now) (a .codes .now) (a .row .now)
+loop-holds c =
+    let a = c .before .before .before .before .before .args in
+    compile-start (a .halves) (a .main .now) (a .arrivals .now) (a .question .now) (a .codes .now) (a .row .now)
 
 returns : tie.Need-returns Inv-loop μ-loop
 returns c =
     let here = c .before .before .before in
     let none = next-none (c .before .before .next-token .ensures) (c .before .match .keys1) in
-    (codes-written (here .loop .inv) none (asked here .pre .1 .0), slots-filled (here .loop .inv) none)
+    (codes-written (here .loop .inv) none (asked here .pre .1 .1 .1 .0), slots-filled (here .loop .inv) none)
 
 -- the word of a turn, and the slot that there is for it
 word : (c : tie.After-known-told Inv-loop μ-loop) → let here = c .before .before .before .before in let found = c .before .token .given .0 in
@@ -38,23 +41,23 @@ slot : (c : tie.After-known-told Inv-loop μ-loop) → let here = c .before .bef
     here .loop .slots < length (tokenWords (tokens (asked here .args .question .now)))
 slot c = slot-left (c .before .before .before .before .loop .inv) (word c .words)
 
--- behind the two calls, which leave the word and the slot as they are
+-- behind the call, which leaves the word and the slot as they are
 abbrev told : tie.After-slice-known3 Inv-loop μ-loop → tie.After-known-told Inv-loop μ-loop
-told c = c .before .before .before .before .before .before
+told c = c .before .before .before .before .before
 
-keep-entries-requires : tie.Need-keep-entries-requires Inv-loop μ-loop
-keep-entries-requires c κs =
-    let here = c .before .before .before .before .before .before .before in
-    (here .loop .inv .row-long ∙ asked here .pre .1 .1 .0, omega (arith, slot (c .before .before .before), asked here .pre .1 .1 .1))
+fill-halves-requires : tie.Need-fill-halves-requires Inv-loop μ-loop
+fill-halves-requires c κs =
+    let here = c .before .before .before .before .before .before in
+    let pre = asked here .pre in
+    (pre .0, (pre .1 .0, (pre .1 .1 .0, (omega (arith, slot (c .before .before), pre .1 .1 .1 .1 .1), here .loop .inv .row-long ∙ pre .1 .1 .1 .1 .0))))
 
 loop-again : tie.Need-loop-again Inv-loop μ-loop
 loop-again c =
-    let kept = c .before .before in
-    let made = kept .before .before in
+    let filled = c .before .before .fill-halves .ensures in
     let here = told c .before .before .before .before in
     let found = word (told c) in
-    compile-word (here .loop .inv) (asked here .pre .1 .0) (found .coded) (omega arith) (omega arith) (found .words) (made .entries-for .ensures)
-    (kept .keep-entries .ensures .0) (kept .keep-entries .ensures .1 .0) (kept .keep-entries .ensures .1 .1)
+    let pre = asked here .pre in
+    compile-word (here .loop .inv) (pre .1 .1 .1 .0) (found .coded) (pre .1 .1 .0) (found .words) (filled .0) (filled .1 .0) (filled .1 .1)
 
 -- the token of a turn that is neither a word nor the end
 other : (c : tie.At-match-keys3 Inv-loop μ-loop) → let here = c .before .before in
@@ -65,7 +68,7 @@ loop-again-2 : tie.Need-loop-again-2 Inv-loop μ-loop
 loop-again-2 c =
     let here = c .before .before .before .before in
     let found = other (c .before .before) in
-    rw (c .token-end .ensures, c .before .token-code .ensures) (compile-other (here .loop .inv) (asked here .pre .1 .0) (found .coded) (found .words))
+    rw (c .token-end .ensures, c .before .token-code .ensures) (compile-other (here .loop .inv) (asked here .pre .1 .1 .1 .0) (found .coded) (found .words))
 
 pub compile-spec : {M : Type 1} → statement M
 compile-spec =
@@ -73,8 +76,8 @@ compile-spec =
     (tie.spec
     Inv-loop μ-loop loop-holds (λ c κs. search needs) (λ c. search needs) (λ c. search needs) (λ c. search needs) returns
     (λ c. search needs) (λ c. let found = word c in omega arith) (λ c. let found = word c in omega arith)
-    (λ c. let found = word c in omega arith) (λ c κs. search needs) (λ c. let free = slot (c .before .before .before) in omega arith)
-    keep-entries-requires (λ c. let free = slot (told c) in omega arith) (λ c. let found = word (told c) in omega arith)
+    (λ c. let found = word c in omega arith) fill-halves-requires
+    (λ c. let free = slot (told c) in omega arith) (λ c. let found = word (told c) in omega arith)
     (λ c. let found = word (told c) in omega arith) (λ c. let found = word (told c) in omega arith) loop-again (λ c κs. search needs)
     (λ c. let found = other (c .before) in omega arith) (λ c. let found = other (c .before) in omega arith)
     (λ c κs. let found = other (c .before) in omega arith) (λ c. let found = other (c .before .before) in omega (arith, c .token-end .ensures)) loop-again-2)
