@@ -1,10 +1,9 @@
--- Laws of senses: of a test that is turned round, of two sides under an operator, of two of which either holds, and of a tree.
+-- Laws of senses: of the opposite, of two sides under an operator, of two of which either holds, and of a tree.
 use Prim.Native.Nat.{ℕ, _+_, _≤_, min}
 use native.Mathlib.Omega.{arith}
 use mathlib.Core.Path.{_≡_, refl, sym, ap, _∙_}
-use mathlib.Core.Bool.{Bool, true, false, cond, not, _&&_, _||_, and-false, or-true}
+use mathlib.Core.Bool.{Bool, true, false, not, _&&_, _||_, and-false, or-true}
 use mathlib.Core.List.{List}
-use lib.Dec.{eqb}
 use lib.ListN.{length, length-append}
 use Rattle.list.specs.Sense.{Steady}
 use Rattle.question.specs.declared.token.Op.{Op}
@@ -20,7 +19,7 @@ use Rattle.senses.specs.declared.look.Look.{Look}
 use Rattle.senses.specs.Look.{Tells, Looks}
 use Rattle.slots.proofs.SlotLaws.{slot-word, slot-part, slot-pair}
 
--- ---- of equal tests, of what is known to be in or out, and of a test that is turned round
+-- ---- of equal tests, of what is known to be in or out, and of the opposite
 
 pub steady-same : (p q : ℕ → Bool) (x : ℕ) (a : Bool) (u : ℕ) → ((y : ℕ) → p y ≡ q y) → Steady p x a u → Steady q x a u
 steady-same p q x a u e s = record { later = s .later; near = s .near; same = λ y h l. sym (e y) ∙ s .same y h l }
@@ -28,15 +27,8 @@ steady-same p q x a u e s = record { later = s .later; near = s .near; same = λ
 pub steady-is : {p : ℕ → Bool} {x : ℕ} {a b : Bool} {u : ℕ} → a ≡ b → Steady p x a u → Steady p x b u
 steady-is e s = rw (sym e) s
 
--- the opposite, where it is turned round
-abbrev pub turnedIf : Bool → Bool → Bool
-turnedIf turned a = cond turned (not a) a
-
-pub steady-turned : {p : ℕ → Bool} {x : ℕ} {a : Bool} {u : ℕ} {t : Bool} → t ≡ true → Steady p x a u → Steady (λ y. turnedIf t (p y)) x (not a) u
-steady-turned e s = record { later = s .later; near = s .near; same = λ y h l. rw e (ap not (s .same y h l)) }
-
-pub steady-unturned : {p : ℕ → Bool} {x : ℕ} {a : Bool} {u : ℕ} {t : Bool} → t ≡ false → Steady p x a u → Steady (λ y. turnedIf t (p y)) x a u
-steady-unturned e s = record { later = s .later; near = s .near; same = λ y h l. rw e (s .same y h l) }
+pub steady-not : {p : ℕ → Bool} {x : ℕ} {a : Bool} {u : ℕ} → Steady p x a u → Steady (λ y. not (p y)) x (not a) u
+steady-not s = record { later = s .later; near = s .near; same = λ y h l. ap not (s .same y h l) }
 
 -- ---- of two tests that both hold
 
@@ -76,12 +68,22 @@ or-by-and true b = refl
 or-by-and false true = refl
 or-by-and false false = refl
 
--- by `and` of sides that the code turns round
-pub paired-turned : (c : ℕ) (o : Op) → c ≡ opCode o → (a b : Bool) →
-    turnedIf (eqb c orCode) (turnedIf (eqb c orCode) a && turnedIf (not (eqb c andCode)) b) ≡ combine o a b
-paired-turned c And e a b = rw e
-paired-turned c Or e a b = rw e (or-by-and a b)
-paired-turned c Not e a b = rw e
+module _ (p q : ℕ → Bool) {x : ℕ} {a : Bool} {u : ℕ} where
+  pub paired-and : (o : Op) → andCode ≡ opCode o → Steady (λ y. p y && q y) x a u → Steady (λ y. combine o (p y) (q y)) x a u
+  paired-and And e s = s
+  paired-and Or e s = absurd (omega arith)
+  paired-and Not e s = absurd (omega arith)
+
+  pub paired-or : (o : Op) → orCode ≡ opCode o → Steady (λ y. not (not (p y) && not (q y))) x a u → Steady (λ y. combine o (p y) (q y)) x a u
+  paired-or And e s = absurd (omega arith)
+  paired-or Or e s = steady-same (λ y. not (not (p y) && not (q y))) (λ y. p y || q y) x a u (λ y. or-by-and (p y) (q y)) s
+  paired-or Not e s = absurd (omega arith)
+
+  pub paired-not : (c : ℕ) (o : Op) → c ≡ opCode o → (c ≡ andCode → ⊥) → (c ≡ orCode → ⊥) → Steady (λ y. p y && not (q y)) x a u →
+      Steady (λ y. combine o (p y) (q y)) x a u
+  paired-not c And e f g s = absurd (f e)
+  paired-not c Or e f g s = absurd (g e)
+  paired-not c Not e f g s = s
 
 -- ---- of a tree, by the kept senses of its slots
 

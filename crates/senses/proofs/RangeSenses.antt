@@ -2,7 +2,7 @@
 use Prim.Native.Nat.{ℕ, zero, suc, _+_, _-_, _*_, _≤_, _<_, min}
 use native.Mathlib.Omega.{arith}
 use mathlib.Core.Path.{_≡_, refl, sym, ap, _∙_, subst}
-use mathlib.Core.Bool.{Bool, true, false, _||_, or-true}
+use mathlib.Core.Bool.{Bool, true, false, _||_, or-true, or-false}
 use mathlib.Core.List.{List}
 use Rattle.limits.specs.Limits.{recordMax}
 use Rattle.list.specs.Interval.{names}
@@ -74,6 +74,17 @@ module _ (main arrivals row : List ℕ) (k : ℕ) where
       let slots = slotsIn row in
       steady-same (λ y. inHalves main arrivals slots k half y || inHalf main arrivals slots k half y) (inHalves main arrivals slots k (half + 1)) x false (min u v)
       (λ y. sym (halves-next main arrivals slots k half h y)) (either-out (inHalves main arrivals slots k half) (inHalf main arrivals slots k half) s t)
+
+  -- a half without a list changes nothing
+  pub half-empty : (half : ℕ) → half < 2 → entriesAt (slotsIn row) (2 * k + half) .count ≡ 0 → {x u : ℕ} →
+      Steady (inHalves main arrivals (slotsIn row) k half) x false u → Steady (inHalves main arrivals (slotsIn row) k (half + 1)) x false u
+  half-empty half h e {x} {u} s =
+      let slots = slotsIn row in
+      steady-same (inHalves main arrivals slots k half) (inHalves main arrivals slots k (half + 1)) x false u
+      (λ y. sym (halves-next main arrivals slots k half h y
+      ∙ ap (λ (b : Bool). inHalves main arrivals slots k half y || b) (rw e (no-entry (halfOf main arrivals half) (entriesAt slots (2 * k + half) .first) y))
+      ∙ or-false (inHalves main arrivals slots k half y)))
+      s
 
   pub halves-over : {half x u : ℕ} → half ≡ 2 → Steady (inHalves main arrivals (slotsIn row) k half) x false u → Steady (having main arrivals row k) x false u
   halves-over {half} {x} {u} e s = subst (λ (h : ℕ). Steady (inHalves main arrivals (slotsIn row) k h) x false u) e s

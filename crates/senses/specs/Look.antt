@@ -1,7 +1,7 @@
 -- What a look at one record says: whether it is in, and until which number that stays so.
 use Prim.Native.Nat.{ℕ, _+_, _≤_}
 use mathlib.Core.Path.{_≡_}
-use mathlib.Core.Bool.{Bool, cond, not, _&&_}
+use mathlib.Core.Bool.{Bool, not, _&&_}
 use mathlib.Core.List.{List}
 use lib.ListN.{length}
 use Rattle.list.specs.declared.sense.Sense.{Sense}
@@ -20,9 +20,9 @@ use Rattle.senses.specs.Senses.{Known}
 abbrev pub Senses : Sense → (ℕ → Bool) → ℕ → Type 0
 Senses a p x = Steady p x (a .inside) (a .until)
 
--- the sense of a test, turned round or not, of two tests that both hold, and of two sides under the operator of a code, whatever the tests
-abbrev pub Turned : Bool → Sense → Sense → Type 0
-Turned turned a r = (p : ℕ → Bool) (x : ℕ) → Senses a p x → Senses r (λ y. cond turned (not (p y)) (p y)) x
+-- the sense of the opposite, of two tests that both hold, and of two sides under the operator of a code, whatever the tests
+abbrev pub Opposite : Sense → Sense → Type 0
+Opposite a r = (p : ℕ → Bool) (x : ℕ) → Senses a p x → Senses r (λ y. not (p y)) x
 
 abbrev pub Both : Sense → Sense → Sense → Type 0
 Both a b r = (p q : ℕ → Bool) (x : ℕ) → Senses a p x → Senses b q x → Senses r (λ y. p y && q y) x

@@ -62,15 +62,19 @@ fn look_slot<'a>(main: &'a [u8], arrivals: &'a [u8], row: &mut [usize], k: usize
     let mut out = END;
     let mut half = 0;
     while half < 2 {
-        let index = half_of(main, arrivals, half);
-        let Sense { inside, until } = sense_entries(index, 2 * k + half, x, row);
-        if inside {
-            return Sense {
-                inside: true,
-                until,
-            };
+        let j = 2 * k + half;
+        // A range without a list says nothing, and where one index is asked all of the second are so.
+        if entries_of(row, j).count != 0 {
+            let index = half_of(main, arrivals, half);
+            let Sense { inside, until } = sense_entries(index, j, x, row);
+            if inside {
+                return Sense {
+                    inside: true,
+                    until,
+                };
+            }
+            out = smaller(out, until);
         }
-        out = smaller(out, until);
         half += 1;
     }
     Sense {

@@ -1,15 +1,14 @@
 // Two senses under an operator: what they say together, and how long that stays so.
-ghost use Rattle.senses.specs.Look.{Turned, Both, Paired};
+ghost use Rattle.senses.specs.Look.{Opposite, Both, Paired};
 use codes::code::AND_CODE;
 use codes::code::OR_CODE;
 use list::sense::Sense;
 
-// The opposite, where it is turned round.
-fn turn(a: Sense, turned: bool) -> Sense
-    ensures { λ r. ⌜ Turned turned a r ⌝ }
+fn opposite(a: Sense) -> Sense
+    ensures { λ r. ⌜ Opposite a r ⌝ }
 {
     Sense {
-        inside: if turned { !a.inside } else { a.inside },
+        inside: !a.inside,
         until: a.until,
     }
 }
@@ -36,10 +35,14 @@ fn both(a: Sense, b: Sense) -> Sense
     a
 }
 
-// `or` is the opposite of two opposites that both hold, and `not` turns its right side round.
 pub fn pair_senses(code: u8, a: Sense, b: Sense) -> Sense
     ensures { λ r. ⌜ Paired code a b r ⌝ }
 {
-    let turned = code == OR_CODE;
-    turn(both(turn(a, turned), turn(b, code != AND_CODE)), turned)
+    if code == AND_CODE {
+        return both(a, b);
+    }
+    if code == OR_CODE {
+        return opposite(both(opposite(a), opposite(b)));
+    }
+    both(a, opposite(b))
 }

@@ -1,15 +1,18 @@
 -- The halves before this one are out; a look at one moves hints alone, so that the range of the next is still the slot's.
-use Prim.Native.Nat.{_-_, _≤_}
+use Prim.Native.Nat.{ℕ, _+_, _-_, _*_, _≤_, _<_}
 use native.Mathlib.Omega.{arith}
-use mathlib.Core.Path.{sym, _∙_, subst}
+use mathlib.Core.Path.{_≡_, sym, ap, _∙_, subst}
+use mathlib.Core.Bool.{false}
+use mathlib.Core.List.{List}
+use mathlib.Core.Logic.{⊎-elim}
 use Rattle.list.specs.Sense.{Steady}
 use Rattle.index.specs.Sound.{Sound}
-use Rattle.slots.specs.Row.{slotsIn, HintsMoved}
+use Rattle.slots.specs.declared.row.Entries.{Entries}
+use Rattle.slots.specs.Row.{slotsIn, entriesAt, HintsMoved}
 use Rattle.slots.proofs.RowLaws.{moved-none, moved-both, half-sound}
 use Rattle.slots.proofs.EntriesLaws.{inHalf, inHalves}
 use Rattle.senses.proofs.PairedSenses.{steady-is}
-use Rattle.senses.proofs.RangeSenses.{half-said, half-in, halves-begun, halves-out, halves-over}
-use mathlib.Core.Bool.{false}
+use Rattle.senses.proofs.RangeSenses.{half-said, half-in, half-empty, halves-begun, halves-out, halves-over}
 use borrow.Author.Needs.{needs}
 use Rattle.senses.proofs.kept.look_slot.Statement.{statement}
 use Rattle.senses.proofs.kept.look_slot.Tie as tie
@@ -27,12 +30,32 @@ Loop = tie.At-loop Inv-loop μ-loop
 abbrev begun : Loop → tie.Start Inv-loop μ-loop
 begun c = c .before .before .before .before
 
+-- where the range of a half is read
+abbrev Read : Type 0
+Read = tie.After-entries-of Inv-loop μ-loop
+
+abbrev at : Read → Loop
+at c = c .before .before .before
+
+-- it is one of the two
+one-half : (c : Read) → at c .loop .half < 2
+one-half c = omega (arith, c .before .before .loop-test .taken)
+
+lists-are : (c : Read) →
+    c .entries-of .result .count ≡ entriesAt (slotsIn (begun (at c) .args .row .now)) (2 * begun (at c) .args .k + at c .loop .half) .count
+lists-are c =
+    ap (λ (e : Entries). e .count) (c .entries-of .ensures)
+    ∙ ap (λ (slots : List ℕ). entriesAt slots (2 * begun (at c) .args .k + at c .loop .half) .count) (at c .loop .inv .1 .stay .slots)
+
 -- behind the look at a half
 abbrev Looked : Type 0
 Looked = tie.After-sense-entries Inv-loop μ-loop
 
+abbrev read : Looked → Read
+read c = c .before .before .before .before .before
+
 abbrev looped : Looked → Loop
-looped c = c .before .before .before .before
+looped c = at (read c)
 
 says : (c : Looked) →
     let a = begun (looped c) .args in
@@ -47,20 +70,26 @@ says c =
 moved : (c : Looked) → HintsMoved (begun (looped c) .args .row .now) (c .sense-entries .last .1 .1 .1 .0)
 moved c = moved-both (looped c .loop .inv .1) (c .sense-entries .ensures .0)
 
+entries-of-requires : tie.Need-entries-of-requires Inv-loop μ-loop
+entries-of-requires c κs =
+    let l = c .before .before in
+    let pre = begun l .pre in
+    (l .loop .inv .1 .stay .long ∙ pre .0 .long, omega (arith, pre .1 .0, c .before .loop-test .taken))
+
 sense-entries-requires : tie.Need-sense-entries-requires Inv-loop μ-loop
 sense-entries-requires c κs =
-    let here = c .before .before .before in
-    let l = here .loop in
-    let a = begun here .args in
-    let pre = begun here .pre in
-    let more = c .before .before .loop-test .taken in
+    let r = c .before .before .before .before in
+    let l = at r .loop in
+    let a = begun (at r) .args in
+    let pre = begun (at r) .pre in
+    let here = one-half r in
     let half = c .before .half-of .ensures in (
       subst Sound (sym half) (half-sound (pre .0) (l .half)),
       (
         l .inv .1 .stay .long ∙ pre .0 .long,
         (
-          omega (arith, pre .1 .0, more),
-          (rw (half, l .inv .1 .stay .slots) (pre .0 .ranges (a .k) (l .half) more), pre .1 .1),
+          omega (arith, pre .1 .0, here),
+          (rw (half, l .inv .1 .stay .slots) (pre .0 .ranges (a .k) (l .half) here), pre .1 .1),
         ),
       ),
     )
@@ -70,21 +99,31 @@ returns c =
     let looked = c .before .before .before in
     let a = begun (looped looked) .args in (
       moved looked,
-      half-in (a .main .now) (a .arrivals .now) (a .row .now) (a .k) (looped looked .loop .half) (looked .before .before .before .loop-test .taken)
-          (steady-is (c .if1 .taken) (says looked)),
+      half-in (a .main .now) (a .arrivals .now) (a .row .now) (a .k) (looped looked .loop .half) (one-half (read looked))
+          (steady-is (c .if2 .taken) (says looked)),
     )
 
-loop-again : tie.Need-loop-again Inv-loop μ-loop
-loop-again c =
-    let looked = c .before .before .before .before in
-    let a = begun (looped looked) .args in
-    let l = looped looked .loop in
-    let more = looked .before .before .before .loop-test .taken in (
-      omega (arith, more),
-      moved looked,
-      rw (c .smaller .ensures)
-          (halves-out (a .main .now) (a .arrivals .now) (a .row .now) (a .k) (l .half) more (l .inv .2) (steady-is (c .before .if1 .left) (says looked))),
-    )
+-- behind a half, looked at or without a list
+passed : (c : tie.Joined1 Inv-loop μ-loop) →
+    let r = c .before .before in
+    let a = begun (at r) .args in
+    HintsMoved (a .row .now) (c .if1 .row) × Steady (inHalves (a .main .now) (a .arrivals .now) (slotsIn (a .row .now)) (a .k) (at r .loop .half + 1)) (a .x) false (c .if1 .out)
+passed c =
+    let r = c .before .before in
+    let a = begun (at r) .args in
+    let l = at r .loop in
+    let here = one-half r in
+    ⊎-elim
+    (λ w. let looked : Looked = record { before = record { before = record { before = record { before = c .before; if1 = w .0 }; half-of = w .1 }; sense-entries-arg = w .2 }; sense-entries = w .3 } in (
+      rw (w .8) (moved looked),
+      rw (w .9 ∙ w .7 .ensures)
+          (halves-out (a .main .now) (a .arrivals .now) (a .row .now) (a .k) (l .half) here (l .inv .2) (steady-is (w .6 .left) (says looked))),
+    ))
+    (λ w. (
+      rw (w .1) (l .inv .1),
+      rw (w .2) (half-empty (a .main .now) (a .arrivals .now) (a .row .now) (a .k) (l .half) here (sym (lists-are r) ∙ w .0 .left) (l .inv .2)),
+    ))
+    (c .if1 .came)
 
 returns-2 : tie.Need-returns-2 Inv-loop μ-loop
 returns-2 c =
@@ -100,5 +139,6 @@ look-slot-spec =
     Inv-loop μ-loop
     (λ c. let start = c .before .before .before in let a = start .args in
     (omega arith, moved-none (a .row .now), halves-begun (a .main .now) (a .arrivals .now) (a .row .now) (a .k) (start .pre .1 .1)))
-    (λ c κs. search needs) (λ c. search needs) (λ c. search needs) sense-entries-requires (λ c. moved (c .before .before .before) .stay .long) returns (λ c κs. search needs) (λ c. search needs) (λ c. search needs)
-    loop-again (λ c. c .before .loop .inv .1 .stay .long) returns-2)
+    (λ c. search needs) (λ c. search needs) entries-of-requires (λ c κs. search needs) sense-entries-requires
+    (λ c. moved (c .before .before .before) .stay .long) returns (λ c κs. search needs) (λ c. search needs) (λ c. search needs)
+    (λ c. (omega (arith, one-half (c .before .before)), passed c .0, passed c .1)) (λ c. c .before .loop .inv .1 .stay .long) returns-2)
