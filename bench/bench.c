@@ -94,7 +94,7 @@ static void sum_lists(const struct job *job)
 
 static void bench_check(const struct corpus *corpora, size_t count)
 {
-    printf("\nThe index check (microseconds; best of 12)\n");
+    printf("\nThe index check (microseconds; best of 36)\n");
     printf("%-10s %10s %10s %10s %10s %12s %10s\n", "corpus", "bytes", "naburain", "C check", "plain sum", "naburain/C", "/sum");
     for (size_t i = 0; i < count; i++) {
         struct job job = {.corpus = &corpora[i]};
@@ -313,7 +313,7 @@ static void table_check(const struct bench *b)
 
 static void table_questions(const struct bench *b)
 {
-    printf("\nQuestions (microseconds; best of 12): both sides check the whole index, read the question and answer it; `answer` is without the check\n");
+    printf("\nQuestions (microseconds; best of 36): both sides check the whole index, read the question and answer it; `answer` is without the check\n");
     printf("%-10s %-22s %9s %9s %9s %6s %9s %9s %6s %9s %7s\n", "corpus", "question", "intervals", "naburain", "C engine", "ratio", "answer",
            "C answer", "ratio", "list sum", "ans/sum");
     for (size_t i = 0; i < b->count; i++) {
@@ -348,7 +348,7 @@ static void table_growth(const struct bench *b)
 
 static void table_rust(const struct bench *b)
 {
-    printf("\nThe independent Rust implementation (microseconds; best of 12): both sides check the whole index and answer; `answer` is without the check\n");
+    printf("\nThe independent Rust implementation (microseconds; best of 36): both sides check the whole index and answer; `answer` is without the check\n");
     printf("%-10s %-22s %-12s %9s %9s %9s %6s %9s %9s %6s\n", "corpus", "question or method", "lists", "intervals", "naburain", "Rust", "ratio",
            "answer", "Rust ans.", "ratio");
     for (size_t i = 0; i < b->count; i++) {

@@ -132,7 +132,7 @@ static void beside_joins(struct job *job, uint32_t *old_cells, struct largest *l
 
 void bench_beside(const struct corpus *corpora, size_t count, uint32_t *cells, uint32_t *old_cells, size_t room)
 {
-    printf("\nBeside an older archive (microseconds; best of 12): new, old, new over old; `answer` is without the check\n");
+    printf("\nBeside an older archive (microseconds; best of 36): new, old, new over old; `answer` is without the check\n");
     printf("%-10s %-22s %-12s %9s %9s %6s %9s %9s %6s\n", "corpus", "question or method", "lists", "new", "old", "ratio", "answer", "old ans.",
            "ratio");
     struct largest largest = {0};

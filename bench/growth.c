@@ -36,7 +36,7 @@ static double steps_of(const struct corpus *corpus, const uint32_t *entries, siz
 void bench_growth(uint32_t *cells, size_t room)
 {
     static const uint32_t FEW[] = {0, 1, 2, 3}, MANY[] = {0, 1, 2, 3, 4, 5, 6, 7, 8, 9, 10, 11, 12, 13, 14, 15}, SHORT[] = {10, 0, 1, 2};
-    printf("\nJoins that grow (without the check; best of 12)\n%-22s %6s %12s %12s %14s\n", "method", "lists", "steps", "microseconds", "ns a step");
+    printf("\nJoins that grow (without the check; best of 36)\n%-22s %6s %12s %12s %14s\n", "method", "lists", "steps", "microseconds", "ns a step");
     for (uint32_t stretches = 1000; stretches <= 100000; stretches *= 10) {
         struct corpus corpus = make_corpus(&(struct kind){"growing", 16777215, stretches, 8, 5});
         for (size_t i = 0; i < METHOD_COUNT; i++) {
@@ -118,7 +118,7 @@ void bench_probing(uint32_t *ours, uint32_t *theirs, size_t room)
     static const uint32_t STRETCHES[] = {100, 1000, 10000, 10000, 100000, 1000000};
     enum { COUNT = sizeof STRETCHES / sizeof STRETCHES[0], LONG = 3 };
     struct corpus corpus = make_corpus_of(&(struct kind){"probing", 16777215, 0, 8, 5}, "a\nb\nc\nd\ne\nf\n", STRETCHES, COUNT);
-    printf("\nProbing, where one list grows (microseconds without the check; best of 12)\n"
+    printf("\nProbing, where one list grows (microseconds without the check; best of 36)\n"
            "`old` is of the archive beside; `C` is the same method in C, going on from the last place and from the start; cells are those of the long list\n"
            "that these two look at, and `of may` says what part of the most that going on may look at it does\n");
     printf("%7s %8s %9s %9s %9s %9s %6s %9s %9s %8s %8s %6s\n", "short", "long", "naburain", "old", "C on", "C start", "ratio", "cells on", "start",

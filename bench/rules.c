@@ -84,7 +84,7 @@ static void show_row(const struct job *job, const char *what, uint64_t intervals
 
 void bench_rules(const struct corpus *corpora, size_t count, uint32_t *cells, uint32_t *other_cells, size_t room)
 {
-    printf("\nThe two rules, on questions that mean the same by both (microseconds; best of 12): rule 2, rule 1, rule 2 over rule 1; `old` is of an older\n"
+    printf("\nThe two rules, on questions that mean the same by both (microseconds; best of 36): rule 2, rule 1, rule 2 over rule 1; `old` is of an older\n"
            "archive by the same rule, with new over old behind it, of the whole call and of the answer; `answer` is without the check\n");
     printf("%-10s %-22s %9s %9s %9s %6s %9s %9s %6s %9s %6s %6s %9s %6s %6s\n", "corpus", "question", "intervals", "rule 2", "rule 1", "ratio",
            "answer 2", "answer 1", "ratio", "old 2", "ratio", "answer", "old 1", "ratio", "answer");

@@ -43,7 +43,7 @@ static size_t times_for(run *what, const struct job *job)
 
 void best_of(run *const *what, size_t count, const struct job *job, double *best)
 {
-    enum { ROUNDS = 12, MOST = 8 };
+    enum { ROUNDS = 36, MOST = 8 };
     size_t times[MOST];
     for (size_t k = 0; k < count; k++) {
         times[k] = times_for(what[k], job);

@@ -95,7 +95,7 @@ static void show_row(size_t letters, const struct job *job)
 void bench_words(void)
 {
     static const size_t LETTERS[] = {2, 3, 4, 8, LONGEST};
-    printf("\nMany words with one record each (microseconds; best of 12): the check and the build; `old` is of an older archive, and the ratio new over old\n");
+    printf("\nMany words with one record each (microseconds; best of 36): the check and the build; `old` is of an older archive, and the ratio new over old\n");
     printf("%7s %7s %9s %9s %9s %6s %9s %9s %6s %9s %6s\n", "letters", "words", "bytes", "check", "C check", "ratio", "build", "old check", "ratio",
            "old build", "ratio");
     lent.room = MOST * (LONGEST + 28) + 20;
