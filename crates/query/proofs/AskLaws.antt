@@ -2,17 +2,17 @@
 use Prim.Native.Nat.{ℕ, _+_, _-_, _*_, _≤_}
 use native.Mathlib.Nat.{sub-zero}
 use native.Mathlib.Omega.{arith}
-use mathlib.Core.Path.{_≡_, sym, ap, _∙_, subst}
-use mathlib.Core.Bool.{Bool}
+use mathlib.Core.Path.{_≡_, refl, sym, ap, _∙_, subst}
+use mathlib.Core.Bool.{Bool, or-false}
 use mathlib.Core.List.{List, []}
-use lib.ListN.{length, take}
+use lib.ListN.{length, getD, take}
 use lib.Seq.{length-take-le}
 use Rattle.list.specs.declared.answer.Tally.{Tally}
 use Rattle.list.specs.declared.answer.Answer.{Answer}
 use Rattle.list.specs.Stretches.{cellsOf}
 use Rattle.list.specs.Sweeps.{Listing, Sweeps}
 use Rattle.list.proofs.StretchLaws.{cells-same}
-use Rattle.index.specs.Sound.{Sound}
+use Rattle.directory.specs.Has.{has}
 use Rattle.question.specs.Token.{tokens}
 use Rattle.question.specs.Grammar.{Tree, Rule, fromLeft, treeWords}
 use Rattle.question.specs.Rules.{andFirst, ruleOf}
@@ -31,9 +31,9 @@ use Rattle.codes.proofs.GroupLaws.{GroupedAs, grouped-reads, grouped-same, grou
 use Rattle.slots.specs.Row.{rowLong, slotsIn}
 use Rattle.slots.specs.Having.{having, ReadBy}
 use Rattle.slots.specs.Bound.{slotsIntervals}
-use Rattle.slots.specs.Compile.{WritesCodes, FillsSlots, TreeSlots}
+use Rattle.slots.specs.Compile.{WritesCodes, FillsSlots, halvesHave, TreeSlots}
 use Rattle.query.specs.Drive.{TreeOf, testOf, AskedBy, Ends}
-use Rattle.query.specs.Prepared.{MadeReady, Prepared, lastOf}
+use Rattle.query.specs.Prepared.{lastOf, Halves, OfHalves, MadeReady, Prepared}
 use Rattle.slots.proofs.WholeLaws.{slot-satisfies, compiled-slots, compiled-read}
 use Rattle.slots.proofs.SlotBound.{slot-above, slots-bound}
 use Rattle.slots.proofs.RowLaws.{Blank}
@@ -41,7 +41,8 @@ use Rattle.index.proofs.SoundLaws.{sound-trailer}
 
 -- ---- an accepted question made ready
 
-module _ {index s codes codes′ row row′ : List ℕ} {n slots : ℕ} (c : WritesCodes s codes codes′ n × FillsSlots 1 index index s row row′ slots)
+module _ {halves : ℕ} {main arrivals s codes codes′ row row′ : List ℕ} {n slots : ℕ}
+    (c : WritesCodes s codes codes′ n × FillsSlots halves main arrivals s row row′ slots) (over : Halves halves main arrivals)
     (rule : ℕ) (t : Tree) (k : ℕ) (is : asked rule s ≡ parses t k) where
   -- they are lent from the first on
   compiled-codes : take (n - 0) codes′ ≡ codesOf (tokens s)
@@ -53,17 +54,17 @@ module _ {index s codes codes′ row row′ : List ℕ} {n slots : ℕ} (c : Wri
   accepted : parsed (ruleOf rule) s ≡ parses t k
   accepted = asked-parsed rule s t k is .1
 
-  -- the index is lent as both
-  pub compiled-asked : Sound index → length row ≡ rowLong → Blank row → AskedBy (take (n - 0) codes′) index index row′ slots
-  compiled-asked sound long blank = record {
-    lent = compiled-read (c .1) blank sound long;
+  pub compiled-asked : length row ≡ rowLong → Blank row → AskedBy (take (n - 0) codes′) main arrivals row′ slots
+  compiled-asked long blank = record {
+    lent = compiled-read (c .1) blank (over .some) (over .both) (over .main-sound) (over .arrivals-sound) long;
     few = omega (arith, c .1 .count, accepted-within (ruleOf rule) s t k accepted .words);
     all = c .1 .count ∙ sym (codes-words (tokens s)) ∙ ap wordCodes (sym compiled-codes);
   }
 
-  pub compiled-ready : Blank row → MadeReady (ofIndex index) (ruleOf rule) (take (n - 0) codes′) (having index index row′) slots t
-  compiled-ready blank =
-      let slotted = compiled-slots (c .1) blank index (ruleOf rule) (rule-keeps rule) t k accepted in
+  pub compiled-ready : Blank row → (source : Source) → OfHalves halves main arrivals source →
+      MadeReady source (ruleOf rule) (take (n - 0) codes′) (having main arrivals row′) slots t
+  compiled-ready blank source of =
+      let slotted = compiled-slots (c .1) blank (over .some) (over .both) (ruleOf rule) (rule-keeps rule) t k accepted in
       record {
         reads =
             record {
@@ -74,11 +75,19 @@ module _ {index s codes codes′ row row′ : List ℕ} {n slots : ℕ} (c : Wri
               reads = asked-accepts (ruleOf rule) s t k accepted .reads;
             };
         all = slotted .0;
-        have = slotted .1;
+        have = λ i h x. slotted .1 i h x ∙ sym (of .has (getD (treeWords t) i []) x);
       }
 
-pub alone-last : (index : List ℕ) → ofIndex index .highest ≡ lastOf index index
-alone-last index = omega arith
+-- ---- what it is asked of
+
+-- there is such a source
+pub halves-source : (halves : ℕ) (main arrivals : List ℕ) → (s : Source) × OfHalves halves main arrivals s
+halves-source halves main arrivals =
+    (record { has = halvesHave halves main arrivals; highest = lastOf main arrivals }, record { has = λ w x. refl; last = refl })
+
+-- one index, lent as both
+pub alone-halves : (index : List ℕ) → OfHalves 1 index index (ofIndex index)
+alone-halves index = record { has = λ w x. sym (or-false (has index w x)); last = omega arith }
 
 -- the rule of a number
 module _ {s : Source} {rule : ℕ} {codes : List ℕ} {v : ℕ → ℕ → Bool} {slots : ℕ} {t : Tree} (m : MadeReady s (ruleOf rule) codes v slots t) where

@@ -8,13 +8,41 @@ use Rattle.limits.specs.Limits.{bracketsMax}
 use Rattle.list.specs.declared.answer.Answer.{Answer}
 use Rattle.list.specs.Interval.{intervals}
 use Rattle.list.specs.Sweeps.{Listing}
+use Rattle.index.specs.declared.Checked.the-variants.{Good}
 use Rattle.index.specs.Format.{highest}
+use Rattle.index.specs.Sound.{Sound}
 use Rattle.question.specs.Grammar.{Tree, Rule, treeWords}
 use Rattle.question.specs.Meaning.{satisfies}
 use Rattle.question.specs.Reading.{parses, asked}
-use Rattle.slots.specs.Compile.{TreeSlots}
+use Rattle.slots.specs.Compile.{halvesHave, TreeSlots}
 use Rattle.source.specs.Source.{Source, satisfying}
+use Rattle.source.specs.Ask.{Lists}
 use Rattle.query.specs.Drive.{TreeBy, TreeOf, testOf}
+
+-- ---- what it is asked of: one index or two
+
+-- of two indexes, the highest record
+abbrev pub lastOf : List ℕ → List ℕ → ℕ
+lastOf main arrivals = max (highest main) (highest arrivals)
+
+-- the first `halves` of two sound indexes: the main one, or both
+pub record Halves (halves : ℕ) (main arrivals : List ℕ) : Type 0 where
+  pub main-sound : Sound main
+  pub arrivals-sound : Sound arrivals
+  pub some : 1 ≤ halves
+  pub both : halves ≤ 2
+
+-- a source is theirs
+pub record OfHalves (halves : ℕ) (main arrivals : List ℕ) (s : Source) : Type 0 where
+  pub has : (w : List ℕ) (x : ℕ) → s .has w x ≡ halvesHave halves main arrivals w x
+  pub last : s .highest ≡ lastOf main arrivals
+
+-- what is answered over each such source
+abbrev pub AnswersHalves : ℕ → List ℕ → List ℕ → ℕ → List ℕ → List ℕ → List ℕ → Answer → Type 0
+AnswersHalves halves main arrivals rule question out out′ r =
+    (s : Source) → OfHalves halves main arrivals s → Lists Good (asked rule question) (satisfying s) out out′ r
+
+-- ---- made ready
 
 -- the question is accepted
 pub record IsAsked (rule : ℕ) (question : List ℕ) : Type 0 where
@@ -57,7 +85,3 @@ pub record IsPrepared (codes : List ℕ) (v : ℕ → ℕ → Bool) (n most : �
 -- the list of each source and tree for which they are prepared, or refusal 12
 abbrev pub PutsAnswer : List ℕ → (ℕ → ℕ → Bool) → ℕ → ℕ → List ℕ → List ℕ → Answer → Type 0
 PutsAnswer codes v n most out out′ r = (s : Source) → s .highest ≡ n → (t : Tree) → Prepared s codes v most t → Listing (satisfying s t) out out′ r
-
--- of two indexes, the highest record
-abbrev pub lastOf : List ℕ → List ℕ → ℕ
-lastOf main arrivals = max (highest main) (highest arrivals)

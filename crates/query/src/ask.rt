@@ -10,7 +10,7 @@ ghost use Rattle.slots.specs.Row.{slotsIn};
 ghost use Rattle.slots.specs.Having.{having};
 ghost use Rattle.slots.specs.Bound.{slotsIntervals};
 ghost use Rattle.query.specs.Drive.{AskedBy};
-ghost use Rattle.query.specs.Prepared.{lastOf, IsAsked, IsReady, ListsReady, IsPrepared, PutsAnswer};
+ghost use Rattle.query.specs.Prepared.{lastOf, Halves, AnswersHalves, IsAsked, IsReady, ListsReady, IsPrepared, PutsAnswer};
 use crate::drive::Pass;
 use crate::drive::sweep_question;
 use codes::group::GROUPED_MAX;
@@ -97,36 +97,51 @@ fn answer_codes<'a>(
     put_answer(codes, main, arrivals, row, slots, out)
 }
 
-// Answers an accepted question over one index, which is lent as both: no slot has entries of arrivals.
-fn answer_accepted(index: &[u8], rule: u32, question: &[u8], out: &mut [u32]) -> Answer
-    requires sound { ⌜ Sound (now index) ⌝ }
+// Answers an accepted question over one index or two: where it is one, no slot has entries of the arrivals.
+fn answer_accepted<'a>(
+    main: &'a [u8],
+    arrivals: &'a [u8],
+    halves: usize,
+    rule: u32,
+    question: &[u8],
+    out: &mut [u32],
+) -> Answer
+    requires halves { ⌜ Halves halves (now main) (now arrivals) ⌝ }
     requires asked { ⌜ IsAsked rule (now question) ⌝ }
-    ensures { λ r. ⌜ Answers rule (now (index .entry)) (now (question .entry)) (now (out .entry)) (now (out .exit)) r ⌝ }
+    ensures { λ r. ⌜ AnswersHalves halves (now (main .entry)) (now (arrivals .entry)) rule (now (question .entry)) (now (out .entry)) (now (out .exit)) r ⌝ }
 {
     let mut codes: [u8; QUESTION_MAX] = [0; QUESTION_MAX];
     let mut row: [usize; ROW] = [0; ROW];
-    let compiled = compile(index, index, 1, question, &mut codes, &mut row);
+    let compiled = compile(main, arrivals, halves, question, &mut codes, &mut row);
     let count = compiled.codes;
-    answer_codes(
-        rule,
-        &codes[0..count],
-        index,
-        index,
-        &mut row,
-        compiled.slots,
-        out,
-    )
+    let slots = compiled.slots;
+    answer_codes(rule, &codes[0..count], main, arrivals, &mut row, slots, out)
 }
 
-// Reference 8.10: answers a question over an index that is sound.
+// Answers a question over one index or two that are sound.
+fn answer_halves<'a>(
+    main: &'a [u8],
+    arrivals: &'a [u8],
+    halves: usize,
+    rule: u32,
+    question: &[u8],
+    out: &mut [u32],
+) -> Answer
+    requires halves { ⌜ Halves halves (now main) (now arrivals) ⌝ }
+    ensures { λ r. ⌜ AnswersHalves halves (now (main .entry)) (now (arrivals .entry)) rule (now (question .entry)) (now (out .entry)) (now (out .exit)) r ⌝ }
+{
+    match read_question(rule, question) {
+        Verdict::Accepted(_) => answer_accepted(main, arrivals, halves, rule, question, out),
+        Verdict::Refused(refusal) => Answer::Refused(refusal),
+    }
+}
+
+// Reference 8.10: answers a question over an index that is sound. It is lent as both, and the first half alone is asked.
 pub fn answer_question(index: &[u8], rule: u32, question: &[u8], out: &mut [u32]) -> Answer
     requires { ⌜ Sound (now index) ⌝ }
     ensures { λ r. ⌜ Answers rule (now (index .entry)) (now (question .entry)) (now (out .entry)) (now (out .exit)) r ⌝ }
 {
-    match read_question(rule, question) {
-        Verdict::Accepted(_) => answer_accepted(index, rule, question, out),
-        Verdict::Refused(refusal) => Answer::Refused(refusal),
-    }
+    answer_halves(index, index, 1, rule, question, out)
 }
 
 // Reference 8.6: answers a question over any bytes; the index is checked first.

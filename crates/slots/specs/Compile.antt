@@ -1,8 +1,9 @@
 -- A question made ready in one pass over its tokens: its codes, one a token, and a range of entries for each word, in its slot.
 use Prim.Native.Nat.{ℕ, _+_, _*_, _≤_, _<_}
 use mathlib.Core.Path.{_≡_}
-use mathlib.Core.Bool.{Bool}
+use mathlib.Core.Bool.{Bool, _&&_, _||_}
 use mathlib.Core.List.{List, []}
+use lib.Dec.{ltb}
 use lib.ListN.{length, getD, take}
 use Rattle.directory.specs.Has.{has}
 use Rattle.question.specs.Token.{tokens}
@@ -38,6 +39,10 @@ pub record FillsSlots (halves : ℕ) (main arrivals question row row′ : List �
   pub count : n ≡ length (tokenWords (tokens question))
   pub stand : (k : ℕ) → k < n → HalvesStand halves main arrivals (getD (tokenWords (tokens question)) k []) k (slotsIn row′)
   pub stay : (j : ℕ) → ((k half : ℕ) → k < n → half < halves → j ≡ 2 * k + half → ⊥) → entriesAt (slotsIn row′) j ≡ entriesAt (slotsIn row) j
+
+-- what the first `halves` of two indexes have of a word: the main one, or both
+abbrev pub halvesHave : ℕ → List ℕ → List ℕ → List ℕ → ℕ → Bool
+halvesHave halves main arrivals w x = has main w x || (ltb 1 halves && has arrivals w x)
 
 -- each slot has what is said of the tree's word
 abbrev pub TreeSlots : (ℕ → ℕ → Bool) → (List ℕ → ℕ → Bool) → Tree → Type 0

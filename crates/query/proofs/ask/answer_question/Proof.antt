@@ -1,30 +1,18 @@
--- The reading refuses first; of an accepted question, what its answer is.
-use mathlib.Core.Path.{sym, _∙_}
-use Rattle.question.proofs.ParsedLaws.{verdict-accepted, verdict-refused}
-use Rattle.source.specs.Source.{satisfying, ofIndex}
-use Rattle.source.proofs.AskLaws.{refused-answers}
+-- One index, lent as both, of which the first half is asked.
+use native.Mathlib.Omega.{arith}
+use Rattle.source.specs.Source.{ofIndex}
+use Rattle.query.proofs.AskLaws.{alone-halves}
 use borrow.Author.Needs.{needs}
 use Rattle.query.proofs.ask.answer_question.Statement.{statement}
 use Rattle.query.proofs.ask.answer_question.Tie as tie
 
-answer-accepted-requires : tie.Need-answer-accepted-requires
-answer-accepted-requires c κs =
-    let start = c .before .before .before .before .before .before .before in
-    let a = start .args in
-    let told = c .before .enum-told .given in
-    let by = verdict-accepted (a .rule) (a .question .now) (told .0 .0) (sym (c .before .before .before .read-question .ensures) ∙ told .1) in
-    (start .pre, record { tree = by .0; words = told .0 .0; is = by .1 })
+answer-halves-requires : tie.Need-answer-halves-requires
+answer-halves-requires c κs = let sound = c .before .before .before .before .pre in record { main-sound = sound; arrivals-sound = sound; some = omega arith; both = omega arith }
 
-returns-2 : tie.Need-returns-2
-returns-2 c =
-    let a = c .before .before .before .before .before .before .before .args in
-    let refusal = c .before .refusal .given in
-    refused-answers (satisfying (ofIndex (a .index .now)))
-    (verdict-refused (a .rule) (a .question .now) (refusal .0 .0) (sym (c .before .before .before .read-question .ensures) ∙ refusal .1))
+returns : tie.Need-returns
+returns c =
+    let index = c .before .before .before .before .before .before .before .args .index .now in
+    c .before .before .answer-halves .ensures (ofIndex index) (alone-halves index)
 
 pub answer-question-spec : {M : Type 1} → statement M
-answer-question-spec =
-    tie.close
-    (tie.spec
-    (λ c κs. search needs) (λ c. search needs) answer-accepted-requires (λ c. search needs) (λ c. search needs)
-    (λ c. search needs) returns-2)
+answer-question-spec = tie.close (tie.spec answer-halves-requires (λ c. search needs) returns)
