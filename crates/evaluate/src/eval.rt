@@ -92,7 +92,7 @@ fn word_out(codes: &[u8], i: usize, k: usize, row: &[usize], base: u32, n: usize
     is_out(row, k, base, n)
 }
 
-// Evaluates the operand that begins at a step: a word, or a level in brackets. It is small, so that the words of a level are filled without a call of it.
+// Evaluates the operand that begins at a step: a word, or a level in brackets.
 fn eval_operand<'a>(
     codes: &[u8],
     at: Step,

@@ -1,14 +1,15 @@
 -- Laws of the row: what is read of it, and what a store into one of its parts leaves of the others.
-use Prim.Native.Nat.{ℕ, zero, suc, _+_, _-_, _*_, _≤_, _<_}
+use Prim.Native.Nat.{ℕ, suc, _+_, _-_, _*_, _≤_, _<_}
 use native.Mathlib.Omega.{arith}
 use native.Mathlib.Decide.{ℕ-discrete}
+use native.Mathlib.Numerals.{add-one, add-two, add-three}
 use mathlib.Core.Path.{_≡_, refl, sym, ap, _∙_}
-use mathlib.Core.List.{List}
+use mathlib.Core.List.{List, [], _∷_}
 use lib.Dec.{eqb}
 use lib.ListN.{length, getD, take, drop, set, replicate, length-set, length-drop, length-replicate}
-use lib.Seq.{length-take-le, take-set-le, take-set-lt, drop-set-add, getD-take, getD-drop, getD-set-same, getD-set-other, ext-getD}
+use lib.Seq.{length-take-le, take-set-le, take-set-lt, drop-set-add, getD-take, getD-drop, getD-set-same, getD-set-other, ext-getD, sets}
 use Rattle.laws.proofs.Tests.{by-test, leb-cases}
-use Rattle.laws.proofs.Lists.{zeros-at}
+use Rattle.laws.proofs.Lists.{zeros-at, sets-other, sets-read, take-sets}
 use Rattle.list.specs.declared.Place.{Place}
 use Rattle.index.specs.Sound.{Sound}
 use Rattle.list.specs.Hints.{withHint}
@@ -48,61 +49,24 @@ senses-long row e = length-take-le 16 (drop 256 row) (omega (arith, length-drop 
 
 -- ---- what is stored
 
--- the first n of some numbers stored from i on
-unfoldable laid : List ℕ → ℕ → (ℕ → ℕ) → ℕ → List ℕ
-laid l i f zero = l
-laid l i f (suc n) = set (laid l i f n) (i + n) (f n)
-
-laid-long : (l : List ℕ) (i : ℕ) (f : ℕ → ℕ) (n : ℕ) → length (laid l i f n) ≡ length l
-unfolding laid
-laid-long l i f zero = refl
-laid-long l i f (suc n) = length-set (laid l i f n) (i + n) (f n) ∙ laid-long l i f n
-
-laid-read : (l : List ℕ) (i : ℕ) (f : ℕ → ℕ) (n c : ℕ) → c < n → i + n ≤ length l → getD (laid l i f n) (i + c) 0 ≡ f c
-unfolding laid
-laid-read l i f zero c h r = absurd (omega arith)
-laid-read l i f (suc n) c h r = go (ℕ-discrete c n) (λ g. laid-read l i f n c g (omega arith))
-  where
-    go : Dec (c ≡ n) → (c < n → getD (laid l i f n) (i + c) 0 ≡ f c) → getD (set (laid l i f n) (i + n) (f n)) (i + c) 0 ≡ f c
-    go (yes q) before = rw q (getD-set-same (laid l i f n) (i + n) (f n) 0 (omega (arith, laid-long l i f n)))
-    go (no q) before = getD-set-other (laid l i f n) (i + n) (i + c) (f n) 0 (λ e. q (omega arith))
-        ∙ before (leb-cases {A = c < n} n c (λ g. absurd (q (omega arith))) (λ g. g))
-
-laid-past : (l : List ℕ) (i : ℕ) (f : ℕ → ℕ) (n m : ℕ) → ((c : ℕ) → c < n → m ≡ i + c → ⊥) → getD (laid l i f n) m 0 ≡ getD l m 0
-unfolding laid
-laid-past l i f zero m h = refl
-laid-past l i f (suc n) m h =
-    getD-set-other (laid l i f n) (i + n) m (f n) 0 (h n (omega arith)) ∙ laid-past l i f n m (λ c g. h c (omega arith))
-
-laid-in : (row : List ℕ) (i : ℕ) (f : ℕ → ℕ) (n : ℕ) → i + n ≤ 256 → slotsIn (laid row i f n) ≡ laid (slotsIn row) i f n
-unfolding laid slotsIn
-laid-in row i f zero h = refl
-laid-in row i f (suc n) h =
-    take-set-lt 256 (laid row i f n) (i + n) (f n) (omega arith) ∙ ap (λ (l : List ℕ). set l (i + n) (f n)) (laid-in row i f n (omega arith))
-
 -- the six numbers of a range
-abbrev numbersOf : Entries → ℕ → ℕ
-numbersOf e zero = e .first
-numbersOf e (suc zero) = e .count
-numbersOf e (suc (suc zero)) = e .regions .s
-numbersOf e (suc (suc (suc zero))) = e .regions .l
-numbersOf e (suc (suc (suc (suc zero)))) = e .regions .u
-numbersOf e (suc (suc (suc (suc (suc c))))) = e .regions .end
+abbrev rangeNumbers : Entries → List ℕ
+rangeNumbers e = e .first ∷ e .count ∷ e .regions .s ∷ e .regions .l ∷ e .regions .u ∷ e .regions .end ∷ []
 
 module _ (slots : List ℕ) (j : ℕ) (e : Entries) where
-  laid-range : 8 * j + 6 ≤ length slots → entriesAt (laid slots (8 * j) (numbersOf e) 6) j ≡ e
+  written-range : 8 * j + 6 ≤ length slots → entriesAt (sets slots (8 * j) (rangeNumbers e)) j ≡ e
   unfolding entriesAt
-  laid-range h =
-      let read : (c : ℕ) → c < 6 → getD (laid slots (8 * j) (numbersOf e) 6) (8 * j + c) 0 ≡ numbersOf e c =
-      λ c g. laid-read slots (8 * j) (numbersOf e) 6 c g h in
+  written-range h =
+      let read : (c : ℕ) → c < 6 → getD (sets slots (8 * j) (rangeNumbers e)) (8 * j + c) 0 ≡ getD (rangeNumbers e) c 0 =
+      λ c g. sets-read slots (8 * j) (rangeNumbers e) c g h in
       let z : 8 * j + 0 ≡ 8 * j = omega arith in
       rw (rw z at (read 0 (omega arith)), read 1 (omega arith), read 2 (omega arith), read 3 (omega arith), read 4 (omega arith), read 5 (omega arith)) refl
 
-  laid-others : (i : ℕ) → (i ≡ j → ⊥) → entriesAt (laid slots (8 * j) (numbersOf e) 6) i ≡ entriesAt slots i
+  written-others : (i : ℕ) → (i ≡ j → ⊥) → entriesAt (sets slots (8 * j) (rangeNumbers e)) i ≡ entriesAt slots i
   unfolding entriesAt
-  laid-others i n =
-      let same : (d : ℕ) → d < 6 → getD (laid slots (8 * j) (numbersOf e) 6) (8 * i + d) 0 ≡ getD slots (8 * i + d) 0 =
-      λ d g. laid-past slots (8 * j) (numbersOf e) 6 (8 * i + d) (λ c h q. n (omega arith)) in
+  written-others i n =
+      let same : (d : ℕ) → d < 6 → getD (sets slots (8 * j) (rangeNumbers e)) (8 * i + d) 0 ≡ getD slots (8 * i + d) 0 =
+      λ d g. sets-other slots (8 * j) (rangeNumbers e) (8 * i + d) (λ c h q. n (omega arith)) in
       let z : 8 * i + 0 ≡ 8 * i = omega arith in
       rw (rw z at (same 0 (omega arith)), same 1 (omega arith), same 2 (omega arith), same 3 (omega arith), same 4 (omega arith), same 5 (omega arith)) refl
 
@@ -113,21 +77,22 @@ withRange row j e =
     (8 * j + 4) (e .regions .u)) (8 * j + 5) (e .regions .end)
 
 module _ (row : List ℕ) (j : ℕ) (e : Entries) (h : j < 32) where
-  six : laid row (8 * j) (numbersOf e) 6 ≡ withRange row j e
-  unfolding laid
+  -- in the code's form
+  six : sets row (8 * j) (rangeNumbers e) ≡ withRange row j e
   six =
-      let z : 8 * j + 0 ≡ 8 * j = omega arith in
-      ap (λ (i : ℕ). set (set (set (set (set (set row i (e .first)) (8 * j + 1) (e .count)) (8 * j + 2) (e .regions .s)) (8 * j + 3) (e .regions .l))
-      (8 * j + 4) (e .regions .u)) (8 * j + 5) (e .regions .end)) z
+      let four : 8 * j + 4 ≡ suc (suc (suc (suc (8 * j)))) = omega arith in
+      let five : 8 * j + 5 ≡ suc (suc (suc (suc (suc (8 * j))))) = omega arith in
+      rw (add-one (8 * j), add-two (8 * j), add-three (8 * j), four, five) refl
 
-  stored : slotsIn (withRange row j e) ≡ laid (slotsIn row) (8 * j) (numbersOf e) 6
-  stored = ap slotsIn (sym six) ∙ laid-in row (8 * j) (numbersOf e) 6 (omega arith)
+  stored : slotsIn (withRange row j e) ≡ sets (slotsIn row) (8 * j) (rangeNumbers e)
+  unfolding slotsIn
+  stored = ap (λ (l : List ℕ). take 256 l) (sym six) ∙ take-sets 256 row (8 * j) (rangeNumbers e) (omega arith)
 
   pub range-kept : length row ≡ 336 → entriesAt (slotsIn (withRange row j e)) j ≡ e
-  range-kept long = rw stored (laid-range (slotsIn row) j e (omega (arith, slots-long row long)))
+  range-kept long = rw stored (written-range (slotsIn row) j e (omega (arith, slots-long row long)))
 
   pub ranges-stay : (i : ℕ) → (i ≡ j → ⊥) → entriesAt (slotsIn (withRange row j e)) i ≡ entriesAt (slotsIn row) i
-  ranges-stay i n = rw stored (laid-others (slotsIn row) j e i n)
+  ranges-stay i n = rw stored (written-others (slotsIn row) j e i n)
 
 module _ (row : List ℕ) (k n : ℕ) where
   pub sense-slots : SlotsStay row (set row (256 + k) n)
