@@ -1,4 +1,6 @@
 // Reference 10: answers the lines of standard input over the index in `index.bin`.
+#![tactic(auto)]
+
 mod answer;
 mod transfer;
 

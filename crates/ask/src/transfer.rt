@@ -8,7 +8,7 @@ ghost use Rattle.ask.specs.Transfer.{read_count, file_read_of, ReadsOn};
 const PATIENCE: usize = 1_000_000;
 
 // What was read of a file: so many bytes before its end or the buffer's, or that a read failed.
-#[derive(Drop)]
+#[derive(Clone, Copy)]
 pub enum FileRead {
     Bytes(usize),
     Failed,

@@ -1,4 +1,5 @@
 // Building an index from words, counts and record numbers.
+#![tactic(auto)]
 
 pub mod build;
 pub mod counts;

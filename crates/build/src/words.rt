@@ -8,7 +8,7 @@ use limits::WORDS_MAX;
 use parts::part_end;
 
 // How many words there are, or the first bad one.
-#[derive(Drop)]
+#[derive(Clone, Copy)]
 pub enum Words {
     Counted(usize),
     Bad(usize),

@@ -8,6 +8,8 @@
 //   bytes                     the bytes that a word may have
 //   many|N|size|counts|numbers|bad       into one byte: the first `size` bytes of 65,536 words of four letters, counts and numbers of 1, bad words
 // What stands behind these fields is a remark. A line that begins with # is a heading.
+#![tactic(auto)]
+
 use check::same;
 use script::lay::change;
 use script::part::field;

@@ -5,6 +5,8 @@
 //   probe|items|p|q|a|b    [a, b] probed in the list of p singles and q pairs that the bytes are
 //   join|items|room|..     the bytes as an index, whose entries are joined by each method into eight cells, as above
 // In the last two the items change a copy of the bytes. A line that begins with # is a heading.
+#![tactic(auto)]
+
 use check::same;
 use script::lay::change;
 use script::part::field;

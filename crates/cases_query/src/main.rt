@@ -7,6 +7,8 @@
 //   pair|items|rule|room|question|arrivals    the same over a pair, whose arrivals are a copy with other items laid over it
 //   word|items|word|arrivals                  the word of such a pair: refusal and value, which index has it and the entry, the part handed back
 // What stands behind these fields is a remark. A line that begins with # is a heading.
+#![tactic(auto)]
+
 use check::same;
 use script::lay::change;
 use script::part::field;

@@ -14,7 +14,7 @@ pub const GROUPED_MAX: usize = 3 * QUESTION_MAX + 1;
 pub const GROUPED_BRACKETS: usize = 2 * BRACKETS_MAX + 1;
 
 // What has been written, and what stands open there.
-#[derive(Drop)]
+#[derive(Clone, Copy)]
 pub struct Grouping {
     // whether a group of this level stands in brackets
     pub inside: bool,

@@ -1,4 +1,5 @@
 // Numbers to intervals, and intervals to numbers.
+#![tactic(auto)]
 
 pub mod numbers;
 pub mod runs;

@@ -7,7 +7,7 @@ ghost use Rattle.convert.specs.Runs.{RunAt};
 use refusal::Found;
 
 // An interval of the numbers, and the place of the number behind it.
-#[derive(Drop)]
+#[derive(Clone, Copy)]
 pub struct Run {
     pub lower: u32,
     pub upper: u32,

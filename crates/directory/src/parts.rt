@@ -31,7 +31,7 @@ pub fn word_of<'a>(index: &'a [u8], i: usize) -> &'a [u8]
 }
 
 // Reference 4.3: where the regions S, L and U of a list begin, and where U ends. By them a caller takes its slices, and the entry is read once.
-#[derive(Drop)]
+#[derive(Clone, Copy)]
 pub struct Regions {
     pub s: usize,
     pub l: usize,

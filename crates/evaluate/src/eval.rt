@@ -17,7 +17,7 @@ use limits::QUESTION_WORDS_MAX;
 use window::tuning::MOST;
 
 // Where an evaluation stands: the next code, and the slot of the next word.
-#[derive(Drop)]
+#[derive(Clone, Copy)]
 pub struct Step {
     pub code: usize,
     pub slot: usize,

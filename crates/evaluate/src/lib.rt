@@ -1,4 +1,5 @@
 // What a question's codes say of the records of a window, as bits.
+#![tactic(auto)]
 
 pub mod combine;
 pub mod eval;

@@ -37,7 +37,7 @@ fn fill_nth(index: &[u8], j: usize, m: usize, base: u32, row: &mut [usize], ws: 
 }
 
 // A list of a slot: of which half it is, and its number in the range of that half.
-#[derive(Drop)]
+#[derive(Clone, Copy)]
 struct ListAt {
     half: usize,
     m: usize,

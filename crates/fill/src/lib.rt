@@ -1,4 +1,6 @@
 // A kept list filled into a window: the singles bit by bit, the pairs stretch by stretch, each side from what does not end before the window.
+#![tactic(auto)]
+
 ghost use Rattle.std.specs.Prelude.{◌≡◌, ◌+◌, ◌-◌, ◌≤◌, ◌<◌, length};
 ghost use Rattle.limits.specs.Limits.{record_max};
 ghost use Rattle.list.specs.Cell.{numbers_in};

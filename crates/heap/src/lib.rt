@@ -1,4 +1,6 @@
 // A heap of numbers in the first `size` cells of a lent slice: the least is cell 0, and below cell i stand the cells 2i + 1 and 2i + 2.
+#![tactic(auto)]
+
 ghost use Rattle.std.specs.Prelude.{◌+◌, ◌*◌, ◌≤◌, ◌<◌, length, take};
 ghost use Rattle.heap.specs.Heap.{IsHeap, Pushed, Replaced, Dropped, Lesser};
 

@@ -3,7 +3,7 @@ ghost use Rattle.std.specs.Prelude.{◌≡◌, ◌+◌, ◌*◌, ◌<◌};
 ghost use Rattle.index.specs.Format.{entry_size};
 ghost use Rattle.index.specs.Read.{Framed, EntryCells};
 
-#[derive(Drop)]
+#[derive(Clone, Copy)]
 pub struct Entry {
     pub word_start: usize,
     pub word_length: usize,

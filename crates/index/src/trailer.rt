@@ -16,7 +16,7 @@ pub fn word_count(index: &[u8]) -> usize
 }
 
 // Reference 4.2: the last 20 bytes, five cells, from which a reader starts.
-#[derive(Drop)]
+#[derive(Clone, Copy)]
 pub struct Trailer {
     // W, the byte at which the words start: all lists stand before it
     pub words: usize,

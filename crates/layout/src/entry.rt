@@ -10,7 +10,7 @@ use crate::size::{count_kept, list_size};
 use refusal::Found;
 
 // Where the next list, the next word's bytes and the next entry belong.
-#[derive(Drop)]
+#[derive(Clone, Copy)]
 pub struct Spots {
     pub list: usize,
     pub word: usize,

@@ -11,7 +11,7 @@ use convert::runs::next_run;
 use refusal::Found;
 
 // Where the next single, the next lower and the next upper bound of a list belong.
-#[derive(Drop)]
+#[derive(Clone, Copy)]
 pub struct Places {
     pub single: usize,
     pub lower: usize,

@@ -8,7 +8,7 @@ use convert::runs::gap;
 use refusal::Found;
 
 // How many singles and how many pairs a list has.
-#[derive(Drop)]
+#[derive(Clone, Copy)]
 pub struct ListCounts {
     pub singles: usize,
     pub pairs: usize,

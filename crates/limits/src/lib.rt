@@ -1,4 +1,5 @@
 // Reference 1: the limits, by the names that the header gives them.
+#![tactic(auto)]
 
 // The largest record number, and the largest N.
 pub const RECORD_MAX: u32 = 16_777_215;

@@ -9,7 +9,7 @@ use crate::cell::number_at;
 use crate::{END, PairAt, SingleAt};
 
 // Where a pass over singles ended, and the least that the next interval may begin with there.
-#[derive(Drop)]
+#[derive(Clone, Copy)]
 pub struct Pass {
     pub p: SingleAt,
     pub least: u32,

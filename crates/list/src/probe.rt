@@ -7,7 +7,7 @@ ghost use Rattle.list.specs.Ginix.{below_count, overlap_count};
 use crate::seek::count_below;
 use crate::{PairAt, SingleAt};
 
-#[derive(Drop)]
+#[derive(Clone, Copy)]
 pub struct Probe {
     pub below: usize,
     pub overlapping: usize,

@@ -9,7 +9,7 @@ use crate::cell::number_at;
 use crate::seek::seek;
 use crate::{PairAt, Place, SingleAt};
 
-#[derive(Drop)]
+#[derive(Clone, Copy)]
 pub struct Interval {
     pub lower: u32,
     pub upper: u32,

@@ -9,7 +9,7 @@ ghost use Rattle.list.specs.Sense.{Steady, number_or_end};
 use crate::cell::number_at;
 use crate::{END, Place};
 
-#[derive(Drop)]
+#[derive(Clone, Copy)]
 pub struct Sense {
     pub inside: bool,
     pub until: u32,

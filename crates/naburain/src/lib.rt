@@ -1,4 +1,6 @@
 // The calls for C programs (Reference 8): numbers and slices in, a struct of numbers out by value, so that a refused call writes nothing anywhere.
+#![tactic(auto)]
+
 ghost use Rattle.std.specs.Prelude.{◌≡◌};
 ghost use Rattle.index.specs.Check.{check_of};
 ghost use Rattle.directory.specs.Entry.{lookup_of, probe_of};
@@ -15,14 +17,14 @@ use pair::Holder;
 use refusal::{number_of, value_of};
 
 #[repr(C)]
-#[derive(Drop)]
+#[derive(Clone, Copy)]
 pub struct CheckedResult {
     pub refusal: u64,
     pub value: u64,
 }
 
 #[repr(C)]
-#[derive(Drop)]
+#[derive(Clone, Copy)]
 pub struct FoundResult {
     pub refusal: u64,
     pub value: u64,
@@ -30,7 +32,7 @@ pub struct FoundResult {
 }
 
 #[repr(C)]
-#[derive(Drop)]
+#[derive(Clone, Copy)]
 pub struct PartResult {
     pub refusal: u64,
     pub value: u64,
@@ -39,7 +41,7 @@ pub struct PartResult {
 }
 
 #[repr(C)]
-#[derive(Drop)]
+#[derive(Clone, Copy)]
 pub struct PairPartResult {
     pub refusal: u64,
     pub value: u64,
@@ -49,7 +51,7 @@ pub struct PairPartResult {
 }
 
 #[repr(C)]
-#[derive(Drop)]
+#[derive(Clone, Copy)]
 pub struct ProbedResult {
     pub refusal: u64,
     pub value: u64,
@@ -58,7 +60,7 @@ pub struct ProbedResult {
 }
 
 #[repr(C)]
-#[derive(Drop)]
+#[derive(Clone, Copy)]
 pub struct WrittenResult {
     pub refusal: u64,
     pub value: u64,
@@ -66,7 +68,7 @@ pub struct WrittenResult {
 }
 
 #[repr(C)]
-#[derive(Drop)]
+#[derive(Clone, Copy)]
 pub struct AnsweredResult {
     pub refusal: u64,
     pub value: u64,

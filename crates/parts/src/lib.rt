@@ -1,4 +1,6 @@
 // Parts of bytes, each of which ends before a byte b: the lines of an input, the fields of a line, the words that are lent to a build.
+#![tactic(auto)]
+
 ghost use Rattle.std.specs.Prelude.{◌≡◌, ◌+◌, ◌≤◌, max, length, drop};
 ghost use Rattle.parts.specs.Part.{part_length};
 

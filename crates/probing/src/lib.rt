@@ -1,4 +1,6 @@
 // Reference 3.3: the method of probing; each interval of the shortest list is cut down to what stands in every other list.
+#![tactic(auto)]
+
 ghost use Rattle.std.specs.Prelude.{◌≡◌, true, cond, ◌+◌, ◌*◌, ◌≤◌, ◌<◌, length, get_or};
 ghost use Rattle.limits.specs.Limits.{record_max};
 ghost use Rattle.list.specs.Ginix.{intersection_of};
@@ -95,7 +97,7 @@ fn probe(index: &[u8], entries: &[u32], j: usize, x: u32, b: u32, hints: &mut [u
 }
 
 // A piece of the intersection, and whether it is open: then the numbers from `lower` on are in.
-#[derive(Drop)]
+#[derive(Clone, Copy)]
 pub struct Piece {
     pub open: bool,
     pub lower: u32,

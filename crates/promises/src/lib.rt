@@ -1,1 +1,2 @@
 // No code: what the promises of the public calls leave no doubt about.
+#![tactic(auto)]

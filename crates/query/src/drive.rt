@@ -32,7 +32,7 @@ use window::steps::{Done, put_flips, put_turn, take_jump};
 use window::tuning::{FAR, LEAST, MOST};
 
 // What a pass is asked.
-#[derive(Drop)]
+#[derive(Clone, Copy)]
 pub struct Pass {
     // the last record
     pub n: u32,
@@ -43,7 +43,7 @@ pub struct Pass {
 }
 
 // Where the driver stands.
-#[derive(Drop)]
+#[derive(Clone, Copy)]
 pub struct At {
     // the next record
     pub x: u32,

@@ -1,4 +1,6 @@
 // Reference 6: questions, their tokens, the rules, the readers, and the refusals 22 and 6 to 11.
+#![tactic(auto)]
+
 ghost use Rattle.std.specs.Prelude.{◌≡◌};
 ghost use Rattle.question.specs.Reading.{verdict_of};
 ghost use Rattle.question.specs.Readers.{ReadsAnyRule};

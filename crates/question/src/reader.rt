@@ -13,14 +13,14 @@ use limits::{BRACKETS_MAX, QUESTION_WORDS_MAX};
 use refusal::Refusal;
 
 // Reference 6.4: accepted, with the number of words, each as often as it stands there; or refused.
-#[derive(Drop)]
+#[derive(Clone, Copy)]
 pub enum Verdict {
     Accepted(usize),
     Refused(Refusal),
 }
 
 // The place behind what was read, and the words read so far; or why not.
-#[derive(Drop)]
+#[derive(Clone, Copy)]
 pub enum Read {
     At(usize, usize),
     Bad(Refusal),

@@ -5,7 +5,7 @@ ghost use Rattle.question.specs.Next.{NextToken, IsRun, start_of, end_of};
 
 use word::Operator;
 
-#[derive(Drop)]
+#[derive(Clone, Copy)]
 pub enum Op {
     And,
     Or,
@@ -13,7 +13,7 @@ pub enum Op {
 }
 
 // A token with its start, and with the place behind it where it may be longer than one byte; the end, with the length.
-#[derive(Drop)]
+#[derive(Clone, Copy)]
 pub enum Token {
     End(usize),
     Word(usize, usize),

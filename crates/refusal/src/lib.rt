@@ -1,8 +1,10 @@
 // The numbered refusals: which rule failed first, and where. Every call of every crate above refuses with one of these.
+#![tactic(auto)]
+
 ghost use Rattle.std.specs.Prelude.{◌≡◌};
 ghost use Rattle.refusal.specs.Refusal.{number_of, value_of};
 
-#[derive(Drop)]
+#[derive(Clone, Copy)]
 pub enum Refusal {
     IndexLength(usize),
     IndexEdition(u32),
@@ -30,7 +32,7 @@ pub enum Refusal {
 }
 
 // What a search for the first place of a fault finds.
-#[derive(Drop)]
+#[derive(Clone, Copy)]
 pub enum Found {
     At(usize),
     Nowhere,

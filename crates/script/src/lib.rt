@@ -1,4 +1,5 @@
 // The lines of a script of cases: which are calls, their fields, and the numbers, texts and bytes that they say.
+#![tactic(auto)]
 
 pub mod lay;
 pub mod number;

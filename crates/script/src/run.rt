@@ -7,7 +7,7 @@ use check::same;
 use parts::part_end;
 
 // A line that was begun: where it ends, how many bytes are laid from then on, and whether it is a call.
-#[derive(Drop)]
+#[derive(Clone, Copy)]
 pub struct Begun {
     pub end: usize,
     pub size: usize,

@@ -5,7 +5,7 @@ ghost use Rattle.script.specs.Text.{plain, nibble, text_of, Spells};
 ghost use Rattle.script.specs.Reads.{Lays};
 
 // A byte of a text, and where the next one is spelled.
-#[derive(Drop)]
+#[derive(Clone, Copy)]
 struct Spelled {
     byte: u8,
     next: usize,

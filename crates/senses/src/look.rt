@@ -13,7 +13,7 @@ use list::sense::Sense;
 use slots::row::sense_of;
 
 // The code and the slot behind what was looked at, and its sense.
-#[derive(Drop)]
+#[derive(Clone, Copy)]
 pub struct Look {
     pub code: usize,
     pub slot: usize,

@@ -15,7 +15,7 @@ use directory::parts::{Regions, regions_of};
 use question::token::{Token, next_token, token_end};
 
 // How many codes were written, and how many slots were filled.
-#[derive(Drop)]
+#[derive(Clone, Copy)]
 pub struct Compiled {
     pub codes: usize,
     pub slots: usize,

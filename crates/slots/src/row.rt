@@ -35,7 +35,7 @@ const HINTS: usize = 32;
 pub const ROW: usize = RANGES + QUESTION_WORDS_MAX + 2 * HINTS;
 
 // A range of entries of an index: the first, how many there are, and the regions of the first one's list, so that its entry is not read again.
-#[derive(Drop)]
+#[derive(Clone, Copy)]
 pub struct Entries {
     pub first: usize,
     pub count: usize,

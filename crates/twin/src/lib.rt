@@ -1,6 +1,8 @@
 // Reference 3.3: the twin heap. Of the intervals that are next, one in each list, the least upper bound and the largest lower bound
 // say where all overlap. The upper bounds stand in a min-heap, the lower bounds in a max-heap. Where a list moves on, its new lower bound is
 // larger than the one it leaves behind, which is therefore never the largest again: it stays until the max-heap is full and is filled anew.
+#![tactic(auto)]
+
 ghost use Rattle.std.specs.Prelude.{◌≡◌, ◌*◌, ◌≤◌, ◌<◌, leb, length};
 ghost use Rattle.limits.specs.Limits.{join_max, record_max};
 ghost use Rattle.list.specs.Ginix.{intersection_of};

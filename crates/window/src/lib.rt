@@ -1,4 +1,5 @@
 // Sets of records by windows: 8,192 records at a time, as bits in words of 64.
+#![tactic(auto)]
 
 pub mod fill;
 pub mod flips;

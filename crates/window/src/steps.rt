@@ -8,7 +8,7 @@ ghost use Rattle.window.specs.Steps.{RoomFor, PutCells, Jumps};
 use crate::flips::{count_flips, write_flips};
 
 // How far an answer has come: its cells, and the records that they name.
-#[derive(Drop)]
+#[derive(Clone, Copy)]
 pub struct Done {
     pub cells: usize,
     pub records: usize,

@@ -1,4 +1,6 @@
 // Words: their bytes, their order, and the three that are operators. Reference 2.
+#![tactic(auto)]
+
 ghost use Rattle.std.specs.Prelude.{◌≡◌, cond, min, ltb};
 ghost use Rattle.word.specs.Word.{
   is_word_byte,
@@ -14,7 +16,7 @@ ghost use Rattle.word.specs.declared.Order.TheVariants.{Before, Behind};
 use limits::WORD_MAX;
 
 // Which of the operators some word bytes are, if any.
-#[derive(Drop)]
+#[derive(Clone, Copy)]
 pub enum Operator {
     And,
     Or,
@@ -23,7 +25,7 @@ pub enum Operator {
 }
 
 // How one word stands to another.
-#[derive(Drop)]
+#[derive(Clone, Copy)]
 pub enum Order {
     Before,
     Same,
