@@ -7,8 +7,7 @@
  * A refused call writes nothing. A call that answers writes from the start of the slice lent to it exactly what it reports, and leaves
  * the rest of that slice as it was.
  *
- * Every call that takes an index checks all of it first: 1, 2, 3, 4, 5 in this order, and the first that holds is returned. A call over a pair, a
- * main index and one of arrivals, checks the main one so, and then all of the arrivals: what these are refused by, 1 to 5, is the value of 24.
+ * Every call that takes an index checks all of it first: 1, 2, 3, 4, 5 in this order, and the first that holds is returned.
  *
  * What the caller owes: a slice of length k has k readable elements (writable, where it is lent to be written), aligned for their type; a slice
  * that is written overlaps no other; nobody changes a slice while the call runs; there are 48 KiB of stack. With length 0 the pointer is not followed,
@@ -58,7 +57,6 @@ extern "C" {
 #define NABURAIN_PROBE 20          /* no range to probe: 0 */
 #define NABURAIN_NO_WORD 21        /* no entry has the word looked up: the number of the entry that it would be */
 #define NABURAIN_RULE 22           /* another rule than 1 or 2: its number */
-#define NABURAIN_ARRIVALS 24       /* the arrivals index is not sound: the number of its own refusal, 1 to 5 */
 
 struct naburain_checked {
     uint64_t refusal;
@@ -74,14 +72,6 @@ struct naburain_found {
 struct naburain_part {
     uint64_t refusal;
     uint64_t value;
-    uint64_t start;
-    uint64_t length;
-};
-
-struct naburain_pair_part {
-    uint64_t refusal;
-    uint64_t value;
-    uint64_t arrivals;
     uint64_t start;
     uint64_t length;
 };
@@ -148,19 +138,6 @@ struct naburain_answered naburain_intersection_probing(const uint8_t *index, siz
  * rule, then 12. */
 struct naburain_answered naburain_ask(const uint8_t *index, size_t index_length, uint32_t rule, const uint8_t *question, size_t question_length,
                                       uint32_t *cells, size_t cells_length);
-
-/* Reference 8.11. The same over a main index and one of arrivals: a word is in the records that it has in either. Record numbers are common to both,
- * their N may differ, and the same bytes may be lent as both.
- * Refusals 1 to 5 of the main index, 24, 22, then those of a question as above. */
-struct naburain_answered naburain_pair_ask(const uint8_t *main, size_t main_length, const uint8_t *arrivals, size_t arrivals_length,
-                                           uint32_t rule, const uint8_t *question, size_t question_length, uint32_t *cells,
-                                           size_t cells_length);
-
-/* Reference 8.12. A word of a pair, as a part of the index that holds it, the main one if both do: `length` bytes from byte `start` of the main
- * index where `arrivals` is 0, and of the arrivals index where it is 1. Any bytes may be looked up, none too.
- * Refusals 1 to 5 of the main index, 24, then 21 where neither has them: `value` is then as for a lookup in the main index. */
-struct naburain_pair_part naburain_pair_word(const uint8_t *main, size_t main_length, const uint8_t *arrivals, size_t arrivals_length,
-                                             const uint8_t *word, size_t word_length);
 
 /* Reference 8.7. Ascending record numbers as the intervals that name them, two cells each, l then u; `written` counts intervals.
  * Refusals 15 with the limit NABURAIN_RECORD_MAX, then 12 where cells_length / 2 is below the number of intervals. */

@@ -1,7 +1,6 @@
-// A question over an index, or over a pair.
+// A question over an index.
 ghost use Rattle.std.specs.Prelude.{◌≡◌, length};
 
-use check::same;
 use list::answer::Answer;
 use script::number::{number32, within};
 use script::part::field;
@@ -71,34 +70,17 @@ fn fresh_cells() -> [u32; 2048]
     [BEFORE; 2048]
 }
 
-// `ask` is of the main index alone.
-fn answer_by<'a>(
-    kind: &[u8],
-    main: &'a [u8],
-    arrivals: &'a [u8],
-    rule: u32,
-    question: &[u8],
-    cells: &mut [u32],
-) -> Answer {
-    if same(kind, b"ask") {
-        query::ask::ask(main, rule, question, cells)
-    } else {
-        query::ask::ask_pair(main, arrivals, rule, question, cells)
-    }
-}
-
 // Lends as many of the cells as the line says.
-fn ask_in<'a>(line: &[u8], main: &'a [u8], arrivals: &'a [u8], cells: &mut [u32]) {
+fn ask_in(line: &[u8], index: &[u8], cells: &mut [u32]) {
     let mut question = [0u8; 512];
     let n = read_text(field(line, 4), &mut question);
     let room = within(field(line, 3), cells.len());
     let rule = number32(field(line, 2));
-    let lent = &mut cells[..room];
-    let answer = answer_by(field(line, 0), main, arrivals, rule, &question[..n], lent);
+    let answer = query::ask::ask(index, rule, &question[..n], &mut cells[..room]);
     print_answer(answer, cells);
 }
 
-pub fn ask<'a>(line: &[u8], main: &'a [u8], arrivals: &'a [u8]) {
+pub fn ask(line: &[u8], index: &[u8]) {
     let mut cells = fresh_cells();
-    ask_in(line, main, arrivals, &mut cells);
+    ask_in(line, index, &mut cells);
 }

@@ -13,13 +13,9 @@ use Rattle.directory.specs.declared.Lookup.{Lookup}
 use Rattle.directory.specs.declared.Lookup.TheVariants.{Entry, NoEntry}
 use Rattle.directory.specs.declared.Probed.{Probed}
 use Rattle.directory.specs.declared.Probed.TheVariants.{Counted, NoCount}
-use Rattle.pair.specs.declared.Holder.{Holder}
-use Rattle.pair.specs.declared.Holder.TheVariants.{InMain, InArrivals, InNeither}
-use Rattle.pair.specs.Holder.{holder_of}
 use Rattle.naburain.specs.declared.CheckedResult.{CheckedResult}
 use Rattle.naburain.specs.declared.FoundResult.{FoundResult}
 use Rattle.naburain.specs.declared.PartResult.{PartResult}
-use Rattle.naburain.specs.declared.PairPartResult.{PairPartResult}
 use Rattle.naburain.specs.declared.ProbedResult.{ProbedResult}
 use Rattle.naburain.specs.declared.WrittenResult.{WrittenResult}
 use Rattle.naburain.specs.declared.AnsweredResult.{AnsweredResult}
@@ -42,18 +38,6 @@ word_result (checked.Refused r) start length = record { refusal = number_of r; v
 abbrev pub part_result : List ℕ → ℕ → PartResult
 part_result index i = word_result (entry_check index i) (word_start index i) (word_length index i)
 
--- Reference 8.12: the place of an entry's word, in the main index or in the arrivals
-abbrev pub entry_part : ℕ → List ℕ → ℕ → PairPartResult
-entry_part arrivals index i = record { refusal = 0; value = 0; arrivals = arrivals; start = word_start index i; length = word_length index i }
-
-abbrev pub holder_result : List ℕ → List ℕ → Holder → PairPartResult
-holder_result main arrivals (InMain i) = entry_part 0 main i
-holder_result main arrivals (InArrivals i) = entry_part 1 arrivals i
-holder_result main arrivals (InNeither r) = record { refusal = number_of r; value = value_of r; arrivals = 0; start = 0; length = 0 }
-
-abbrev pub pair_part_result : List ℕ → List ℕ → List ℕ → PairPartResult
-pair_part_result main arrivals word = holder_result main arrivals (holder_of main arrivals word)
-
 -- Reference 8.4
 abbrev pub probe_result : Probed → ProbedResult
 probe_result (Counted p) = record { refusal = 0; value = 0; below = p.below; overlapping = p.overlapping }
@@ -64,7 +48,7 @@ abbrev pub write_result : Written → WrittenResult
 write_result (written.Wrote n) = record { refusal = 0; value = 0; written = n }
 write_result (written.Refused r) = record { refusal = number_of r; value = value_of r; written = 0 }
 
--- Reference 8.5, 8.6 and 8.11
+-- Reference 8.5 and 8.6
 abbrev pub answer_result : Answer → AnsweredResult
 answer_result (answer.Listed t) = record { refusal = 0; value = 0; intervals = t.intervals; records = t.records }
 answer_result (answer.Refused r) = record { refusal = number_of r; value = value_of r; intervals = 0; records = 0 }

@@ -4,16 +4,14 @@
 ghost use Rattle.std.specs.Prelude.{◌≡◌};
 ghost use Rattle.index.specs.Check.{check_of};
 ghost use Rattle.directory.specs.Entry.{lookup_of, probe_of};
-ghost use Rattle.directory.specs.Regions.{EntryIn};
-ghost use Rattle.naburain.specs.Result.{check_result, lookup_result, part_result, entry_part, pair_part_result, probe_result, write_result, answer_result};
+ghost use Rattle.naburain.specs.Result.{check_result, lookup_result, part_result, probe_result, write_result, answer_result};
 ghost use Rattle.list.specs.Ginix.{union_of, intersection_of};
-ghost use Rattle.naburain.specs.Exported.{IntervalsExported, NumbersExported, JoinExported, AskExported, PairAskExported, BuildExported};
+ghost use Rattle.naburain.specs.Exported.{IntervalsExported, NumbersExported, JoinExported, AskExported, BuildExported};
 
 use directory::{Lookup, Probed};
 use index::Checked;
 use list::Written;
 use list::answer::Answer;
-use pair::Holder;
 use refusal::{number_of, value_of};
 
 #[repr(C)]
@@ -36,16 +34,6 @@ pub struct FoundResult {
 pub struct PartResult {
     pub refusal: u64,
     pub value: u64,
-    pub start: u64,
-    pub length: u64,
-}
-
-#[repr(C)]
-#[derive(Clone, Copy)]
-pub struct PairPartResult {
-    pub refusal: u64,
-    pub value: u64,
-    pub arrivals: u64,
     pub start: u64,
     pub length: u64,
 }
@@ -160,21 +148,6 @@ fn answer_result(answer: Answer) -> AnsweredResult
             intervals: 0,
             records: 0,
         },
-    }
-}
-
-// Where the word of an entry stands, in the main index where `arrivals` is 0.
-fn entry_part(arrivals: u64, index: &[u8], i: usize) -> PairPartResult
-    requires { EntryIn index.now i }
-    ensures { result ≡ entry_part arrivals index.now i }
-{
-    let found = directory::parts::sound_entry(index, i);
-    PairPartResult {
-        refusal: 0,
-        value: 0,
-        arrivals,
-        start: found.word_start as u64,
-        length: found.word_length as u64,
     }
 }
 
@@ -301,38 +274,6 @@ pub extern "C" fn naburain_ask(
     ensures { AskExported rule index.now question.now cells.old cells.new result }
 {
     answer_result(query::ask::ask(index, rule, question, cells))
-}
-
-// Reference 8.11: refusals 1 to 5 of the main index, 24, 22, 6, 7, 8, 9 to 11, 12.
-#[unsafe(no_mangle)]
-pub extern "C" fn naburain_pair_ask(
-    main: &[u8],
-    arrivals: &[u8],
-    rule: u32,
-    question: &[u8],
-    cells: &mut [u32],
-) -> AnsweredResult
-    ensures { PairAskExported rule main.now arrivals.now question.now cells.old cells.new result }
-{
-    answer_result(query::ask::ask_pair(main, arrivals, rule, question, cells))
-}
-
-// Reference 8.12: which index of a pair has a word, and where it stands there; refusals 1 to 5 of the main index, 24, 21.
-#[unsafe(no_mangle)]
-pub extern "C" fn naburain_pair_word(main: &[u8], arrivals: &[u8], word: &[u8]) -> PairPartResult
-    ensures { result ≡ pair_part_result main.now arrivals.now word.now }
-{
-    match pair::word::find_holder(main, arrivals, word) {
-        Holder::InMain(i) => entry_part(0, main, i),
-        Holder::InArrivals(i) => entry_part(1, arrivals, i),
-        Holder::InNeither(refusal) => PairPartResult {
-            refusal: number_of(refusal),
-            value: value_of(refusal),
-            arrivals: 0,
-            start: 0,
-            length: 0,
-        },
-    }
 }
 
 // Reference 8.9: refusals 19 with 0, 17, 18, 15, 19 with 1, 12.

@@ -11,7 +11,7 @@ use Rattle.word.specs.declared.Operator.TheVariants.{Neither}
 use Rattle.question.specs.Token.{run_tok, flush, run, gather, tokens_at, tokens}
 use Rattle.question.specs.Limits.{token_words}
 use Rattle.question.proofs.OperatorLaws.{tokens-hold}
-use Rattle.promises.specs.Wrong.{first_entry, first_of, first_word, first_pair_word, first_built}
+use Rattle.promises.specs.Wrong.{first_entry, first_of, first_word, first_built}
 
 take_twice : (n : ℕ) (xs : List ℕ) → take n (take n xs) ≡ take n xs
 take_twice zero xs = refl
@@ -50,9 +50,6 @@ first-of-tokens =
 
 pub first-word-twice : (a : List ℕ × ℕ × List ℕ) → first_word (first_word a) ≡ first_word a
 first-word-twice a = ap (λ (q : List ℕ). (a.0, a.1, q)) (first-of-tokens a.2)
-
-pub first-pair-word-twice : (a : List ℕ × List ℕ × ℕ × List ℕ) → first_pair_word (first_pair_word a) ≡ first_pair_word a
-first-pair-word-twice a = ap (λ (q : List ℕ). (a.0, a.1, a.2, q)) (first-of-tokens a.3)
 
 -- ---- a build
 

@@ -12,7 +12,6 @@ pub mod FirstLaws
 pub mod WrongConversions
 pub mod WrongReturns
 pub mod WrongAsk
-pub mod WrongPair
 pub mod WrongJoins
 pub mod WrongBuild
 pub mod Ways

@@ -14,8 +14,6 @@ use Rattle.list.specs.declared.Written.{Written}
 use Rattle.list.specs.declared.Written.TheVariants as written
 use Rattle.list.specs.declared.answer.Answer.{Answer}
 use Rattle.list.specs.declared.answer.Answer.TheVariants as answer
-use Rattle.index.specs.declared.Checked.{Checked}
-use Rattle.index.specs.declared.Checked.TheVariants as checked
 use Rattle.directory.specs.declared.Lookup.{Lookup}
 use Rattle.directory.specs.declared.Lookup.TheVariants.{Entry, NoEntry}
 use Rattle.directory.specs.declared.Probed.{Probed}
@@ -23,10 +21,9 @@ use Rattle.directory.specs.declared.Probed.TheVariants.{Counted, NoCount}
 use Rattle.promises.specs.Numbers.{carries, RowRight}
 use Rattle.promises.specs.Wrong.{Writer, Promise, Meets, Equals, Fails, FailsToBe, Accepts, Refusing, RefusingAll, Fixed, Silent, FirstOnly}
 use Rattle.promises.specs.Wrong.{Inventing, InventingAll, Misreporting, intervals_in, records_in, value_by, needed_in, written_in, needed_by}
-use Rattle.promises.specs.Wrong.{place_in, checked_place_in, below_in, overlapping_in}
+use Rattle.promises.specs.Wrong.{place_in, below_in, overlapping_in}
 use Rattle.promises.specs.Made.{leaving, returning, with_intervals, with_records, with_value, with_needed, with_written, with_needed_by, WrongWays}
-use Rattle.promises.specs.Made.{WrongFirst, WrongCounts, WrongWritten, with_place, with_checked_place, with_below, with_overlapping, WrongRefusal, WrongPlace}
-use Rattle.promises.specs.Made.{WrongProbe}
+use Rattle.promises.specs.Made.{WrongFirst, WrongCounts, WrongWritten, with_place, with_below, with_overlapping, WrongRefusal, WrongPlace, WrongProbe}
 
 -- ---- what `Meets` and `Fails` say: some implementation meets a promise, and then not all fail it
 
@@ -136,10 +133,6 @@ one_place : (n : ℕ) (r : Lookup) (m : ℕ) → place_in (with_place n r) ≡ s
 one_place n (Entry i) m e = untold m e
 one_place n (NoEntry r) m e = one_value 21 NoWord (λ v. (refl, refl)) n r m e
 
-one-checked-place : (n : ℕ) (r : Checked) (m : ℕ) → checked_place_in (with_checked_place n r) ≡ some m → m ≡ n
-one-checked-place n checked.Good m e = untold m e
-one-checked-place n (checked.Refused r) m e = one_value 21 NoWord (λ v. (refl, refl)) n r m e
-
 one_below : (n : ℕ) (r : Probed) (m : ℕ) → below_in (with_below n r) ≡ some m → m ≡ n
 one_below n (Counted p) m e = sym (some_is n m e)
 one_below n (NoCount r) m e = untold m e
@@ -187,11 +180,8 @@ wrong-written f count room =
 pub wrong-refusal : {A R : Type 0} (value : A → R) (refused : R → Bool) → FailsToBe value (RefusingAll refused) → WrongRefusal value refused
 wrong-refusal value refused fails refusal e = fails refusal (refusing-all-kind refused refusal e)
 
-pub wrong-place : {A : Type 0} (value : A → Lookup) → FailsToBe value (InventingAll place_in) → WrongPlace with_place value
+pub wrong-place : {A : Type 0} (value : A → Lookup) → FailsToBe value (InventingAll place_in) → WrongPlace value
 wrong-place value place n = place (λ a. with_place n (value a)) (inventing-all-kind value place_in with_place one_place n)
-
-pub wrong-checked-place : {A : Type 0} (value : A → Checked) → FailsToBe value (InventingAll checked_place_in) → WrongPlace with_checked_place value
-wrong-checked-place value place n = place (λ a. with_checked_place n (value a)) (inventing-all-kind value checked_place_in with_checked_place one-checked-place n)
 
 pub wrong-probe : {A : Type 0} (value : A → Probed) → FailsToBe value (InventingAll below_in) → FailsToBe value (InventingAll overlapping_in) → WrongProbe value
 wrong-probe value below overlapping =

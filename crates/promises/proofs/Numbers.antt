@@ -1,18 +1,18 @@
 -- The table of refusals, by computing.
 use mathlib.Core.Path.{◌≡◌, refl, sym, ap, ◌∙◌}
-use Prim.Native.Nat.{ℕ}
+use Prim.Native.Nat.{ℕ, ◌-◌}
 use native.Mathlib.Omega.{arith}
 use mathlib.Core.List.{List, [], ◌∷◌, ◌++◌}
-use lib.ListN.{length}
+use lib.ListN.{length, get_or}
 use Rattle.refusal.specs.declared.Refusal.{Refusal}
 use Rattle.refusal.specs.declared.Refusal.TheVariants.{IndexLength, IndexEdition, IndexTrailer, IndexEntry, IndexList, QuestionLength, QuestionByte}
 use Rattle.refusal.specs.declared.Refusal.TheVariants.{QuestionWord, Grammar, Words, Brackets, Room, Lists, EntryNumber, Number, Interval, BuildWord}
-use Rattle.refusal.specs.declared.Refusal.TheVariants.{BuildCount, BuildSize, ProbeRange, NoWord, RuleNumber, Arrivals}
+use Rattle.refusal.specs.declared.Refusal.TheVariants.{BuildCount, BuildSize, ProbeRange, NoWord, RuleNumber}
 use Rattle.refusal.specs.Refusal.{number_of, value_of}
 use Rattle.promises.proofs.Rows.{◌&◌}
-use Rattle.promises.specs.Numbers.{Numbered, carries, zeroed, refusals, row_numbers, RowRight, RowsRight, row_of, made, AllNumbered}
+use Rattle.promises.specs.Numbers.{Numbered, carries, zeroed, refusals, row_numbers, RowRight, RowsRight, made, AllNumbered}
 
-given_back : (r : Refusal) → made (row_of refusals (number_of r)) (value_of r) ≡ r
+given_back : (r : Refusal) → made (get_or refusals (number_of r - 1) (zeroed 0 ProbeRange)) (value_of r) ≡ r
 given_back (IndexLength v) = refl
 given_back (IndexEdition v) = refl
 given_back IndexTrailer = refl
@@ -35,7 +35,6 @@ given_back (BuildSize v) = refl
 given_back ProbeRange = refl
 given_back (NoWord v) = refl
 given_back (RuleNumber v) = refl
-given_back (Arrivals v) = refl
 
 rows_right : RowsRight refusals
 rows_right =
@@ -61,7 +60,6 @@ rows_right =
     & (refl, refl)
     & (λ v. (refl, refl))
     & (λ v. (refl, refl))
-    & (λ v. (refl, refl))
     & tt
 
 pub refusals-numbered : AllNumbered refusals
@@ -76,12 +74,13 @@ refusals-numbered = record {
 -- two refusals with one number and one value are one
 pub numbers-tell : (rows : List Numbered) → AllNumbered rows → (r s : Refusal) → number_of r ≡ number_of s → value_of r ≡ value_of s → r ≡ s
 numbers-tell rows all r s e f =
-    sym (all.complete r) ∙ ap (λ n. made (row_of rows n) (value_of r)) e ∙ ap (λ v. made (row_of rows (number_of s)) v) f ∙ all.complete s
+    sym (all.complete r) ∙ ap (λ n. made (get_or rows (n - 1) (zeroed 0 ProbeRange)) (value_of r)) e
+    ∙ ap (λ v. made (get_or rows (number_of s - 1) (zeroed 0 ProbeRange)) v) f ∙ all.complete s
 
 pub refusals-tell : (r s : Refusal) → number_of r ≡ number_of s → value_of r ≡ value_of s → r ≡ s
 refusals-tell = numbers-tell refusals refusals-numbered
 
-pub numbers-many : (rows : List Numbered) → AllNumbered rows → length (row_numbers rows) ≡ 23
+pub numbers-many : (rows : List Numbered) → AllNumbered rows → length (row_numbers rows) ≡ 22
 numbers-many rows all = ap length all.ordered
 
 -- ---- a row with another number or another value is wrong, and so are rows with one such

@@ -16,9 +16,9 @@ use Rattle.question.specs.Limits.{token_words}
 use Rattle.promises.specs.Example.{boats, tide, or'}
 use Rattle.promises.specs.Table.{tallied}
 use Rattle.promises.specs.Wrong.{written_refused, answer_refused, check_refused, lookup_refused, word_refused, probe_refused, verdict_refused}
-use Rattle.promises.specs.Wrong.{first_entry, first_word, first_pair_word, main_alone, arrivals_alone, first_built, checked_place_in, intervals_in, records_in, needed_in, written_in, needed_by, place_in, below_in}
+use Rattle.promises.specs.Wrong.{first_entry, first_word, first_built, intervals_in, records_in, needed_in, written_in, needed_by, place_in, below_in}
 use Rattle.promises.specs.Wrong.{overlapping_in}
-use Rattle.promises.specs.Made.{with_intervals, with_records, with_needed, with_written, with_needed_by, with_place, with_checked_place, with_below, with_overlapping}
+use Rattle.promises.specs.Made.{with_intervals, with_records, with_needed, with_written, with_needed_by, with_place, with_below, with_overlapping}
 use Rattle.promises.proofs.WrongReturns.{counted}
 
 -- nothing written, listed or counted is an answer too, and so is entry 0
@@ -53,14 +53,6 @@ pub first-words :
 unfolding is_word_byte same small_letter small_operator_of operator_of gather tokens_at tokens token_words
 first-words = (refl, refl, refl, refl, refl, refl)
 
--- the same over a pair, and one index of it
-pub first-of-pairs :
-    (first_pair_word (tide, boats, 1, 40 ∷ boats ++ 41 ∷ or' ++ tide) ≡ (tide, boats, 1, boats))
-    × (main_alone (tide, boats, 2, or') ≡ (tide, tide, 2, or'))
-    × (arrivals_alone (tide, boats, 2, or') ≡ (boats, boats, 2, or'))
-unfolding is_word_byte same small_letter small_operator_of operator_of gather tokens_at tokens token_words
-first-of-pairs = (refl, refl, refl)
-
 pub first-entries : (first_entry (boats, 3 ∷ 0 ∷ 1 ∷ []) ≡ (boats, 3 ∷ [])) × (first_entry (boats, []) ≡ (boats, []))
 first-entries = (refl, refl)
 
@@ -93,12 +85,6 @@ pub places-told :
     × (place_in (NoEntry (Room 5)) ≡ none)
 places-told = (refl, refl, refl)
 
-pub checked-places-told :
-    (checked_place_in checked.Good ≡ none)
-    × (checked_place_in (checked.Refused (NoWord 5)) ≡ some 5)
-    × (checked_place_in (checked.Refused (Room 5)) ≡ none)
-checked-places-told = (refl, refl, refl)
-
 pub probes-told :
     (below_in (counted 1 2) ≡ some 1)
     × (overlapping_in (counted 1 2) ≡ some 2)
@@ -130,12 +116,6 @@ pub others-placed :
     × (with_place 7 (NoEntry (NoWord 5)) ≡ NoEntry (NoWord 7))
     × (with_place 7 (NoEntry (Room 5)) ≡ NoEntry (Room 5))
 others-placed = (refl, refl, refl)
-
-pub others-checked :
-    (with_checked_place 7 checked.Good ≡ checked.Good)
-    × (with_checked_place 7 (checked.Refused (NoWord 5)) ≡ checked.Refused (NoWord 7))
-    × (with_checked_place 7 (checked.Refused (Room 5)) ≡ checked.Refused (Room 5))
-others-checked = (refl, refl, refl)
 
 pub others-counted :
     (with_below 7 (counted 1 2) ≡ counted 7 2)

@@ -7,20 +7,18 @@ use Rattle.list.specs.Ginix.{union_of, intersection_of}
 use Rattle.index.specs.Check.{check_of}
 use Rattle.promises.specs.Example.{boats, tide, or', example}
 use Rattle.promises.specs.Table.{lent, tallied, table}
-use Rattle.promises.specs.Wrong.{Meets, Misreporting, to_intervals, to_numbers, joins, asks, pair_asks, builds, lookup, entry, word, pair_entry, pair_word, probe}
-use Rattle.promises.specs.Wrong.{reads, written_refused, first_pair_word, main_alone, arrivals_alone}
+use Rattle.promises.specs.Wrong.{Meets, Misreporting, to_intervals, to_numbers, joins, asks, builds, lookup, entry, word, probe, reads, written_refused}
 use Rattle.promises.specs.Wrong.{answer_refused, check_refused, lookup_refused, part_refused, probe_refused, verdict_refused, first_entry, first_word}
 use Rattle.promises.specs.Wrong.{first_built, intervals_in}
-use Rattle.promises.specs.Made.{right_intervals, right_numbers, right_join, right_ask, right_pair_ask, right_build, returning, with_intervals, WrongWays, WrongFirst}
-use Rattle.promises.specs.Made.{WrongCounts, WrongWritten, with_place, with_checked_place, WrongRefusal, WrongPlace, WrongProbe}
-use Rattle.promises.proofs.Made.{misreporting-kind, some_is, wrong-ways, wrong_first, wrong-counts, wrong-written, wrong-refusal, wrong-place, wrong-checked-place, wrong-probe}
+use Rattle.promises.specs.Made.{right_intervals, right_numbers, right_join, right_ask, right_build, returning, with_intervals, WrongWays, WrongFirst}
+use Rattle.promises.specs.Made.{WrongCounts, WrongWritten, WrongRefusal, WrongPlace, WrongProbe}
+use Rattle.promises.proofs.Made.{misreporting-kind, some_is, wrong-ways, wrong_first, wrong-counts, wrong-written, wrong-refusal, wrong-place, wrong-probe}
 use Rattle.promises.proofs.Table.{table-right}
 use Rattle.promises.proofs.TableLaws.{row-right}
-use Rattle.promises.proofs.FirstLaws.{first-entry-twice, first-word-twice, first-pair-word-twice, first-built-twice}
+use Rattle.promises.proofs.FirstLaws.{first-entry-twice, first-word-twice, first-built-twice}
 use Rattle.promises.proofs.WrongConversions as conversions
 use Rattle.promises.proofs.WrongReturns as returns
 use Rattle.promises.proofs.WrongAsk as ask
-use Rattle.promises.proofs.WrongPair as pair
 use Rattle.promises.proofs.WrongJoins as join
 use Rattle.promises.proofs.WrongBuild as build
 
@@ -99,26 +97,6 @@ ask-misreports =
     answered : (right_ask (example, 1, boats ++ or' ++ tide) lent).0 ≡ tallied 2 5
     answered = sym (row-right table 0 (omega arith) table-right).answer
 
--- ---- a question over a pair
-
-pair-ask-met : Meets pair_asks right_pair_ask
-pair-ask-met a out = record { answer = refl; cells = refl }
-
-pub pair-ask-ways : WrongWays pair_asks answer_refused right_pair_ask
-pair-ask-ways = wrong-ways pair_asks answer_refused right_pair_ask pair-ask-met pair.pair-ask-refusing pair.pair-ask-fixed pair.pair-ask-silent pair.pair-ask-misreporting
-
-pub pair-ask-first-way : WrongFirst pair_asks answer_refused first_pair_word right_pair_ask
-pair-ask-first-way = wrong_first pair_asks answer_refused right_pair_ask first_pair_word first-pair-word-twice pair.pair-ask-first
-
-pub pair-ask-main-way : WrongFirst pair_asks answer_refused main_alone right_pair_ask
-pair-ask-main-way = wrong_first pair_asks answer_refused right_pair_ask main_alone (λ a. refl) pair.pair-ask-main-only
-
-pub pair-ask-arrivals-way : WrongFirst pair_asks answer_refused arrivals_alone right_pair_ask
-pair-ask-arrivals-way = wrong_first pair_asks answer_refused right_pair_ask arrivals_alone (λ a. refl) pair.pair-ask-arrivals-only
-
-pub pair-ask-counts : WrongCounts pair_asks right_pair_ask
-pair-ask-counts = wrong-counts right_pair_ask pair.pair-ask-inventing-intervals pair.pair-ask-inventing-records pair.pair-ask-inventing-room
-
 -- ---- a build
 
 build-met : Meets builds right_build
@@ -141,7 +119,7 @@ check-way = wrong-refusal check_of check_refused returns.check-refusing
 pub lookup-way : WrongRefusal lookup lookup_refused
 lookup-way = wrong-refusal lookup lookup_refused returns.lookup-refusing
 
-pub lookup-place : WrongPlace with_place lookup
+pub lookup-place : WrongPlace lookup
 lookup-place = wrong-place lookup returns.lookup-inventing-place
 
 pub entry-way : WrongRefusal entry check_refused
@@ -149,15 +127,6 @@ entry-way = wrong-refusal entry check_refused returns.entry-refusing
 
 pub word-way : WrongRefusal word part_refused
 word-way = wrong-refusal word part_refused returns.word-refusing
-
-pub pair-entry-way : WrongRefusal pair_entry check_refused
-pair-entry-way = wrong-refusal pair_entry check_refused pair.pair-entry-refusing
-
-pub pair-entry-place : WrongPlace with_checked_place pair_entry
-pair-entry-place = wrong-checked-place pair_entry pair.pair-entry-inventing-place
-
-pub pair-word-way : WrongRefusal pair_word part_refused
-pair-word-way = wrong-refusal pair_word part_refused pair.pair-word-refusing
 
 pub probe-way : WrongRefusal probe probe_refused
 probe-way = wrong-refusal probe probe_refused returns.probe-refusing

@@ -16,19 +16,16 @@ use Rattle.directory.specs.declared.Lookup.{Lookup}
 use Rattle.directory.specs.declared.Lookup.TheVariants.{Entry, NoEntry}
 use Rattle.directory.specs.declared.Probed.{Probed}
 use Rattle.directory.specs.declared.Probed.TheVariants.{Counted, NoCount}
-use Rattle.index.specs.declared.Checked.{Checked}
-use Rattle.index.specs.declared.Checked.TheVariants as checked
 use Rattle.index.specs.Check.{check_of}
 use Rattle.merge.specs.Request.{lists_of}
 use Rattle.join.specs.Join.{request_of, join_outcome}
 use Rattle.question.specs.Reading.{asked}
-use Rattle.pair.specs.Pair.{pair_check}
-use Rattle.source.specs.Source.{satisfying, of_index, of_pair}
+use Rattle.source.specs.Source.{satisfying, of_index}
 use Rattle.source.specs.Ask.{question_outcome}
 use Rattle.build.specs.Build.{index_from, build_outcome}
 use Rattle.promises.specs.Wrong.{Writer, Promise, Meets, Equals}
 
--- ---- right ones: Reference 8.5 to 8.9, and 8.11
+-- ---- right ones: Reference 8.5 to 8.9
 
 abbrev pub right_intervals : Writer (List ℕ) Written
 right_intervals xs out =
@@ -48,11 +45,6 @@ right_join method a out =
 abbrev pub right_ask : Writer (List ℕ × ℕ × List ℕ) Answer
 right_ask a out =
     let o = question_outcome (check_of a.0) (asked a.1 a.2) (satisfying (of_index a.0)) (length out / 2) in
-    (answer_of o, left_by o out)
-
-abbrev pub right_pair_ask : Writer (List ℕ × List ℕ × ℕ × List ℕ) Answer
-right_pair_ask a out =
-    let o = question_outcome (pair_check a.0 a.1) (asked a.2 a.3) (satisfying (of_pair a.0 a.1)) (length out / 2) in
     (answer_of o, left_by o out)
 
 abbrev pub right_build : Writer (ℕ × List ℕ × List ℕ × List ℕ) Written
@@ -117,15 +109,11 @@ pub record WrongWritten {A : Type 0} (promise : Promise A Written) (f : Writer A
   pub written : (n : List ℕ → ℕ) → Meets promise (returning (λ a out. with_written (n out)) f) → ⊥
   pub room : (n : List ℕ → ℕ) → Meets promise (returning (λ a out. with_needed_by (n out)) f) → ⊥
 
--- ---- the same of the calls that write nothing: Reference 8.1 to 8.4, and 8.12
+-- ---- the same of the calls that write nothing: Reference 8.1 to 8.4
 
 abbrev pub with_place : ℕ → Lookup → Lookup
 with_place n (Entry i) = Entry i
 with_place n (NoEntry r) = NoEntry (with_value 21 NoWord n r)
-
-abbrev pub with_checked_place : ℕ → Checked → Checked
-with_checked_place n checked.Good = checked.Good
-with_checked_place n (checked.Refused r) = checked.Refused (with_value 21 NoWord n r)
 
 abbrev pub with_below : ℕ → Probed → Probed
 with_below n (Counted p) = Counted (record { below = n; overlapping = p.overlapping })
@@ -138,9 +126,8 @@ with_overlapping n (NoCount r) = NoCount r
 abbrev pub WrongRefusal : {A R : Type 0} → (A → R) → (R → Bool) → Type 0
 WrongRefusal {A} {R} value refused = (refusal : A → R) → ((a : A) → refused (refusal a) ≡ true) → Equals value refusal → ⊥
 
--- Reference 9.1, row 21: the same place, whatever is missing
-abbrev pub WrongPlace : {A R : Type 0} → (ℕ → R → R) → (A → R) → Type 0
-WrongPlace placed value = (n : ℕ) → Equals value (λ a. placed n (value a)) → ⊥
+abbrev pub WrongPlace : {A : Type 0} → (A → Lookup) → Type 0
+WrongPlace value = (n : ℕ) → Equals value (λ a. with_place n (value a)) → ⊥
 
 pub record WrongProbe {A : Type 0} (value : A → Probed) : Type 0 where
   pub below : (n : ℕ) → Equals value (λ a. with_below n (value a)) → ⊥

@@ -1,9 +1,9 @@
 -- Reference 9.1: the refusals as one table, the number of each, and the value that it carries.
-use Rattle.std.specs.Prelude.{ℕ, ◌≡◌, cond, List, [], ◌∷◌, eqb}
+use Rattle.std.specs.Prelude.{ℕ, ◌-◌, ◌≡◌, List, [], ◌∷◌, get_or}
 use Rattle.refusal.specs.declared.Refusal.{Refusal}
 use Rattle.refusal.specs.declared.Refusal.TheVariants.{IndexLength, IndexEdition, IndexTrailer, IndexEntry, IndexList, QuestionLength, QuestionByte}
 use Rattle.refusal.specs.declared.Refusal.TheVariants.{QuestionWord, Grammar, Words, Brackets, Room, Lists, EntryNumber, Number, Interval, BuildWord}
-use Rattle.refusal.specs.declared.Refusal.TheVariants.{BuildCount, BuildSize, ProbeRange, NoWord, RuleNumber, Arrivals}
+use Rattle.refusal.specs.declared.Refusal.TheVariants.{BuildCount, BuildSize, ProbeRange, NoWord, RuleNumber}
 use Rattle.refusal.specs.Refusal.{number_of, value_of}
 
 -- Reference 9.1: a row, a number with a refusal that carries any value, or with one whose value is 0
@@ -35,7 +35,6 @@ refusals =
     ∷ zeroed 20 ProbeRange
     ∷ carries 21 NoWord
     ∷ carries 22 RuleNumber
-    ∷ carries 24 Arrivals
     ∷ []
 
 -- Reference 9.1: the numbers that the rows give
@@ -52,19 +51,13 @@ abbrev pub RowsRight : List Numbered → Type 0
 RowsRight [] = Unit {0}
 RowsRight (row ∷ rows) = RowRight row × RowsRight rows
 
--- Reference 9.1: the row with a number
-abbrev pub row_of : List Numbered → ℕ → Numbered
-row_of [] n = zeroed 0 ProbeRange
-row_of (carries m refusal ∷ rows) n = cond (eqb m n) (carries m refusal) (row_of rows n)
-row_of (zeroed m refusal ∷ rows) n = cond (eqb m n) (zeroed m refusal) (row_of rows n)
-
 -- Reference 9.1: the refusal that a row gives with a value
 abbrev pub made : Numbered → ℕ → Refusal
 made (carries n refusal) value = refusal value
 made (zeroed n refusal) value = refusal
 
--- Reference 9.1: each row is right, the numbers are 1 to 22 and 24 in their order, and the row with a refusal's number gives it back from its value
+-- Reference 9.1: each row is right, the numbers are 1 to 22 in their order, and the row that a refusal's number names gives it back from its value
 pub record AllNumbered (rows : List Numbered) : Type 0 where
   pub right : RowsRight rows
-  pub ordered : row_numbers rows ≡ 1 ∷ 2 ∷ 3 ∷ 4 ∷ 5 ∷ 6 ∷ 7 ∷ 8 ∷ 9 ∷ 10 ∷ 11 ∷ 12 ∷ 13 ∷ 14 ∷ 15 ∷ 16 ∷ 17 ∷ 18 ∷ 19 ∷ 20 ∷ 21 ∷ 22 ∷ 24 ∷ []
-  pub complete : (r : Refusal) → made (row_of rows (number_of r)) (value_of r) ≡ r
+  pub ordered : row_numbers rows ≡ 1 ∷ 2 ∷ 3 ∷ 4 ∷ 5 ∷ 6 ∷ 7 ∷ 8 ∷ 9 ∷ 10 ∷ 11 ∷ 12 ∷ 13 ∷ 14 ∷ 15 ∷ 16 ∷ 17 ∷ 18 ∷ 19 ∷ 20 ∷ 21 ∷ 22 ∷ []
+  pub complete : (r : Refusal) → made (get_or rows (number_of r - 1) (zeroed 0 ProbeRange)) (value_of r) ≡ r

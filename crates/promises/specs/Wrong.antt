@@ -22,8 +22,7 @@ use Rattle.question.specs.declared.reader.Verdict.TheVariants as reading
 use Rattle.question.specs.Token.{run, tokens}
 use Rattle.question.specs.Reading.{verdict_of}
 use Rattle.question.specs.Limits.{token_words}
-use Rattle.pair.specs.Holder.{word_check, word_part}
-use Rattle.source.specs.Ask.{Asks, PairAsks}
+use Rattle.source.specs.Ask.{Asks}
 use Rattle.build.specs.Build.{Builds}
 
 -- ---- implementations: Reference 7
@@ -66,10 +65,6 @@ joins method a out out' r = Joins method a.0 a.1 out out' r
 abbrev pub asks : Promise (List ℕ × ℕ × List ℕ) Answer
 asks a out out' r = Asks a.1 a.0 a.2 out out' r
 
--- Reference 8.11: a main index and its arrivals, a rule's number, and a question
-abbrev pub pair_asks : Promise (List ℕ × List ℕ × ℕ × List ℕ) Answer
-pair_asks a out out' r = PairAsks a.2 a.0 a.1 a.3 out out' r
-
 -- Reference 8.10: a rule's number, and a question
 abbrev pub reads : ℕ × List ℕ → Verdict
 reads a = verdict_of a.0 a.1
@@ -86,13 +81,6 @@ entry a = entry_check a.0 a.1
 
 abbrev pub word : Slice × ℕ → Slice
 word a = entry_word a.0 a.1
-
--- Reference 8.12: a main index and its arrivals, and a word
-abbrev pub pair_entry : List ℕ × List ℕ × List ℕ → Checked
-pair_entry a = word_check a.0 a.1 a.2
-
-abbrev pub pair_word : Slice × Slice × List ℕ → Slice
-pair_word a = word_part a.0 a.1 a.2
 
 abbrev pub probe : List ℕ × ℕ × ℕ × ℕ → Probed
 probe a = probe_of a.0 a.1 a.2 a.3
@@ -126,9 +114,6 @@ FirstOnly {A} refused first f =
 -- Reference 6.3: one rule for both numbers, so that it does not matter which is asked for
 abbrev pub RuleBlind : {R : Type 0} → Writer (List ℕ × ℕ × List ℕ) R → Type 0
 RuleBlind f = (index question out : List ℕ) → f (index, 1, question) out ≡ f (index, 2, question) out
-
-abbrev pub PairRuleBlind : {R : Type 0} → Writer (List ℕ × List ℕ × ℕ × List ℕ) R → Type 0
-PairRuleBlind f = (main arrivals question out : List ℕ) → f (main, arrivals, 1, question) out ≡ f (main, arrivals, 2, question) out
 
 -- Reference 11: wherever it reports the number, it is the same
 abbrev pub Inventing : {A R : Type 0} → (R → Option ℕ) → Writer A R → Type 0
@@ -193,16 +178,6 @@ first_of (w ∷ ws) = w
 abbrev pub first_word : List ℕ × ℕ × List ℕ → List ℕ × ℕ × List ℕ
 first_word a = (a.0, a.1, first_of (token_words (tokens a.2)))
 
-abbrev pub first_pair_word : List ℕ × List ℕ × ℕ × List ℕ → List ℕ × List ℕ × ℕ × List ℕ
-first_pair_word a = (a.0, a.1, a.2, first_of (token_words (tokens a.3)))
-
--- Reference 8.11: the same of one index of a pair, which is lent as both
-abbrev pub main_alone : List ℕ × List ℕ × ℕ × List ℕ → List ℕ × List ℕ × ℕ × List ℕ
-main_alone a = (a.0, a.0, a.2, a.3)
-
-abbrev pub arrivals_alone : List ℕ × List ℕ × ℕ × List ℕ → List ℕ × List ℕ × ℕ × List ℕ
-arrivals_alone a = (a.1, a.1, a.2, a.3)
-
 -- Reference 8.9: the first word with its byte 10, its count, and its numbers
 abbrev pub first_built : ℕ × List ℕ × List ℕ × List ℕ → ℕ × List ℕ × List ℕ × List ℕ
 first_built a = (a.0, take (run a.1 + 1) a.1, take 1 a.2, take (get_or a.2 0 0) a.3)
@@ -239,11 +214,6 @@ needed_by (written.Refused r) = value_by 12 r
 abbrev pub place_in : Lookup → Option ℕ
 place_in (Entry i) = none
 place_in (NoEntry r) = value_by 21 r
-
--- Reference 8.12: the same of a pair's word
-abbrev pub checked_place_in : Checked → Option ℕ
-checked_place_in checked.Good = none
-checked_place_in (checked.Refused r) = value_by 21 r
 
 -- Reference 3.3: the intervals that lie below a probed range, and those that overlap it
 abbrev pub below_in : Probed → Option ℕ

@@ -21,7 +21,7 @@ use Rattle.question.specs.Reading.{parses, parsed, asked}
 use Rattle.question.proofs.ParsedLaws.{asked-accepts, accepted-within, asked-parsed}
 use Rattle.question.proofs.RuleLaws.{rule-keeps, rule-second, rule-else}
 use Rattle.question.proofs.DepthLaws.{deeper-reads}
-use Rattle.source.specs.Source.{Source, satisfying, of_index, of_pair}
+use Rattle.source.specs.Source.{Source, satisfying, of_index}
 use Rattle.source.proofs.SatisfyLaws.{satisfying-same}
 use Rattle.codes.specs.Code.{codes_of, word_codes}
 use Rattle.codes.specs.Group.{grouped, grouped_brackets}
@@ -88,10 +88,6 @@ halves-source halves main arrivals =
 -- one index, lent as both
 pub alone-halves : (index : List ℕ) → OfHalves 1 index index (of_index index)
 alone-halves index = record { has = λ w x. sym (or-false (has index w x)); last = omega arith }
-
--- a main index and one of arrivals
-pub pair-halves : (main arrivals : List ℕ) → OfHalves 2 main arrivals (of_pair main arrivals)
-pair-halves main arrivals = record { has = λ w x. refl; last = refl }
 
 -- the rule of a number
 module _ {s : Source} {rule : ℕ} {codes : List ℕ} {v : ℕ → ℕ → Bool} {slots : ℕ} {t : Tree} (m : MadeReady s (rule_of rule) codes v slots t) where

@@ -1,9 +1,9 @@
-// The calls that answer a question, over an index or over a pair.
+// The call that answers a question over an index.
 ghost use Rattle.std.specs.Prelude.{◌≡◌, ◌≤◌, length};
 ghost use Rattle.limits.specs.Limits.{question_max};
 ghost use Rattle.index.specs.Sound.{Sound};
 ghost use Rattle.question.specs.Rules.{rule_of};
-ghost use Rattle.source.specs.Ask.{Answers, Asks, PairAsks};
+ghost use Rattle.source.specs.Ask.{Answers, Asks};
 ghost use Rattle.slots.specs.Row.{slots_in};
 ghost use Rattle.slots.specs.Having.{having};
 ghost use Rattle.slots.specs.Bound.{slots_intervals};
@@ -17,7 +17,6 @@ use index::check::check_index;
 use index::trailer::read_trailer;
 use limits::QUESTION_MAX;
 use list::answer::Answer;
-use pair::check::check_pair;
 use question::read_question;
 use question::reader::Verdict;
 use question::rule::AND_FIRST;
@@ -148,22 +147,6 @@ pub fn ask(index: &[u8], rule: u32, question: &[u8], out: &mut [u32]) -> Answer
 {
     match check_index(index) {
         Checked::Good => answer_question(index, rule, question, out),
-        Checked::Refused(refusal) => Answer::Refused(refusal),
-    }
-}
-
-// Reference 8.11: answers a question over any bytes as a main index and one of arrivals; both are checked first.
-pub fn ask_pair<'a>(
-    main: &'a [u8],
-    arrivals: &'a [u8],
-    rule: u32,
-    question: &[u8],
-    out: &mut [u32],
-) -> Answer
-    ensures { PairAsks rule main.now arrivals.now question.now out.old out.new result }
-{
-    match check_pair(main, arrivals) {
-        Checked::Good => answer_halves(main, arrivals, 2, rule, question, out),
         Checked::Refused(refusal) => Answer::Refused(refusal),
     }
 }

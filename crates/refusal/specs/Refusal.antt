@@ -3,7 +3,7 @@ use Rattle.std.specs.Prelude.{ℕ}
 use Rattle.refusal.specs.declared.Refusal.{Refusal}
 use Rattle.refusal.specs.declared.Refusal.TheVariants.{IndexLength, IndexEdition, IndexTrailer, IndexEntry, IndexList, QuestionLength}
 use Rattle.refusal.specs.declared.Refusal.TheVariants.{QuestionByte, QuestionWord, Grammar, Words, Brackets, Room, Lists, EntryNumber, Number}
-use Rattle.refusal.specs.declared.Refusal.TheVariants.{Interval, BuildWord, BuildCount, BuildSize, ProbeRange, NoWord, RuleNumber, Arrivals}
+use Rattle.refusal.specs.declared.Refusal.TheVariants.{Interval, BuildWord, BuildCount, BuildSize, ProbeRange, NoWord, RuleNumber}
 
 -- Reference 9.1: the number
 abbrev pub number_of : Refusal → ℕ
@@ -29,7 +29,6 @@ number_of (BuildSize i) = 19
 number_of ProbeRange = 20
 number_of (NoWord i) = 21
 number_of (RuleNumber n) = 22
-number_of (Arrivals n) = 24
 
 -- Reference 9.1: the value, which the refusal carries, or 0 where there is nothing to tell
 abbrev pub value_of : Refusal → ℕ
@@ -55,4 +54,3 @@ value_of (BuildSize i) = i
 value_of ProbeRange = 0
 value_of (NoWord i) = i
 value_of (RuleNumber n) = n
-value_of (Arrivals n) = n

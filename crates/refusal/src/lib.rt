@@ -28,7 +28,6 @@ pub enum Refusal {
     ProbeRange,
     NoWord(usize),
     RuleNumber(u32),
-    Arrivals(u64),
 }
 
 // What a search for the first place of a fault finds.
@@ -65,7 +64,6 @@ pub fn number_of(refusal: Refusal) -> u64
         Refusal::ProbeRange => 20,
         Refusal::NoWord(_) => 21,
         Refusal::RuleNumber(_) => 22,
-        Refusal::Arrivals(_) => 24,
     }
 }
 
@@ -96,6 +94,5 @@ pub fn value_of(refusal: Refusal) -> u64
         Refusal::ProbeRange => 0,
         Refusal::NoWord(place) => place as u64,
         Refusal::RuleNumber(rule) => rule as u64,
-        Refusal::Arrivals(number) => number,
     }
 }

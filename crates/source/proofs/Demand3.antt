@@ -13,8 +13,7 @@
 --   exchanging-itself the premises hold of every pair of brackets in every accepted question over what is sound, with a for b.
 -- All parts of an exchange are read by one rule. And no list of intervals, ordered or not, that names the records of an answer has fewer intervals:
 --   fewest-intervals.
--- What stood in the lent cells before may differ between the calls (`out`, `other`). A source is any: that of an index is `of_index`, with `check_of` as its check, that
--- of a main index and its arrivals `of_pair`, with `pair_check` (PairLaws).
+-- What stood in the lent cells before may differ between the calls (`out`, `other`). A source is any: that of an index is `of_index`, with `check_of` as its check.
 use Prim.Native.Nat.{ℕ, ◌*◌, ◌/◌, ◌≤◌}
 use native.Mathlib.Omega.{arith}
 use mathlib.Core.Path.{◌≡◌, refl, sym, ap, ◌∙◌}
@@ -34,12 +33,12 @@ use Rattle.list.specs.Answer.{tally_of, Gives}
 use Rattle.list.specs.Sweeps.{Listing}
 use Rattle.list.proofs.FewestLaws.{fewest-of}
 use Rattle.index.specs.declared.Checked.{Checked}
-use Rattle.index.specs.declared.Checked.TheVariants.{Good, Refused}
+use Rattle.index.specs.declared.Checked.TheVariants.{Good}
 use Rattle.question.specs.Token.{tokens}
 use Rattle.question.specs.Grammar.{Tree}
 use Rattle.question.specs.Rules.{rule_of}
 use Rattle.question.specs.Meaning.{satisfies}
-use Rattle.question.specs.Reading.{Parsed, parses, refuses, asked}
+use Rattle.question.specs.Reading.{Parsed, parses, asked}
 use Rattle.question.specs.Limits.{token_words}
 use Rattle.question.specs.Exchange.{around, Matched, Exchangeable, Exchanged}
 use Rattle.question.proofs.RuleLaws.{rule-respects}
@@ -49,19 +48,12 @@ use Rattle.source.specs.Source.{Source, satisfying}
 use Rattle.source.specs.Ask.{Lists}
 use Rattle.source.specs.Demand3.{written, Answered, SameRecords, Exchanging, ExchangingPair, written_by, OnlyWritten, ListOrRoom, CallsAgree}
 use Rattle.source.proofs.AskLaws.{asks-good, answers-listing}
-use Rattle.source.proofs.SatisfyLaws.{clip, same-everywhere, same-within, satisfying-even, satisfying-names, satisfying-same, same-satisfying}
+use Rattle.source.proofs.SatisfyLaws.{clip, same-everywhere, same-within, satisfying-even, satisfying-same, same-satisfying}
 
 -- what is sound, and a question that is accepted: its list, or refusal 12
 asks-listing : {check : Checked} {a : Parsed} {t : Tree} {k : ℕ} (list : Tree → List ℕ) {out out' : List ℕ} {r : Answer} → check ≡ Good → a ≡ parses t k →
     Lists check a list out out' r → Listing (list t) out out' r
 asks-listing {a = a} list e f l = answers-listing list f (asks-good a list e l)
-
--- a call that answered with a list found what it is asked of sound, and accepted the question
-pub listed-answered : (check : Checked) (a : Parsed) (s : Source) {out out' : List ℕ} {tally : Tally} → Lists check a (satisfying s) out out' (Listed tally) →
-    (t : Tree) × Answered check a s t out out' tally
-listed-answered (Refused r) a s p = absurd (let e = p.answer in let z : ◌≡◌ {A = ℕ} 0 1 = cc in omega arith)
-listed-answered Good (refuses r) s p = absurd (let e = p.answer in let z : ◌≡◌ {A = ℕ} 0 1 = cc in omega arith)
-listed-answered Good (parses t k) s p = (t, record { sound = refl; words = k; accepted = refl; promise = p })
 
 -- ---- what an answered question writes: the one proper list of its records
 
@@ -85,10 +77,6 @@ module _ {check : Checked} {a : Parsed} (s : Source) (t : Tree) {out out' : List
       ap (λ (o : List ℕ). written tally o) answered-both.1
       ∙ take_at cells (drop (length cells) out) (2 * tally.intervals)
       (sym (satisfying-even s t) ∙ ap (λ (w : Tally). 2 * w.intervals) (sym answered-tally))
-
-  -- DEMAND 2: the cells name just the records that satisfy the question
-  pub answered-names : (x : ℕ) → 1 ≤ x → x ≤ s.highest → names (written tally out') x ≡ satisfies s.has t x
-  answered-names x h g = ap (λ (c : List ℕ). names c x) answered-cells ∙ satisfying-names s t x h g
 
   -- Reference 3.2: of whatever cells name just the records that satisfy the question
   pub fewest-intervals : (c : List ℕ) → names c 0 ≡ false → ((x : ℕ) → 1 ≤ x → x ≤ s.highest → names c x ≡ satisfies s.has t x) →

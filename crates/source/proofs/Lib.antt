@@ -2,4 +2,3 @@ pub mod AskLaws
 pub mod SatisfyLaws
 pub mod Demand3
 pub mod Unasked
-pub mod PairLaws

@@ -1,4 +1,4 @@
--- Reference 8.6, 8.11 and 9.2: what a call that takes a question answers, and what it writes.
+-- Reference 8.6 and 9.2: what a call that takes a question answers, and what it writes.
 use Rattle.std.specs.Prelude.{ℕ, ◌/◌, List, length}
 use Rattle.list.specs.declared.answer.Answer.{Answer}
 use Rattle.list.specs.Outcome.{Outcome, refused}
@@ -6,15 +6,14 @@ use Rattle.list.specs.Answer.{in_room, Gives}
 use Rattle.index.specs.declared.Checked.{Checked}
 use Rattle.index.specs.declared.Checked.TheVariants.{Good, Refused}
 use Rattle.index.specs.Check.{check_of}
-use Rattle.pair.specs.Pair.{pair_check}
 use Rattle.question.specs.Grammar.{Tree}
 use Rattle.question.specs.Reading.{Parsed, parses, refuses, asked}
-use Rattle.source.specs.Source.{satisfying, of_index, of_pair}
+use Rattle.source.specs.Source.{satisfying, of_index}
 
 -- Reference 9.2: the order of the refusals of a call that takes a question: what it is asked of is checked, then the rule and the question are read, then
 -- the list of the question's tree has room
 abbrev pub question_outcome : Checked → Parsed → (Tree → List ℕ) → ℕ → Outcome
--- 1 to 5, and 24
+-- 1 to 5
 question_outcome (Refused r) a list room = refused r
 -- 22, then 6 to 11
 question_outcome Good (refuses r) list room = refused r
@@ -32,8 +31,3 @@ Asks rule index question out out' r = Lists (check_of index) (asked rule questio
 -- Reference 8.10: over an index that is sound already
 abbrev pub Answers : ℕ → List ℕ → List ℕ → List ℕ → List ℕ → Answer → Type 0
 Answers rule index question out out' r = Lists Good (asked rule question) (satisfying (of_index index)) out out' r
-
--- Reference 8.11: over any bytes as a pair
-abbrev pub PairAsks : ℕ → List ℕ → List ℕ → List ℕ → List ℕ → List ℕ → Answer → Type 0
-PairAsks rule main arrivals question out out' r =
-    Lists (pair_check main arrivals) (asked rule question) (satisfying (of_pair main arrivals)) out out' r

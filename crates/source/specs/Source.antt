@@ -1,5 +1,5 @@
 -- Reference 6.3: what a question is asked of, and the records that satisfy it there.
-use Rattle.std.specs.Prelude.{ℕ, max, Bool, ◌||◌, List}
+use Rattle.std.specs.Prelude.{ℕ, Bool, List}
 use Rattle.list.specs.Stretches.{cells_of}
 use Rattle.index.specs.Format.{highest}
 use Rattle.directory.specs.Has.{has}
@@ -18,7 +18,3 @@ satisfying s t = cells_of (satisfies s.has t) s.highest
 -- Reference 8.6: an index
 abbrev pub of_index : List ℕ → Source
 of_index index = record { has = has index; highest = highest index }
-
--- Reference 8.11: a main index and one of arrivals; a word has the records that it has in either
-abbrev pub of_pair : List ℕ → List ℕ → Source
-of_pair main arrivals = record { has = λ w x. has main w x || has arrivals w x; highest = max (highest main) (highest arrivals) }

@@ -7,11 +7,10 @@ use Rattle.cases_query.proofs.run.Statement.{statement}
 use Rattle.cases_query.proofs.run.Tie as tie
 
 abbrev invariant-loop : tie.invariant-loop
-invariant-loop script base₀ work₀ other₀ size₀ at₀ t8 base work other size at =
-    (length base ≡ length base₀) × (length work ≡ length work₀) × (length other ≡ length other₀)
+invariant-loop script base₀ work₀ size₀ at₀ t8 base work size at = (length base ≡ length base₀) × (length work ≡ length work₀)
 
 abbrev decreases-loop : tie.decreases-loop
-decreases-loop script base₀ work₀ other₀ size₀ at₀ t8 base work other size at = length script - at
+decreases-loop script base₀ work₀ size₀ at₀ t8 base work size at = length script - at
 
 pub run_spec : {M : Type 1} → statement M
 run_spec =

@@ -17,5 +17,4 @@ value-of-spec =
     (λ c. rw c.before.refusal9.given.1) (λ c. rw c.before.refusal10.given.1) (λ c. rw c.before.refusal11.given.1)
     (λ c. rw c.before.refusal12.given.1) (λ c. rw c.before.refusal13.given.1) (λ c. rw c.before.refusal14.given.1)
     (λ c. rw c.before.refusal15.given.1) (λ c. rw c.before.refusal16.given.1) (λ c. rw c.before.refusal17.given.1)
-    (λ c. rw c.before.refusal18.given.1) (λ c. rw c.enum-told2.given.1) (λ c. rw c.before.refusal19.given.1) (λ c. rw c.before.refusal20.given.1)
-    (λ c. rw c.before.refusal21.given.1))
+    (λ c. rw c.before.refusal18.given.1) (λ c. rw c.enum-told2.given.1) (λ c. rw c.before.refusal19.given.1) (λ c. rw c.before.refusal20.given.1))
