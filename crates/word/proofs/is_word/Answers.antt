@@ -17,10 +17,10 @@ returns-then-s-gt-WORD_MAX c =
 pub returns-then-not-word_bytes : goal.returns-then-not-word_bytes
 returns-then-not-word_bytes c =
     let a = c.args in
-    sym (word-bytes-fail a.every a.s.now (omega arith) (omega arith) (sym c.word_bytes.ensures ∙ not-true _ c.if-not-word_bytes.true))
+    sym (word-bytes-fail a.every a.s.now (omega arith) (omega arith) (sym c.word_bytes.ensures ∙ c.if-not-word_bytes.true))
 
 pub returns : goal.returns
 returns c =
     let a = c.args in
     ap not c.is_barred.ensures
-    ∙ sym (word_else a.every a.s.now (omega arith) (omega arith) (sym c.word_bytes.ensures ∙ not-false _ c.if-not-word_bytes.false))
+    ∙ sym (word_else a.every a.s.now (omega arith) (omega arith) (sym c.word_bytes.ensures ∙ c.if-not-word_bytes.false))
