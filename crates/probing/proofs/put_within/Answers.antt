@@ -26,8 +26,7 @@ pub close_piece-tally-requires-clause-fits : goal.close_piece-tally-requires-cla
 close_piece-tally-requires-clause-fits c =
     let inv = c.loop-x.invariant.1 in
     let asked = c.requires in
-    let s = c.probe-sense.ensures.steady in
-    cut_fits inv asked.within.high asked.fits s.0 s.1
+    cut_fits inv asked.within.high asked.fits c.probe-sense.ensures.steady c.probe-sense.ensures.near
 
 pub loop-x-smaller : goal.loop-x-smaller
 loop-x-smaller c =

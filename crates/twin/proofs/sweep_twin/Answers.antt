@@ -31,7 +31,7 @@ list : (c : At-loop-uppers) → j c < length c.args.entries.now
 list c = turn-list (asked c) c.loop-uppers.invariant.0
 
 largest : (c : After-with_room-size) → Largest c.args.index.now c.args.entries.now (λ k. get_or c.loop-uppers.places k start) (length c.args.entries.now)
-    (record_max + 1 - get_or c.with_room-size.new.1.1.1.0 0 0)
+    (record_max + 1 - get_or c.with_room-size.new.lowers 0 0)
 largest c = let room = c.with_room-size.ensures in turn-largest (asked (goal.at.After-with_room-size c).At-loop-uppers) c.loop-uppers.invariant.0 room.fills room.keeps room.room
 
 -- and is not used up
@@ -193,7 +193,7 @@ overflow_sub-next c =
 pub push-requires-clause-room : goal.push-requires-clause-room
 push-requires-clause-room c =
     let room = c.with_room-size.ensures in
-    omega (arith, room.keeps)
+    omega (arith, room.1)
 
 pub push-requires-clause-ordered : goal.push-requires-clause-ordered
 push-requires-clause-ordered c =
