@@ -40,12 +40,12 @@ returns-in-At c =
 pub returns-in-At-check_numbers : goal.returns-in-At-check_numbers
 returns-in-At-check_numbers c =
     let bad = sym c.check_numbers.ensures ∙ c.in-At-check_numbers.is in
-    sym (refused-number _ _ _ _ c.if-n-gt-RECORD_MAX.left (counted (goal.at.returns-in-At-check_numbers c).In-Counted).0 (rw (counted (goal.at.returns-in-At-check_numbers c).In-Counted).1 (fair (goal.at.returns-in-At-check_numbers c).In-Nowhere)) _ (rw (same (goal.at.returns-in-At-check_numbers c).In-Nowhere) bad))
+    sym (refused-number _ _ _ _ c.if-n-gt-RECORD_MAX.false (counted (goal.at.returns-in-At-check_numbers c).In-Counted).0 (rw (counted (goal.at.returns-in-At-check_numbers c).In-Counted).1 (fair (goal.at.returns-in-At-check_numbers c).In-Nowhere)) _ (rw (same (goal.at.returns-in-At-check_numbers c).In-Nowhere) bad))
 
 pub returns-in-Nowhere-check_numbers : goal.returns-in-Nowhere-check_numbers
 returns-in-Nowhere-check_numbers c =
     let none = sym c.check_numbers.ensures ∙ c.in-Nowhere-check_numbers.is in
-    sym (none-refused _ _ _ _ c.if-n-gt-RECORD_MAX.left (counted (goal.at.returns-in-Nowhere-check_numbers c).In-Counted).0 (rw (counted (goal.at.returns-in-Nowhere-check_numbers c).In-Counted).1 (fair (goal.at.returns-in-Nowhere-check_numbers c).In-Nowhere)) (rw (same (goal.at.returns-in-Nowhere-check_numbers c).In-Nowhere) none))
+    sym (none-refused _ _ _ _ c.if-n-gt-RECORD_MAX.false (counted (goal.at.returns-in-Nowhere-check_numbers c).In-Counted).0 (rw (counted (goal.at.returns-in-Nowhere-check_numbers c).In-Counted).1 (fair (goal.at.returns-in-Nowhere-check_numbers c).In-Nowhere)) (rw (same (goal.at.returns-in-Nowhere-check_numbers c).In-Nowhere) none))
 
 pub returns-then-n-gt-RECORD_MAX : goal.returns-then-n-gt-RECORD_MAX
 returns-then-n-gt-RECORD_MAX c = sym (refused-limit _ _ _ _ c.if-n-gt-RECORD_MAX.true)

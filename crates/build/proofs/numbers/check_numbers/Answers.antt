@@ -24,7 +24,7 @@ hit : (c : In-At) →
     ≡ At (c.loop-i.start + c.in-At.k)
 hit c =
     let at = c.loop-i in
-    list_hit c.args.n c.args.counts.now c.args.numbers.now c.requires at.i c.loop-i-test.taken at.invariant.1 refl _
+    list_hit c.args.n c.args.counts.now c.args.numbers.now c.requires at.i c.loop-i-test.true at.invariant.1 refl _
     (sym c.first_bad_number-bad.ensures ∙ c.in-At.is) at.invariant.3
 
 pub overflow_add-result : goal.overflow_add-result

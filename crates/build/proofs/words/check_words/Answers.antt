@@ -15,7 +15,7 @@ ended : (c : Else-end-words) → c.part_end-end.result < length c.args.words.now
 ended c =
     let words = c.args.words.now in
     let end = c.part_end-end in
-    leb-cases (length words) end.result (λ g. absurd (c.if-end-words.false (omega (arith, end.ensures.1.1)))) (λ g. g)
+    leb-cases (length words) end.result (λ g. absurd (c.if-end-words.false (omega (arith, end.ensures.within)))) (λ g. g)
 
 pub returns-then-count-eq-WORDS_MAX : goal.returns-then-count-eq-WORDS_MAX
 returns-then-count-eq-WORDS_MAX c = rw (pass-full c.loop-start.invariant c.part_end-end.ensures.place (ended (goal.at.returns-then-count-eq-WORDS_MAX c).Else-end-words) c.if-count-eq-WORDS_MAX.true)

@@ -35,14 +35,14 @@ write_word-at-requires-clause-within c =
 pub overflow_add-start : goal.overflow_add-start
 overflow_add-start c =
     let end = c.part_end-end.ensures in
-    let ended = word-ended c.loop-i.invariant.1 end.place end.within refl c.loop-i-test.taken in
+    let ended = word-ended c.loop-i.invariant.1 end.place end.within refl c.loop-i-test.true in
     omega arith
 
 pub loop-i-preserved : goal.loop-i-preserved
 loop-i-preserved c =
     let at = c.loop-i in
     let end = c.part_end-end.ensures in
-    let some = c.loop-i-test.taken in
+    let some = c.loop-i-test.true in
     let wrote = c.write_word-at.ensures in (
       rw wrote.enters (simp length-sets at.invariant.0),
       rw wrote.moves (enter-on at.invariant.1 end.place end.within refl some),
