@@ -22,11 +22,15 @@ pub in_some-same : (n : ℕ) (cs ds : List (List ℕ)) → SameNames n cs ds →
 unfolding in_some
 in_some-same n [] [] s x h g = refl
 in_some-same n (c ∷ cs) (d ∷ ds) s x h g = rw (s.0 x h g, in_some-same n cs ds s.1 x h g)
+in_some-same n [] (d ∷ ds) s x h g = elim s [ ]
+in_some-same n (c ∷ cs) [] s x h g = elim s [ ]
 
 pub in_every-same : (n : ℕ) (cs ds : List (List ℕ)) → SameNames n cs ds → (x : ℕ) → 1 ≤ x → x ≤ n → in_every cs x ≡ in_every ds x
 unfolding in_every
 in_every-same n [] [] s x h g = refl
 in_every-same n (c ∷ cs) (d ∷ ds) s x h g = rw (s.0 x h g, in_every-same n cs ds s.1 x h g)
+in_every-same n [] (d ∷ ds) s x h g = elim s [ ]
+in_every-same n (c ∷ cs) [] s x h g = elim s [ ]
 
 pub union-same : (cs ds : List (List ℕ)) → SameNames record_max cs ds → union_of cs ≡ union_of ds
 unfolding union_of

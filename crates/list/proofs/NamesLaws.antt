@@ -37,12 +37,14 @@ pub names-below : (n k x : ℕ) (c : List ℕ) → ProperFrom n k c → x < k �
 unfolding names
 names-below n k x [] p h = refl
 names-below n k x (l ∷ u ∷ r) p h = rw (lt-leb l x (omega arith)) (names-below n (u + 2) x r p.3 (omega arith))
+names-below n k x (l ∷ []) p h = elim p [ ]
 
 -- nothing above its limit
 pub names-above : (n k x : ℕ) (c : List ℕ) → ProperFrom n k c → n < x → names c x ≡ false
 unfolding names
 names-above n k x [] p h = refl
 names-above n k x (l ∷ u ∷ r) p h = rw (lt-leb x u (omega arith), and-false (leb l x)) (names-above n (u + 2) x r p.3 h)
+names-above n k x (l ∷ []) p h = elim p [ ]
 
 -- nothing between its first interval and the next
 pub names-gap : (n k l u x : ℕ) (r : List ℕ) → ProperFrom n k (l ∷ u ∷ r) → u < x → x < u + 2 → names (l ∷ u ∷ r) x ≡ false

@@ -28,6 +28,7 @@ overlap-begun a b n k (l ∷ u ∷ r) h p =
     let e = overlap-one a b l u h p.1 in
     let f = overlap-begun a b n (u + 2) r h p.3 in
     omega arith
+overlap-begun a b n k (l ∷ []) h p = elim p [ ]
 
 -- a pair that ends before a begins by b
 pub ended-begun : (n a b : ℕ) (S L U : List ℕ) → Kept n S L U → a ≤ b → count_below a U ≤ count_below (b + 1) L

@@ -34,3 +34,4 @@ facts-proper n k (l ∷ u ∷ r) p = rw (le-leb k l p.0, le-leb l u p.1, le-leb 
 pub proper-weaker : (n m j k : ℕ) (c : List ℕ) → n ≤ m → j ≤ k → ProperFrom n k c → ProperFrom m j c
 proper-weaker n m j k [] g h p = tt
 proper-weaker n m j k (l ∷ u ∷ r) g h p = (omega arith, p.1, omega arith, proper-weaker n m (u + 2) (u + 2) r g (omega arith) p.3)
+proper-weaker n m j k (l ∷ []) g h p = elim p [ ]

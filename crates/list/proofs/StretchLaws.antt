@@ -148,6 +148,9 @@ unique-from n k (l ∷ u ∷ r) (l' ∷ u' ∷ r') p q f =
     let el : l ≡ l' = le_antisymm (first-start n l l' u' r' (l ∷ u ∷ r) q.1 p' (sym (f l'))) (first-start n l' l u r (l' ∷ u' ∷ r') p.1 q' (f l)) in
     let eu : u ≡ u' = le_antisymm (first-end n k l u l' u' r r' el q f) (first-end n k l' u' l u r' r (sym el) p (λ x. sym (f x))) in
     unique-step n k l u l' u' r r' el eu p q f (unique-from n (u + 2) r r')
+unique-from n k [] (l ∷ []) p q f = elim q [ ]
+unique-from n k (l ∷ []) d p q f = elim p [ ]
+unique-from n k (l ∷ (u ∷ r)) (l' ∷ []) p q f = elim q [ ]
 
 pub proper-unique : (n : ℕ) (c d : List ℕ) → is_proper n c ≡ true → is_proper n d ≡ true → ((x : ℕ) → names c x ≡ names d x) → c ≡ d
 unfolding is_proper
@@ -239,6 +242,7 @@ stretches-end p b n x h = let z : n + 1 - x ≡ 0 = omega arith in rw z
 pub proper-even : (n k : ℕ) (c : List ℕ) → ProperFrom n k c → 2 * intervals c ≡ length c
 proper-even n k [] p = refl
 proper-even n k (l ∷ u ∷ r) p = omega (arith, proper-even n (u + 2) r p.3)
+proper-even n k (l ∷ []) p = elim p [ ]
 
 -- a proper list has whole intervals
 pub proper-length : (n : ℕ) (c : List ℕ) → is_proper n c ≡ true → 2 * intervals c ≡ length c
