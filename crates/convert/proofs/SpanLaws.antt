@@ -136,6 +136,8 @@ spans-from p n x (suc m) k [] a h e f = spans-none p x m (f x (omega arith))
     (spans-from p n (x + 1) m (x + 1) [] tt (omega arith) (omega arith) (λ y i. f y (omega arith)))
 spans-from p n x (suc m) k (l ∷ u ∷ r) a h e f =
     spans_step p n x m k l u r a h f (λ k c b i g. spans-from p n (x + 1) m k c b i (omega arith) g) (dec_le l x) (dec_le u x)
+spans-from p n x zero k (l ∷ []) a h e f = elim a [ ]
+spans-from p n x (suc m) k (l ∷ []) a h e f = elim a [ ]
 
 pub spans-records : (n : ℕ) (c : List ℕ) → is_proper n c ≡ true → spans c ≡ records_of (names c) n
 unfolding is_proper records_of

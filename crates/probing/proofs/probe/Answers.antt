@@ -1,6 +1,7 @@
 use Prim.Native.Nat.{◌-◌}
 use mathlib.Core.Path.{refl, ◌∙◌}
 use native.Mathlib.Omega.{arith}
+use borrow.Author.Tests.{not-true, not-false}
 use Rattle.probing.proofs.ProbingLaws.{probe-out, looked-start, looked-next, looked-end}
 use Rattle.probing.proofs.probe.Goals as goal
 
@@ -26,7 +27,7 @@ pub shape_of-hints-then-not-sense : goal.shape_of-hints-then-not-sense
 shape_of-hints-then-not-sense c = c.sense_of-sense.ensures.keeps ∙ c.loop-k.invariant.0
 
 pub returns-then-not-sense-clause-keeps : goal.returns-then-not-sense-clause-keeps
-returns-then-not-sense-clause-keeps c = same_length c
+returns-then-not-sense-clause-keeps c = c.sense_of-sense.ensures.keeps ∙ c.loop-k.invariant.0
 
 pub returns-then-not-sense-clause-steady : goal.returns-then-not-sense-clause-steady
 returns-then-not-sense-clause-steady c =
@@ -34,7 +35,7 @@ returns-then-not-sense-clause-steady c =
     let called = c.sense_of-sense in
     let e = c.smaller.ensures in
     rw e (probe-out asked.within asked.order c.loop-k.k c.loop-k-test.true
-            (c.if-not-sense.true) called.ensures.1)
+            (not-true _ c.if-not-sense.true) called.ensures.steady)
 
 pub returns-then-not-sense-clause-near : goal.returns-then-not-sense-clause-near
 returns-then-not-sense-clause-near c =
@@ -47,9 +48,9 @@ pub loop-k-preserved : goal.loop-k-preserved
 loop-k-preserved c =
     let inv = c.loop-k.invariant in
     let called = c.sense_of-sense in (
-      called.ensures.0 ∙ inv.0,
+      called.ensures.keeps ∙ inv.0,
       rw c.smaller-until.ensures
-          (looked-next inv.1 c.loop-k-test.true (c.if-not-sense.false) called.ensures.1),
+          (looked-next inv.1 c.loop-k-test.true (not-false _ c.if-not-sense.false) called.ensures.steady),
     )
 
 pub returns-clause-keeps : goal.returns-clause-keeps

@@ -26,8 +26,7 @@ pub close_piece-tally-requires-clause-fits : goal.close_piece-tally-requires-cla
 close_piece-tally-requires-clause-fits c =
     let inv = c.loop-x.invariant.1 in
     let asked = c.requires in
-    let s = c.probe-sense.ensures.steady in
-    cut_fits inv asked.within.high asked.fits s.0 s.1
+    cut_fits inv asked.within.high asked.fits c.probe-sense.ensures.steady c.probe-sense.ensures.near
 
 pub loop-x-smaller : goal.loop-x-smaller
 loop-x-smaller c =
@@ -68,7 +67,11 @@ pub loop-x-init : goal.loop-x-init
 loop-x-init c = (refl, cut-start c.requires.order)
 
 pub shape_of-hints : goal.shape_of-hints
-shape_of-hints c = (returns c).0
+shape_of-hints c =
+    let inv = c.loop-x.invariant in
+    inv.0
 
 pub shape_of-out : goal.shape_of-out
-shape_of-out c = cells-put-long _ _ _ _ _ _ (returns c).1
+shape_of-out c =
+    let inv = c.loop-x.invariant in
+    cells-put-long _ _ _ _ _ _ (cut-end inv.1 c.loop-x-test.false c.close_piece.ensures)

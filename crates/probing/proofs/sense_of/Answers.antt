@@ -20,20 +20,17 @@ returns-then-k-j-clause-steady c =
 pub sense_in-requires-clause-entry : goal.sense_in-requires-clause-entry
 sense_in-requires-clause-entry c =
     let w = c.requires.within in
-    let below = c.requires.order.1 in
-    asked_entry w.asked c.args.k below.0
+    asked_entry w.asked c.args.k c.requires.list
 
 pub sense_in-requires-clause-high : goal.sense_in-requires-clause-high
 sense_in-requires-clause-high c =
     let w = c.requires.within in
-    let below = c.requires.order.1 in
     omega (arith, w.high)
 
 pub sense_in-requires-clause-hint : goal.sense_in-requires-clause-hint
 sense_in-requires-clause-hint c =
     let w = c.requires.within in
-    let below = c.requires.order.1 in
-    omega (arith, below.0, below.1)
+    omega (arith, c.requires.list, c.requires.hints)
 
 pub returns-clause-keeps : goal.returns-clause-keeps
 returns-clause-keeps c =

@@ -1,9 +1,9 @@
 use Prim.Native.Nat.{◌-◌}
-use mathlib.Core.Logic.{⊎_elim}
 use native.Mathlib.Omega.{arith}
 use Rattle.merge.proofs.ListsLaws.{asked_entry}
 use Rattle.probing.proofs.ProbingLaws.{best-start, best-same, best-other}
 use Rattle.probing.proofs.shortest.Goals as goal
+use Rattle.probing.proofs.shortest.Goals.{then-count-fewest, else-count-fewest}
 
 pub interval_count-count-requires : goal.interval_count-count-requires
 interval_count-count-requires c = asked_entry c.requires c.loop-j.j c.loop-j-test.true
@@ -13,7 +13,10 @@ loop-j-preserved c =
     let inv = c.loop-j.invariant in
     let h = c.loop-j-test.true in
     let e = c.interval_count-count.ensures.is in
-    ⊎_elim (λ w. rw (w.1, w.2) (best-other inv h e w.0.taken)) (λ w. rw (w.1, w.2) (best-same inv h e w.0.left)) c.if-count-fewest.branch
+    elim c.if-count-fewest.branch [
+      then-count-fewest w ↦ rw (w.best-is, w.fewest-is) (best-other inv h e w.if-count-fewest.true)
+    | else-count-fewest w ↦ rw (w.best-is, w.fewest-is) (best-same inv h e w.if-count-fewest.false)
+    ]
 
 pub returns : goal.returns
 returns c =

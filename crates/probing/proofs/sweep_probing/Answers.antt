@@ -54,7 +54,12 @@ put_within-tally-requires c =
     let g = c.loop-i.invariant.2 in
     let hints = c.loop-i.invariant.0 in
     rw (e.lower, e.upper, r.singles, r.lower, r.upper)
-    (going-within a h g (left (goal.at.put_within-tally-requires c).In-loop-i), (going-ordered a h g (left (goal.at.put_within-tally-requires c).In-loop-i), (omega (arith, a.few), going-fits a h g (left (goal.at.put_within-tally-requires c).In-loop-i) c.requires.room)))
+    record {
+      within = going-within a h g (left (goal.at.put_within-tally-requires c).In-loop-i);
+      order = going-ordered a h g (left (goal.at.put_within-tally-requires c).In-loop-i);
+      hints = omega (arith, a.few);
+      fits = going-fits a h g (left (goal.at.put_within-tally-requires c).In-loop-i) c.requires.room;
+    }
 
 pub next_place-at-requires : goal.next_place-at-requires
 next_place-at-requires c =

@@ -31,7 +31,7 @@ list : (c : At-loop-uppers) → j c < length c.args.entries.now
 list c = turn-list (asked c) c.loop-uppers.invariant.0
 
 largest : (c : After-with_room-size) → Largest c.args.index.now c.args.entries.now (λ k. get_or c.loop-uppers.places k start) (length c.args.entries.now)
-    (record_max + 1 - get_or c.with_room-size.new.1.1.1.0 0 0)
+    (record_max + 1 - get_or c.with_room-size.new.lowers 0 0)
 largest c = let room = c.with_room-size.ensures in turn-largest (asked (goal.at.After-with_room-size c).At-loop-uppers) c.loop-uppers.invariant.0 room.fills room.keeps room.room
 
 -- and is not used up
@@ -40,7 +40,7 @@ goes_on c = sym c.used_up.ensures ∙ c.if-used_up.false
 
 -- or it is, and all is swept
 swept : (c : Then-used_up) → let a = c.args in let put = c.put_overlap-tally in
-    Tallied (in_all a.index.now a.entries.now) a.writing a.out.now put.new.0 put.result (record_max + 1)
+    Tallied (in_all a.index.now a.entries.now) a.writing a.out.now put.new.out put.result (record_max + 1)
 swept c =
     turn_end (asked (goal.at.Then-used_up c).At-loop-uppers) c.loop-uppers.invariant.0 c.moved_on-places.ensures (largest (goal.at.Then-used_up c).After-with_room-size)
     c.put_overlap-tally.ensures (sym c.used_up.ensures ∙ c.if-used_up.true)
@@ -193,7 +193,7 @@ overflow_sub-next c =
 pub push-requires-clause-room : goal.push-requires-clause-room
 push-requires-clause-room c =
     let room = c.with_room-size.ensures in
-    omega (arith, room.keeps)
+    omega (arith, room.keeps, room.room)
 
 pub push-requires-clause-ordered : goal.push-requires-clause-ordered
 push-requires-clause-ordered c =

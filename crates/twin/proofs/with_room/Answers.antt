@@ -15,14 +15,10 @@ returns-clause-room c =
     omega arith
 
 pub returns-then-size-lt-LOWERS-clause-fills : goal.returns-then-size-lt-LOWERS-clause-fills
-returns-then-size-lt-LOWERS-clause-fills c =
-    let asked = c.requires.stands.1 in
-    asked.1
+returns-then-size-lt-LOWERS-clause-fills c = c.requires.filled
 
 pub returns-then-size-lt-LOWERS-clause-keeps : goal.returns-then-size-lt-LOWERS-clause-keeps
-returns-then-size-lt-LOWERS-clause-keeps c =
-    let asked = c.requires.stands.1 in
-    asked.0
+returns-then-size-lt-LOWERS-clause-keeps c = c.requires.long
 
 pub returns-then-size-lt-LOWERS-clause-room : goal.returns-then-size-lt-LOWERS-clause-room
 returns-then-size-lt-LOWERS-clause-room c = c.if-size-lt-LOWERS.true

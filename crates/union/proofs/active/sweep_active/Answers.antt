@@ -108,4 +108,4 @@ pub moved_on-places-requires-clause-goes : goal.moved_on-places-requires-clause-
 moved_on-places-requires-clause-goes c = goes (goal.at.moved_on-places-requires-clause-goes c).In-loop-size
 
 pub shape_of-out : goal.shape_of-out
-shape_of-out c = omega (arith, c.put.auto.0, tallied-length c.loop-size.invariant.state.below)
+shape_of-out c = omega (arith, c.put.auto.out, tallied-length c.loop-size.invariant.state.below)

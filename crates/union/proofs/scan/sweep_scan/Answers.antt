@@ -72,8 +72,11 @@ loop-size-preserved-then-key-eq0 c = lower-step c.requires.sound c.loop-size.inv
 pub overflow_sub-count : goal.overflow_sub-count
 overflow_sub-count c = omega (arith, upper-some c.requires.sound c.loop-size.invariant c.loop-size-test.true c.if-key-eq0.false)
 
-pub put_closed-tally-requires : goal.put_closed-tally-requires
-put_closed-tally-requires c = upper_fits c.requires.sound c.loop-size.invariant c.loop-size-test.true c.if-key-eq0.false c.requires.room
+pub put_closed-tally-requires-clause-begun : goal.put_closed-tally-requires-clause-begun
+put_closed-tally-requires-clause-begun c = (upper_fits c.requires.sound c.loop-size.invariant c.loop-size-test.true c.if-key-eq0.false c.requires.room).0
+
+pub put_closed-tally-requires-clause-fits : goal.put_closed-tally-requires-clause-fits
+put_closed-tally-requires-clause-fits c = (upper_fits c.requires.sound c.loop-size.invariant c.loop-size-test.true c.if-key-eq0.false c.requires.room).1
 
 pub refill-size-requires-clause-entry : goal.refill-size-requires-clause-entry
 refill-size-requires-clause-entry c =
