@@ -1,18 +1,11 @@
--- Laws of reading: what a read put into a lent tail, said of the whole buffer, and what its answer says.
-use mathlib.Core.Path.{◌≡◌, refl, ap}
-use Prim.Native.Nat.{ℕ, ◌-◌, ◌≤◌}
-use native.Mathlib.Omega.{arith}
-use mathlib.Core.Bool.{true, false}
-use mathlib.Core.List.{List}
-use lib.ListN.{length}
-use lib.IntN.{ℤ, pos, negsuc}
-use lib.Signed.{lt_z}
-use borrow.Author.Tests.{ltb-true}
+-- Laws of reading and writing: what a read put into a lent tail, said of the whole buffer, and what two calls moved one after the other.
+use Rattle.std.proofs.Common.{◌≡◌, ℕ, ◌+◌, ◌-◌, ◌≤◌, List, ◌++◌, Option, length, take, drop, arith, sym, ap, subst, ◌∙◌}
+use lib.Seq.{take-add, take-take}
 use borrow.Rule.Slice.PartMut.{put_mid, mid_of, same_len_mid, mid_len, take_put}
-use Rattle.io.specs.Counts.{clamp_len}
+use Rattle.std.specs.Io.KnownBytes.{Appends, Consumes}
+use Rattle.std.proofs.KnownBytes.{Appends-trans, Consumes-trans}
 use Rattle.ask.specs.declared.transfer.FileRead.{FileRead}
-use Rattle.ask.specs.declared.transfer.FileRead.TheVariants.{Bytes, Failed}
-use Rattle.ask.specs.Transfer.{read_count, file_read_of, ReadsOn}
+use Rattle.ask.specs.Transfer.{read_count, ReadsOn}
 
 pub tail-read : (done : ℕ) (bytes tail : List ℕ) (r : FileRead) →
     done ≤ length bytes →
@@ -25,10 +18,22 @@ tail-read done bytes tail r h same counted =
       within = omega (arith, same, counted, same_len_mid done (length bytes - done) bytes tail same, mid_len done (length bytes) bytes (omega arith));
     }
 
-pub failed-reading : (got : ℤ) (n : ℕ) → lt_z got (pos 0) ≡ true → Failed ≡ file_read_of got n
-failed-reading (pos k) n h = absurd (omega (arith, ltb-true k 0 h))
-failed-reading (negsuc k) n h = refl
+-- a read behind the first `done` bytes, which stayed
+pub Consumes-on : (a b c : Option (List ℕ)) (done more : ℕ) (bytes bytes' : List ℕ) →
+    Consumes a b (take done bytes) →
+    take done bytes' ≡ take done bytes →
+    Consumes b c (take more (drop done bytes')) →
+    Consumes a c (take (done + more) bytes')
+Consumes-on a b c done more bytes bytes' before kept next =
+    let joined = ap (λ l. l ++ take more (drop done bytes')) (sym kept) ∙ sym (take-add done more bytes') in
+    subst (Consumes a c) joined (Consumes-trans a b c _ _ before next)
 
-pub counted-reading : (got : ℤ) (n count : ℕ) → lt_z got (pos 0) ≡ false → count ≡ clamp_len got n → Bytes count ≡ file_read_of got n
-counted-reading (pos k) n count h e = ap Bytes e
-counted-reading (negsuc k) n count h e = absurd (let z : ◌≡◌ {A = ℕ} 0 1 = cc in omega arith)
+-- a write of what stands behind the first `done` bytes
+pub Appends-on : (a b c : Option (List ℕ)) (done more : ℕ) (bytes : List ℕ) →
+    Appends a b (take done bytes) →
+    more ≤ length bytes - done →
+    Appends b c (take more (take (length bytes - done) (drop done bytes))) →
+    Appends a c (take (done + more) bytes)
+Appends-on a b c done more bytes before fits next =
+    let joined = ap (λ l. take done bytes ++ l) (take-take more (length bytes - done) (drop done bytes) fits) ∙ sym (take-add done more bytes) in
+    subst (Appends a c) joined (Appends-trans a b c _ _ before next)

@@ -12,36 +12,37 @@ ghost use Rattle.ask.specs.Output.{file_check};
 
 use answer::{INDEX_MOST, check_file, write_answer};
 use index::Checked;
-use libc::{STDIN_FILENO, STDOUT_FILENO};
 use lines::line::{ANSWER_CELLS, LINE_ROOM};
 use lines::split::{INPUT_MOST, answered_end, is_past};
 use parts::part_end;
+use std::fs::File;
+use std::io;
+use std::io::Write;
+use std::rt::Files;
 use transfer::{FileRead, read_file, write_whole};
 
 // Reads the file from its start, and answers how many bytes there are; one that is missing or cannot be read has none.
-fn read_index(bytes: &mut [u8]) -> usize
+fn read_index(files: &impl Files, bytes: &mut [u8]) -> usize
     ensures { IsPrefixLen result bytes.new }
 {
-    let fd = os::open_read(b"index.bin");
-    if fd < 0 {
+    let Ok(mut file) = File::open(files, "index.bin") else {
         return 0;
-    }
-    let reading = read_file(fd, bytes);
-    libc::close(fd);
-    match reading {
+    };
+    match read_file(&mut file, bytes) {
         FileRead::Bytes(count) => count,
-        FileRead::Failed => 0,
+        FileRead::Failed(_) => 0,
     }
 }
 
 // Answers each line in order, and whether all of them were written; `out` has room for every line.
-fn answer_lines(
+fn answer_lines<W: Write>(
     index: &[u8],
     checked: Checked,
     input: &[u8],
     cells: &mut [u32],
     out: &mut [u8],
-) -> bool
+    writer: &mut W,
+) -> io::Result<bool>
     requires checks { checked ≡ file_check index.now }
     requires few { length input.now ≤ input_most }
     requires lends { length cells.old ≡ answer_cells }
@@ -52,13 +53,13 @@ fn answer_lines(
     while from < input.len() {
         let end = part_end(input, from, b'\n');
         let size = write_answer(index, checked, &input[from..end], number, cells, out);
-        if write_whole(STDOUT_FILENO, &out[..size]) < size {
-            return false;
+        if write_whole(writer, &out[..size])? < size {
+            return Ok(false);
         }
         number += 1;
         from = end + 1;
     }
-    true
+    Ok(true)
 }
 
 // The cells that are lent for each answer.
@@ -76,31 +77,34 @@ fn line_bytes() -> [u8; LINE_ROOM]
 }
 
 // Answers the lines that are answered, says where there is more, and whether all of it was written.
-fn answer_input(index: &[u8], input: &[u8]) -> bool {
+fn answer_input<W: Write>(index: &[u8], input: &[u8], writer: &mut W) -> io::Result<bool> {
     let checked = check_file(index);
     let end = answered_end(input);
     let mut cells = answer_cells();
     let mut out = line_bytes();
-    if !answer_lines(index, checked, &input[..end], &mut cells, &mut out) {
-        return false;
+    if !answer_lines(index, checked, &input[..end], &mut cells, &mut out, writer)? {
+        return Ok(false);
     }
     if is_past(input) {
-        return write_whole(STDOUT_FILENO, b"more\n") == 5;
+        return Ok(write_whole(writer, b"more\n")? == 5);
     }
-    true
+    Ok(true)
 }
 
-// One byte more than is taken of each shows that there is more.
-fn main() {
+// One byte more than is taken of each shows that there is more. What cannot be said on standard error is not said.
+fn main(rt: HostRuntime) {
     let mut index = [0u8; INDEX_MOST + 1];
-    let index_size = read_index(&mut index);
+    let index_size = read_index(&rt, &mut index);
     let mut input = [0u8; INPUT_MOST + 1];
-    match read_file(STDIN_FILENO, &mut input) {
-        FileRead::Failed => os::fail(b"ask: cannot read the questions"),
+    let said = match read_file(&mut rt.stdin(), &mut input) {
+        FileRead::Failed(error) => eprintln!(rt; "ask: cannot read the questions: {error}"),
         FileRead::Bytes(size) => {
-            if !answer_input(&index[..index_size], &input[..size]) {
-                os::fail(b"ask: cannot write the answers");
+            match answer_input(&index[..index_size], &input[..size], &mut rt.stdout()) {
+                Err(error) => eprintln!(rt; "ask: cannot write the answers: {error}"),
+                Ok(false) => eprintln!(rt; "ask: cannot write the answers"),
+                Ok(true) => Ok(()),
             }
         }
-    }
+    };
+    let _ = said;
 }

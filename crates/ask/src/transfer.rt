@@ -1,8 +1,12 @@
-// Bytes to and from a file: a call that moves fewer bytes than it is handed is gone on from, and one that a signal interrupts is made again.
-ghost use Rattle.std.specs.Prelude.{◌≡◌, ◌≤◌, true, length, pos};
-ghost use Rattle.std.specs.Int.Signed.{lt_z};
+// Bytes from a reader and to a writer: a call that moves fewer bytes than it is handed is gone on from, and one that a signal interrupts is made again.
+ghost use Rattle.std.specs.Prelude.{◌≡◌, ◌↔◌, ◌≤◌, IfOk, IsTrue, drop, length};
+ghost use Rattle.std.specs.IoError.{error_kind};
+ghost use Rattle.std.specs.Io.KnownBytes.{WriteAppends};
 ghost use Rattle.io.specs.Counts.{IsPrefixLen};
-ghost use Rattle.ask.specs.Transfer.{read_count, file_read_of, ReadsOn};
+ghost use Rattle.ask.specs.Transfer.{read_count, file_read_of, ReadsOn, ReadsOnce, ReadsFront, WritesFront};
+
+use std::io;
+use std::io::{ErrorKind, Read, Write};
 
 // How often in a row a call may be interrupted before it counts as failed: every loop has to end.
 const PATIENCE: usize = 1_000_000;
@@ -11,89 +15,90 @@ const PATIENCE: usize = 1_000_000;
 #[derive(Clone, Copy)]
 pub enum FileRead {
     Bytes(usize),
-    Failed,
+    Failed(io::Error),
 }
 
-// Whether a call that answered `got` was interrupted: then it moved nothing, and may be made again.
-fn is_interrupted(got: isize) -> bool
-    ensures { result ≡ true → lt_z got (pos 0) ≡ true }
+// Whether a call that failed was interrupted: then it moved nothing, and may be made again.
+fn is_interrupted(error: &io::Error) -> bool
+    ensures { IsTrue result ↔ (error_kind error.now ≡ ErrorKind.Interrupted) }
 {
-    got < 0 && os::errno() == libc::EINTR
+    error.kind() == ErrorKind::Interrupted
 }
 
-// One write: how many bytes it took, 0 where it failed.
-fn write_some(fd: i32, bytes: &[u8]) -> usize
-    ensures { IsPrefixLen result bytes.now }
+// One write: how many bytes it took. One that failed took none.
+fn write_some<W: Write>(writer: &mut W, bytes: &[u8]) -> io::Result<usize>
+    ensures counts { IfOk result (λ n. IsPrefixLen n bytes.now) }
+    ensures writes { WriteAppends (W.contents writer.old) (W.contents writer.new) result bytes.now }
 {
-    let mut tries = PATIENCE;
-    while tries > 0 {
-        let got = libc::write(fd, bytes);
-        if !is_interrupted(got) {
-            return io::count(got, bytes);
+    for _ in 1..PATIENCE {
+        match writer.write(bytes) {
+            Err(error) if is_interrupted(&error) => {}
+            taken => return taken,
         }
-        tries -= 1;
     }
-    0
+    writer.write(bytes)
 }
 
-// Writes the bytes, and answers how many were taken: all of them, or fewer where a write failed.
-pub fn write_whole(fd: i32, bytes: &[u8]) -> usize
-    ensures { IsPrefixLen result bytes.now }
+// Writes the bytes, and answers how many were taken: all of them, or fewer where a write took none. Where a write failed, some were taken.
+pub fn write_whole<W: Write>(writer: &mut W, bytes: &[u8]) -> io::Result<usize>
+    ensures counts { IfOk result (λ n. IsPrefixLen n bytes.now) }
+    ensures writes { WritesFront (W.contents writer.old) (W.contents writer.new) bytes.now result }
 {
     let mut done = 0;
     while done < bytes.len() {
-        let taken = write_some(fd, &bytes[done..]);
+        let taken = write_some(writer, &bytes[done..])?;
         if taken == 0 {
-            return done;
+            return Ok(done);
         }
         done += taken;
     }
-    done
+    Ok(done)
 }
 
 // What a read into these bytes said by its answer.
-fn file_read_of(got: isize, bytes: &[u8]) -> FileRead
+fn file_read_of(got: io::Result<usize>, bytes: &[u8]) -> FileRead
     ensures reads { result ≡ file_read_of got (length bytes.now) }
     ensures counts { IsPrefixLen (read_count result) bytes.now }
 {
-    if got < 0 {
-        FileRead::Failed
-    } else {
-        FileRead::Bytes(io::count(got, bytes))
+    match got {
+        Ok(count) => FileRead::Bytes(count.min(bytes.len())),
+        Err(error) => FileRead::Failed(error),
     }
 }
 
-// One read; at the file's end it reads 0 bytes.
-fn read_some(fd: i32, bytes: &mut [u8]) -> FileRead
-    ensures { IsPrefixLen (read_count result) bytes.new }
+// One read; at the file's end it reads 0 bytes. One that failed reads none.
+fn read_some<R: Read>(reader: &mut R, bytes: &mut [u8]) -> FileRead
+    ensures counts { IsPrefixLen (read_count result) bytes.new }
+    ensures reads { ReadsOnce (R.remaining reader.old) (R.remaining reader.new) bytes.new result }
 {
-    let mut tries = PATIENCE;
-    while tries > 0 {
-        let got = libc::read(fd, bytes);
-        if !is_interrupted(got) {
-            return file_read_of(got, bytes);
+    for _ in 1..PATIENCE {
+        match reader.read(bytes) {
+            Err(error) if is_interrupted(&error) => {}
+            got => return file_read_of(got, bytes),
         }
-        tries -= 1;
     }
-    FileRead::Failed
+    let got = reader.read(bytes);
+    file_read_of(got, bytes)
 }
 
 // One read behind the bytes that were read before, which stay.
-fn read_on(fd: i32, bytes: &mut [u8], done: usize) -> FileRead
+fn read_on<R: Read>(reader: &mut R, bytes: &mut [u8], done: usize) -> FileRead
     requires { done ≤ length bytes.old }
-    ensures { ReadsOn done bytes.old bytes.new result }
+    ensures on { ReadsOn done bytes.old bytes.new result }
+    ensures reads { ReadsOnce (R.remaining reader.old) (R.remaining reader.new) (drop done bytes.new) result }
 {
-    read_some(fd, &mut bytes[done..])
+    read_some(reader, &mut bytes[done..])
 }
 
-// Reads until the file ends or the buffer is full.
-pub fn read_file(fd: i32, bytes: &mut [u8]) -> FileRead
-    ensures { IsPrefixLen (read_count result) bytes.new }
+// Reads until the file ends or the buffer is full. Where a read failed, what was read before stands at the front.
+pub fn read_file<R: Read>(reader: &mut R, bytes: &mut [u8]) -> FileRead
+    ensures counts { IsPrefixLen (read_count result) bytes.new }
+    ensures reads { ReadsFront (R.remaining reader.old) (R.remaining reader.new) bytes.new result }
 {
     let mut done = 0;
     while done < bytes.len() {
-        match read_on(fd, bytes, done) {
-            FileRead::Failed => return FileRead::Failed,
+        match read_on(reader, bytes, done) {
+            FileRead::Failed(error) => return FileRead::Failed(error),
             FileRead::Bytes(more) => {
                 if more == 0 {
                     return FileRead::Bytes(done);

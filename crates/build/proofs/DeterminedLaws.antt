@@ -36,6 +36,7 @@ use Rattle.build.proofs.EncodingLaws.{one-encoding}
 named-from : (n k : ℕ) (c : List ℕ) → ProperFrom n k c → 1 ≤ length c → names c (get_or c 0 0) ≡ true
 named-from n k [] p h = absurd (omega arith)
 named-from n k (l ∷ u ∷ r) p h = names_in l u l r (omega arith) p.1
+named-from n k (l ∷ []) p h = elim p [ ]
 
 first-named : (n : ℕ) (c : List ℕ) → is_proper n c ≡ true → 1 ≤ length c → names c (get_or c 0 0) ≡ true
 unfolding is_proper

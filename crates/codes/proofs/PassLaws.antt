@@ -8,13 +8,12 @@ use mathlib.Core.List.{List, [], ◌∷◌, ◌++◌, append-nil, append_assoc}
 use lib.Dec.{eqb}
 use lib.ListN.{length, get_or, take, drop, set, length-set, get_or-eq_default}
 use lib.Seq.{take-suc-set}
-use borrow.Author.Tests.{eq-eqb, ne_eqb}
+use borrow.Author.Tests.{ne_eqb}
 use Rattle.laws.proofs.Tests.{leb-cases}
-use Rattle.question.specs.declared.token.Op.{Op}
 use Rattle.question.specs.declared.token.Op.TheVariants.{And, Or, Not}
 use Rattle.question.specs.Token.{Tok, word_t, op_t, open_t, close_t, other_t}
 use Rattle.codes.specs.declared.group.Grouping.{Grouping}
-use Rattle.codes.specs.Code.{word_code, and_code, or_code, not_code, open_code, close_code, no_code, op_code, code_of, codes_of}
+use Rattle.codes.specs.Code.{word_code, and_code, or_code, not_code, open_code, close_code, no_code, code_of, codes_of}
 use Rattle.codes.specs.Group.{goes_on, is_wide, opening, closing, levels_around, innermost, grouped_on, grouped}
 use Rattle.codes.specs.Grouping.{WideAt, PutsCode, GroupsCode, GroupsCodes}
 use Rattle.codes.proofs.CodeLaws.{get_d-within}

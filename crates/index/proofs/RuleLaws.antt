@@ -19,11 +19,11 @@ use Rattle.index.specs.Sound.{bad_directory, bad_word, bad_entry, bad_list, word
 use Rattle.index.proofs.SoundLaws.{words_end-next, lists_end-next, directory-facts}
 
 -- a test that answers whether a rule holds, refused and passed
-pub told-bad : (good bad : Bool) → good ≡ not bad → not good ≡ true → bad ≡ true
-told-bad good bad e h = sym (not-not bad) ∙ ap not (sym e) ∙ h
+pub told-bad : (good bad : Bool) → good ≡ not bad → good ≡ false → bad ≡ true
+told-bad good bad e h = sym (not-not bad) ∙ ap not (sym e ∙ h)
 
-pub told-good : (good bad : Bool) → good ≡ not bad → not good ≡ false → bad ≡ false
-told-good good bad e h = sym (not-not bad) ∙ ap not (sym e) ∙ h
+pub told-good : (good bad : Bool) → good ≡ not bad → good ≡ true → bad ≡ false
+told-good good bad e h = sym (not-not bad) ∙ ap not (sym e ∙ h)
 
 not-ltb : (a b : ℕ) → leb b a ≡ not (ltb a b)
 not-ltb a b =

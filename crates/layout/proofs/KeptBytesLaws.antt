@@ -39,6 +39,7 @@ pub cells_count : (n k : ℕ) (c : List ℕ) → ProperFrom n k c → length c �
 unfolding cell_singles cell_lowers
 cells_count n k [] p = refl
 cells_count n k (l ∷ u ∷ r) p = count-step l (eqb l u) (cell_singles r) (cell_lowers r) r (cells_count n (u + 2) r p.3)
+cells_count n k (l ∷ []) p = elim p [ ]
 
 -- Reference 3.4: the bytes of a kept list
 pub kept-length : (c : List ℕ) → length (kept_bytes c) ≡ 4 * (length (cell_singles c) + 2 * length (cell_lowers c))
@@ -68,6 +69,7 @@ parts_below n m h k (l ∷ u ∷ r) p =
       (below-cond m l (eqb l u) (cell_lowers r) (omega arith) w.1).1,
       (below-cond m u (eqb l u) (cell_uppers r) (omega arith) w.2).1,
     )
+parts_below n m h k (l ∷ []) p = elim p [ ]
 
 -- ---- where they begin
 
@@ -91,6 +93,7 @@ heads n k (l ∷ u ∷ r) p =
       (head-cond k (u + 2) l (eqb l u) (cell_singles r) p.0 (omega arith) w.0).0,
       (head-cond k (u + 2) l (eqb l u) (cell_lowers r) p.0 (omega arith) w.1).1,
     )
+heads n k (l ∷ []) p = elim p [ ]
 
 head_at : (k q : ℕ) (xs : List ℕ) → q < length xs → HeadFrom k (drop q xs) → k ≤ get_or xs q 0
 head_at k q xs h p = rw (drop-next xs q h) at p
@@ -129,6 +132,7 @@ module _ (n : ℕ) (S L U : List ℕ) where
   walk-cells k (l ∷ u ∷ r) zero p q e w es el eu = absurd (omega arith)
   walk-cells k (l ∷ u ∷ r) (suc m) p q e w es el eu =
       walk_step k l u r m p q (eqb l u) refl w es el eu (λ p q fs fl fu. walk-cells (u + 2) r m p q (omega arith) w.3 fs fl fu)
+  walk-cells k (l ∷ []) m p q e w es el eu = elim w [ ]
 
 pub walked-cells : (n : ℕ) (c : List ℕ) → is_proper n c ≡ true → walked (cell_singles c) (cell_lowers c) (cell_uppers c) ≡ c
 unfolding walked is_proper
@@ -148,6 +152,7 @@ pub cells-longer : (n k : ℕ) (c : List ℕ) → ProperFrom n k c → are_longe
 unfolding are_longer cell_lowers cell_uppers
 cells-longer n k [] p = refl
 cells-longer n k (l ∷ u ∷ r) p = longer-step l u (eqb l u) (cell_lowers r) (cell_uppers r) refl p.1 (cells-longer n (u + 2) r p.3)
+cells-longer n k (l ∷ []) p = elim p [ ]
 
 proper-longer : (n : ℕ) (c : List ℕ) → is_proper n c ≡ true → are_longer (cell_lowers c) (cell_uppers c) ≡ true
 unfolding is_proper

@@ -1,6 +1,4 @@
 pub mod ListsLaws
-pub mod PlaceRow
-pub mod ArrayCells
 pub mod KeysLaws
 pub mod DueLaws
 pub mod TallyLaws

@@ -6,11 +6,8 @@ use mathlib.Core.Path.{◌≡◌, refl, sym, ap, ◌∙◌, subst}
 use mathlib.Core.List.{List, [], ◌∷◌}
 use lib.ListN.{length}
 use borrow.Author.Tests.{lt-ltb, le-ltb, eq-eqb, ne_eqb}
-use types.Run.{OneOf, miss}
-use denote.Enum.Declared.{tag_of}
 use Rattle.refusal.specs.declared.Refusal.{Refusal}
 use Rattle.refusal.specs.declared.Refusal.TheVariants.{Grammar, Words, Brackets}
-use Rattle.question.specs.contracts.token.Token.{the_type}
 use Rattle.question.specs.declared.token.Op as op
 use Rattle.question.specs.declared.token.Token.{Token}
 use Rattle.question.specs.declared.token.Token.TheVariants.{End, Word, Op, Open, Close, Other}
@@ -74,50 +71,41 @@ bind-map s o g (Bad refusal) i = bind-bad s o (λ a z i. good (g a) z i) refusal
 
 -- ---- tokens that cannot be taken
 
-none-operand : (rule : Rule) (f d k : ℕ) (s : List ℕ) (t : Token) → OneOf (0 ∷ 2 ∷ 4 ∷ 5 ∷ []) (tag_of the_type t) →
+none-operand : (rule : Rule) (f d k : ℕ) (s : List ℕ) (t : Token) → ((p q : ℕ) → t ≡ Word p q → ⊥) → ((p : ℕ) → t ≡ Open p → ⊥) →
     operand rule (suc f) d k (headed s t) ≡ bad 9 (headed s t)
 unfolding operand
-none-operand rule f d k s (End p) h = refl
-none-operand rule f d k s (Word p q) h = absurd (miss (0 ∷ 2 ∷ 4 ∷ 5 ∷ []) 1 tt h)
-none-operand rule f d k s (Op o p q) h = refl
-none-operand rule f d k s (Open p) h = absurd (miss (0 ∷ 2 ∷ 4 ∷ 5 ∷ []) 3 tt h)
-none-operand rule f d k s (Close p) h = refl
-none-operand rule f d k s (Other p) h = refl
+none-operand rule f d k s (End p) h h' = refl
+none-operand rule f d k s (Word p q) h h' = absurd (h p q refl)
+none-operand rule f d k s (Op o p q) h h' = refl
+none-operand rule f d k s (Open p) h h' = absurd (h' p refl)
+none-operand rule f d k s (Close p) h h' = refl
+none-operand rule f d k s (Other p) h h' = refl
 
-none-links : (rule : Rule) (f d k : ℕ) (s : List ℕ) (t : Token) → OneOf (0 ∷ 1 ∷ 3 ∷ 4 ∷ 5 ∷ []) (tag_of the_type t) →
+none-links : (rule : Rule) (f d k : ℕ) (s : List ℕ) (t : Token) → ((o : op.Op) (p q : ℕ) → t ≡ Op o p q → ⊥) →
     links rule (suc f) d k (headed s t) ≡ good [] (headed s t) k
 unfolding links
 none-links rule f d k s (End p) h = refl
 none-links rule f d k s (Word p q) h = refl
-none-links rule f d k s (Op o p q) h = absurd (miss (0 ∷ 1 ∷ 3 ∷ 4 ∷ 5 ∷ []) 2 tt h)
+none-links rule f d k s (Op o p q) h = absurd (h o p q refl)
 none-links rule f d k s (Open p) h = refl
 none-links rule f d k s (Close p) h = refl
 none-links rule f d k s (Other p) h = refl
 
-none-closed : (k : ℕ) (e : Tree) (s : List ℕ) (t : Token) → OneOf (0 ∷ 1 ∷ 2 ∷ 3 ∷ 5 ∷ []) (tag_of the_type t) → closed e (headed s t) k ≡ bad 9 (headed s t)
+none-closed : (k : ℕ) (e : Tree) (s : List ℕ) (t : Token) → ((p : ℕ) → t ≡ Close p → ⊥) → closed e (headed s t) k ≡ bad 9 (headed s t)
 none-closed k e s (End p) h = refl
 none-closed k e s (Word p q) h = refl
 none-closed k e s (Op o p q) h = refl
 none-closed k e s (Open p) h = refl
-none-closed k e s (Close p) h = absurd (miss (0 ∷ 1 ∷ 2 ∷ 3 ∷ 5 ∷ []) 4 tt h)
+none-closed k e s (Close p) h = absurd (h p refl)
 none-closed k e s (Other p) h = refl
 
-none-ended : (k : ℕ) (e : Tree) (s : List ℕ) (t : Token) → OneOf (1 ∷ 2 ∷ 3 ∷ 4 ∷ 5 ∷ []) (tag_of the_type t) → ended e (headed s t) k ≡ bad 9 (headed s t)
-none-ended k e s (End p) h = absurd (miss (1 ∷ 2 ∷ 3 ∷ 4 ∷ 5 ∷ []) 0 tt h)
+none-ended : (k : ℕ) (e : Tree) (s : List ℕ) (t : Token) → ((p : ℕ) → t ≡ End p → ⊥) → ended e (headed s t) k ≡ bad 9 (headed s t)
+none-ended k e s (End p) h = absurd (h p refl)
 none-ended k e s (Word p q) h = refl
 none-ended k e s (Op o p q) h = refl
 none-ended k e s (Open p) h = refl
 none-ended k e s (Close p) h = refl
 none-ended k e s (Other p) h = refl
-
--- the end has no tokens behind it
-pub end-headed : (s : List ℕ) (t : Token) → OneOf (0 ∷ []) (tag_of the_type t) → headed s t ≡ []
-end-headed s (End p) h = refl
-end-headed s (Word p q) h = absurd (miss (0 ∷ []) 1 tt h)
-end-headed s (Op o p q) h = absurd (miss (0 ∷ []) 2 tt h)
-end-headed s (Open p) h = absurd (miss (0 ∷ []) 3 tt h)
-end-headed s (Close p) h = absurd (miss (0 ∷ []) 4 tt h)
-end-headed s (Other p) h = absurd (miss (0 ∷ []) 5 tt h)
 
 -- ---- the readers, by the token at a place
 
@@ -166,17 +154,17 @@ module _ {s : List ℕ} {d k at : ℕ} {t : Token} (nt : NextToken s at t) where
             (λ g le. record { number = 11; left = headed s (Open p); says = rw (heads nt e, eq-eqb d 0 h); is = refl });
       }
 
-  pub operand-none : OneOf (0 ∷ 2 ∷ 4 ∷ 5 ∷ []) (tag_of the_type t) → {v : ℕ} → v ≡ start_of t → ReadsOperand s d k at (Bad (Grammar v))
-  operand-none o {v} e =
+  pub operand-none : ((p q : ℕ) → t ≡ Word p q → ⊥) → ((p : ℕ) → t ≡ Open p → ⊥) → {v : ℕ} → v ≡ start_of t → ReadsOperand s d k at (Bad (Grammar v))
+  operand-none o o' {v} e =
       rw e
       record {
         ahead = tt;
         reads =
             λ rule f lt. above (λ f. BadAt s (Grammar (start_of t)) (operand rule f d k (tokens_at s at))) f (2 * (length s - at)) lt
-            (λ g le. refused nt _ (rw (heads nt refl) (none-operand rule g d k s t o)));
+            (λ g le. refused nt _ (rw (heads nt refl) (none-operand rule g d k s t o o')));
       }
 
-  pub links-none : at ≤ length s → k ≤ 16 → OneOf (0 ∷ 1 ∷ 3 ∷ 4 ∷ 5 ∷ []) (tag_of the_type t) → ReadsLinks s d k at (At at k)
+  pub links-none : at ≤ length s → k ≤ 16 → ((o : op.Op) (p q : ℕ) → t ≡ Op o p q → ⊥) → ReadsLinks s d k at (At at k)
   links-none h i o =
       record {
         ahead = omega arith;
@@ -213,7 +201,7 @@ module _ {s : List ℕ} {d k at : ℕ} {t : Token} (nt : NextToken s at t) where
                 (λ x. record { got = part x; says = rw (nc.heads ∙ ap (headed s) ec) }));
           }
 
-      pub operand-unclosed : OneOf (0 ∷ 1 ∷ 2 ∷ 3 ∷ 5 ∷ []) (tag_of the_type c) → {v : ℕ} → v ≡ start_of c → ReadsOperand s d k at (Bad (Grammar v))
+      pub operand-unclosed : ((q : ℕ) → c ≡ Close q → ⊥) → {v : ℕ} → v ≡ start_of c → ReadsOperand s d k at (Bad (Grammar v))
       unfolding refusal_of
       operand-unclosed o {v} ev =
           rw ev
@@ -293,11 +281,11 @@ module _ {s : List ℕ} {p : Read} (hp : ReadsQuestion s 8 0 0 p) where
     got : (rule : Rule) → GoodAt s n j (question rule (2 * length s + 2) 8 0 (tokens s))
     got rule = subst (λ (y : Read). ReadAs s y (question rule (2 * length s + 2) 8 0 (tokens s))) e (level rule)
 
-    pub whole-ended : OneOf (0 ∷ []) (tag_of the_type c) → ReadsWhole s (Accepted j)
+    pub whole-ended : {q : ℕ} → c ≡ End q → ReadsWhole s (Accepted j)
     unfolding whole
-    whole-ended o rule = rw ((got rule).says, nc.heads, end-headed s c o)
+    whole-ended ec rule = rw ((got rule).says, nc.heads ∙ ap (headed s) ec)
 
-    pub whole-more : OneOf (1 ∷ 2 ∷ 3 ∷ 4 ∷ 5 ∷ []) (tag_of the_type c) → {v : ℕ} → v ≡ start_of c → ReadsWhole s (Refused (Grammar v))
+    pub whole-more : ((p : ℕ) → c ≡ End p → ⊥) → {v : ℕ} → v ≡ start_of c → ReadsWhole s (Refused (Grammar v))
     unfolding whole refusal_of
     whole-more o {v} ev rule =
         rw ((got rule).says, nc.heads, none-ended j (got rule).got s c o) (ap (λ (i : ℕ). Refused (Grammar i)) (ev ∙ place_is s n c nc.lies))

@@ -96,6 +96,7 @@ unfolding and_first first_group later_groups from_left
 and-first-plain t [] h = refl
 and-first-plain t (link And u ∷ ls) h = and-first-plain (pair And t u) ls h
 and-first-plain t (link Not u ∷ ls) h = and-first-plain (pair Not t u) ls h
+and-first-plain t (link Or u ∷ ls) h = elim h [ ]
 
 -- one of the operands has it
 abbrev some : (List ℕ → ℕ → Bool) → List Link → ℕ → Bool

@@ -5,7 +5,7 @@
 --   word-limit-read     it is refused by 10 exactly where a word stands behind 16 words, where an operand must stand;
 --   bracket-limit-read  and by 11 exactly where a bracket opens behind 8 that are open, where an operand must stand.
 -- What the whole call answers then is in ParsedLaws (`grammar-asked`, `word-limit-asked`, `bracket-limit-asked`).
-use Prim.Native.Nat.{ℕ, ◌+◌, ◌-◌, ◌≤◌}
+use Prim.Native.Nat.{ℕ, ◌≤◌}
 use native.Mathlib.Omega.{arith}
 use mathlib.Core.Path.{◌≡◌, refl, sym, ap, ◌∙◌}
 use mathlib.Core.List.{List, [], ◌∷◌, ◌++◌}

@@ -1,5 +1,5 @@
 -- Laws of the pass over a question's tokens: what is written so far, with what the tokens left come to, is the question's codes and words.
-use Prim.Native.Nat.{ℕ, zero, suc, ◌+◌, ◌-◌, ◌*◌, ◌≤◌, ◌<◌}
+use Prim.Native.Nat.{ℕ, zero, suc, ◌+◌, ◌*◌, ◌≤◌, ◌<◌}
 use native.Mathlib.Omega.{arith}
 use native.Mathlib.Numerals.{add-one}
 use native.Mathlib.Decide.{ℕ_discrete}
@@ -7,8 +7,6 @@ use mathlib.Core.Path.{◌≡◌, refl, sym, ap, ◌∙◌, subst}
 use mathlib.Core.List.{List, [], ◌∷◌, ◌++◌, append_assoc, append-nil}
 use lib.ListN.{length, get_or, take, drop, set, length-set, length-drop}
 use lib.Seq.{take-suc-set}
-use types.Run.{OneOf, miss}
-use denote.Enum.Declared.{tag_of}
 use Rattle.laws.proofs.Tests.{leb-cases}
 use Rattle.index.specs.Format.{word_count}
 use Rattle.index.specs.Sound.{Sound}
@@ -17,8 +15,6 @@ use Rattle.directory.specs.Regions.{RegionsOf}
 use Rattle.directory.specs.declared.Standing.TheVariants.{Here, Absent}
 use Rattle.directory.specs.Standing.{standing_of}
 use Rattle.directory.proofs.StandingLaws.{stands_at, here-has, absent-has}
-use Rattle.question.specs.contracts.token.Token.{the_type}
-use Rattle.question.proofs.ReaderLaws.{end-headed}
 use Rattle.question.specs.declared.token.Token.{Token}
 use Rattle.question.specs.declared.token.Token.TheVariants.{End, Word, Op, Open, Close, Other}
 use Rattle.question.specs.Token.{cut, tokens_at, tokens}
@@ -73,20 +69,20 @@ module _ {s : List ℕ} {at : ℕ} where
       let w : TokenWithin at (length s) (Word p q) = subst (TokenWithin at (length s)) e next.lies in
       record { lies = w; coded = record { ahead = omega arith; inside = w.2; codes = rw h }; words = rw h }
 
-  pub next-other : {t : Token} → NextToken s at t → OneOf (2 ∷ 3 ∷ 4 ∷ 5 ∷ []) (tag_of the_type t) → NextOther s at t
+  pub next-other : {t : Token} → NextToken s at t → ((p : ℕ) → t ≡ End p → ⊥) → ((p q : ℕ) → t ≡ Word p q → ⊥) → NextOther s at t
   unfolding codes_of token_words
   next-other {t} next = go t next.heads next.lies
     where
-      go : (t : Token) → tokens_at s at ≡ headed s t → TokenWithin at (length s) t → OneOf (2 ∷ 3 ∷ 4 ∷ 5 ∷ []) (tag_of the_type t) → NextOther s at t
-      go (End p) e w h = absurd (miss (2 ∷ 3 ∷ 4 ∷ 5 ∷ []) 0 tt h)
-      go (Word p q) e w h = absurd (miss (2 ∷ 3 ∷ 4 ∷ 5 ∷ []) 1 tt h)
-      go (Op o p q) e w h = record { coded = record { ahead = omega arith; inside = w.2; codes = rw e }; words = rw e }
-      go (Open p) e w h = record { coded = record { ahead = omega arith; inside = omega arith; codes = rw e }; words = rw e }
-      go (Close p) e w h = record { coded = record { ahead = omega arith; inside = omega arith; codes = rw e }; words = rw e }
-      go (Other p) e w h = record { coded = record { ahead = omega arith; inside = omega arith; codes = rw e }; words = rw e }
+      go : (t : Token) → tokens_at s at ≡ headed s t → TokenWithin at (length s) t → ((p : ℕ) → t ≡ End p → ⊥) → ((p q : ℕ) → t ≡ Word p q → ⊥) → NextOther s at t
+      go (End p) e w h h' = absurd (h p refl)
+      go (Word p q) e w h h' = absurd (h' p q refl)
+      go (Op o p q) e w h h' = record { coded = record { ahead = omega arith; inside = w.2; codes = rw e }; words = rw e }
+      go (Open p) e w h h' = record { coded = record { ahead = omega arith; inside = omega arith; codes = rw e }; words = rw e }
+      go (Close p) e w h h' = record { coded = record { ahead = omega arith; inside = omega arith; codes = rw e }; words = rw e }
+      go (Other p) e w h h' = record { coded = record { ahead = omega arith; inside = omega arith; codes = rw e }; words = rw e }
 
-  pub next-none : {t : Token} → NextToken s at t → OneOf (0 ∷ []) (tag_of the_type t) → tokens_at s at ≡ []
-  next-none {t} next h = next.heads ∙ end-headed s t h
+  pub next-none : {t : Token} {p : ℕ} → NextToken s at t → t ≡ End p → tokens_at s at ≡ []
+  next-none next e = next.heads ∙ ap (headed s) e
 
 -- ---- codes and slots, one after the other
 

@@ -1,4 +1,3 @@
-use Prim.Native.Nat.{◌-◌}
 use mathlib.Core.Path.{sym, ◌∙◌}
 use native.Mathlib.Omega.{arith}
 use Rattle.word.proofs.WordLaws.{order-start, order-equal, order-differ, order_same, order-prefix, order-longer}

@@ -2,7 +2,6 @@
 use mathlib.Core.Path.{sym, ap, ◌∙◌}
 use mathlib.Core.Bool.{not}
 use native.Mathlib.Omega.{arith}
-use borrow.Author.Tests.{not-true, not-false}
 use Rattle.word.proofs.WordLaws.{word-short, word-long, word-bytes-fail, word_else}
 use Rattle.word.proofs.is_word.Goals as goal
 

@@ -1,5 +1,5 @@
 -- What ends before a and what begins by b is counted on each side; of what begins by b, the others overlap.
-use Prim.Native.Nat.{ℕ, ◌-◌, ◌+◌, ◌≤◌, ◌<◌}
+use Prim.Native.Nat.{ℕ, ◌+◌, ◌≤◌, ◌<◌}
 use native.Mathlib.Omega.{arith}
 use mathlib.Core.List.{List}
 use Rattle.limits.specs.Limits.{record_max}

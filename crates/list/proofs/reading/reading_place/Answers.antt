@@ -1,5 +1,4 @@
 -- Both counts are sought.
-use Prim.Native.Nat.{◌-◌}
 use mathlib.Core.Path.{ap₂}
 use Rattle.list.proofs.WalkLaws.{place_at}
 use Rattle.list.proofs.reading.reading_place.Goals as goal
