@@ -3,10 +3,8 @@ use Prim.Native.Nat.{◌-◌, ◌≤◌}
 use lib.ListN.{length}
 use Rattle.cases_query.proofs.ask_case.print_changed.Given as goal
 
--- TODO parameters ['cells', 'i₀', 't3', 'i'] against ['l.cells', 'l.initial.i', 'l.i']
 abbrev pub invariant-loop-i : goal.invariant-loop-i
-invariant-loop-i l = i ≤ length l.cells
+invariant-loop-i l = l.i ≤ length l.cells
 
--- TODO parameters ['cells', 'i₀', 't3', 'i'] against ['l.cells', 'l.initial.i', 'l.i']
 abbrev pub decreases-loop-i : goal.decreases-loop-i
-decreases-loop-i l = length l.cells - i
+decreases-loop-i l = length l.cells - l.i

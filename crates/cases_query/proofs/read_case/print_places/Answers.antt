@@ -1,18 +1,16 @@
-use Prim.Native.Nat.{ℕ, ◌-◌, ◌≤◌, ◌<◌}
+use Prim.Native.Nat.{ℕ, ◌≤◌, ◌<◌}
+use mathlib.Core.Path.{◌≡◌, refl}
 use native.Mathlib.Omega.{arith}
-use mathlib.Core.List.{[], ◌∷◌}
 use lib.ListN.{length}
-use types.Run.{OneOf, miss}
-use denote.Enum.Declared.{tag_of}
-use Rattle.question.specs.contracts.token.Token.{the_type}
 use Rattle.question.specs.declared.token.Token.{Token}
 use Rattle.question.specs.declared.token.Token.TheVariants.{End, Word, Op, Open, Close, Other}
 use Rattle.question.specs.Next.{TokenWithin, end_of}
 use Rattle.cases_query.proofs.read_case.print_places.Goals as goal
 use Rattle.cases_query.proofs.read_case.print_places.Goals.{In_default}
 
-lies-ahead : (at len : ℕ) (t : Token) → OneOf (1 ∷ 2 ∷ 3 ∷ 4 ∷ 5 ∷ []) (tag_of the_type t) → TokenWithin at len t → (at < end_of t) × (end_of t ≤ len)
-lies-ahead at len (End p) h w = absurd (miss (1 ∷ 2 ∷ 3 ∷ 4 ∷ 5 ∷ []) 0 tt h)
+-- a token that is not the end lies ahead
+lies-ahead : (at len : ℕ) (t : Token) → ((p : ℕ) → t ≡ End p → ⊥) → TokenWithin at len t → (at < end_of t) × (end_of t ≤ len)
+lies-ahead at len (End p) h w = absurd (h p refl)
 lies-ahead at len (Word p q) h w = (omega arith, omega arith)
 lies-ahead at len (Op o p q) h w = (omega arith, omega arith)
 lies-ahead at len (Open p) h w = (omega arith, omega arith)
@@ -21,7 +19,7 @@ lies-ahead at len (Other p) h w = (omega arith, omega arith)
 
 ahead : (c : In_default) → let t = c.next_token-token.result in
     (c.loop-at.at < end_of t) × (end_of t ≤ length c.args.question.now)
-ahead c = lies-ahead _ _ c.next_token-token.result c.in_default.keys2 c.next_token-token.ensures.lies
+ahead c = lies-ahead _ _ c.next_token-token.result c.in_default.not-End c.next_token-token.ensures.lies
 
 pub token_end-at-requires : goal.token_end-at-requires
 token_end-at-requires c =
