@@ -1,4 +1,4 @@
-// The calls for C programs (Reference 8): numbers and slices in, a struct of numbers out by value, so that a refused call writes nothing anywhere.
+// The calls behind those for C programs (Reference 8; naburain_c exports them): numbers and slices in, a struct of numbers out by value, so that a refused call writes nothing anywhere.
 #![tactic(auto)]
 
 ghost use Rattle.std.specs.Prelude.{◌≡◌};
@@ -152,24 +152,21 @@ fn answer_result(answer: Answer) -> AnsweredResult
 }
 
 // Reference 8.1: refusals 1 to 5.
-#[unsafe(no_mangle)]
-pub extern "C" fn naburain_check(index: &[u8]) -> CheckedResult
+pub fn naburain_check(index: &[u8]) -> CheckedResult
     ensures { result ≡ check_result (check_of index.now) }
 {
     check_result(index::check::check_index(index))
 }
 
 // Reference 8.2: refusals 1 to 5, 21.
-#[unsafe(no_mangle)]
-pub extern "C" fn naburain_lookup(index: &[u8], word: &[u8]) -> FoundResult
+pub fn naburain_lookup(index: &[u8], word: &[u8]) -> FoundResult
     ensures { result ≡ lookup_result (lookup_of index.now word.now) }
 {
     lookup_result(directory::find::look_up(index, word))
 }
 
 // Reference 8.3: where the word of an entry stands in the index; refusals 1 to 5, 14.
-#[unsafe(no_mangle)]
-pub extern "C" fn naburain_word(index: &[u8], entry: u32) -> PartResult
+pub fn naburain_word(index: &[u8], entry: u32) -> PartResult
     ensures { result ≡ part_result index.now entry }
 {
     match directory::entry::entry_refusal(index, entry) {
@@ -192,44 +189,35 @@ pub extern "C" fn naburain_word(index: &[u8], entry: u32) -> PartResult
 }
 
 // Reference 8.4: refusals 1 to 5, 14, 20.
-#[unsafe(no_mangle)]
-pub extern "C" fn naburain_probe(index: &[u8], entry: u32, a: u32, b: u32) -> ProbedResult
+pub fn naburain_probe(index: &[u8], entry: u32, a: u32, b: u32) -> ProbedResult
     ensures { result ≡ probe_result (probe_of index.now entry a b) }
 {
     probe_result(directory::probe::probe_entry(index, entry, a, b))
 }
 
 // Reference 8.7: refusals 15, 12.
-#[unsafe(no_mangle)]
-pub extern "C" fn naburain_to_intervals(numbers: &[u32], cells: &mut [u32]) -> WrittenResult
+pub fn naburain_to_intervals(numbers: &[u32], cells: &mut [u32]) -> WrittenResult
     ensures { IntervalsExported numbers.now cells.old cells.new result }
 {
     write_result(convert::to_intervals::to_intervals(numbers, cells))
 }
 
 // Reference 8.8: refusals 16, 12.
-#[unsafe(no_mangle)]
-pub extern "C" fn naburain_to_numbers(cells: &[u32], numbers: &mut [u32]) -> WrittenResult
+pub fn naburain_to_numbers(cells: &[u32], numbers: &mut [u32]) -> WrittenResult
     ensures { NumbersExported cells.now numbers.old numbers.new result }
 {
     write_result(convert::to_numbers::to_numbers(cells, numbers))
 }
 
 // Reference 8.5: refusals 1 to 5, 13, 14, 12.
-#[unsafe(no_mangle)]
-pub extern "C" fn naburain_union_scan_line(
-    index: &[u8],
-    entries: &[u32],
-    cells: &mut [u32],
-) -> AnsweredResult
+pub fn naburain_union_scan_line(index: &[u8], entries: &[u32], cells: &mut [u32]) -> AnsweredResult
     ensures { JoinExported union_of index.now entries.now cells.old cells.new result }
 {
     answer_result(join::join::union_scan_line(index, entries, cells))
 }
 
 // Reference 8.5: refusals 1 to 5, 13, 14, 12.
-#[unsafe(no_mangle)]
-pub extern "C" fn naburain_union_active_interval(
+pub fn naburain_union_active_interval(
     index: &[u8],
     entries: &[u32],
     cells: &mut [u32],
@@ -240,8 +228,7 @@ pub extern "C" fn naburain_union_active_interval(
 }
 
 // Reference 8.5: refusals 1 to 5, 13, 14, 12.
-#[unsafe(no_mangle)]
-pub extern "C" fn naburain_intersection_twin_heap(
+pub fn naburain_intersection_twin_heap(
     index: &[u8],
     entries: &[u32],
     cells: &mut [u32],
@@ -252,8 +239,7 @@ pub extern "C" fn naburain_intersection_twin_heap(
 }
 
 // Reference 8.5: refusals 1 to 5, 13, 14, 12.
-#[unsafe(no_mangle)]
-pub extern "C" fn naburain_intersection_probing(
+pub fn naburain_intersection_probing(
     index: &[u8],
     entries: &[u32],
     cells: &mut [u32],
@@ -264,21 +250,14 @@ pub extern "C" fn naburain_intersection_probing(
 }
 
 // Reference 8.6: refusals 1 to 5, 22, 6, 7, 8, 9 to 11, 12.
-#[unsafe(no_mangle)]
-pub extern "C" fn naburain_ask(
-    index: &[u8],
-    rule: u32,
-    question: &[u8],
-    cells: &mut [u32],
-) -> AnsweredResult
+pub fn naburain_ask(index: &[u8], rule: u32, question: &[u8], cells: &mut [u32]) -> AnsweredResult
     ensures { AskExported rule index.now question.now cells.old cells.new result }
 {
     answer_result(query::ask::ask(index, rule, question, cells))
 }
 
 // Reference 8.9: refusals 19 with 0, 17, 18, 15, 19 with 1, 12.
-#[unsafe(no_mangle)]
-pub extern "C" fn naburain_build(
+pub fn naburain_build(
     n: u32,
     words: &[u8],
     counts: &[u32],

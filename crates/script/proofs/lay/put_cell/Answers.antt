@@ -1,0 +1,13 @@
+-- Each byte lies within.
+use native.Mathlib.Omega.{arith}
+use lib.ListN.{length-set}
+use Rattle.script.proofs.lay.put_cell.Goals as goal
+
+pub bounds-bytes-at-2 : goal.bounds-bytes-at-2
+bounds-bytes-at-2 c = simp length-set (omega arith)
+
+pub bounds-bytes-at-3 : goal.bounds-bytes-at-3
+bounds-bytes-at-3 c = simp length-set (omega arith)
+
+pub bounds-bytes-at-4 : goal.bounds-bytes-at-4
+bounds-bytes-at-4 c = simp length-set (omega arith)
