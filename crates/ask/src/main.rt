@@ -91,20 +91,41 @@ fn answer_input<W: Write>(index: &[u8], input: &[u8], writer: &mut W) -> io::Res
     Ok(true)
 }
 
-// One byte more than is taken of each shows that there is more. What cannot be said on standard error is not said.
+// What an error says in the system's words, without the number that std puts behind them.
+fn in_words(said: &str) -> &str {
+    match said.split_once(" (os error ") {
+        Some((words, _)) => words,
+        None => said,
+    }
+}
+
+// Says on standard error what could not be done, and why. What cannot be said there is not said.
+fn complain(rt: &HostRuntime, what: &str, error: &io::Error) {
+    let said = match format!(in rt.alloc(); "{error}") {
+        Ok(why) => eprintln!(rt; "ask: {what}: {}", in_words(&why)),
+        Err(_) => eprintln!(rt; "ask: {what}"),
+    };
+    let _ = said;
+}
+
+// Says the same where there is no error to give the reason.
+fn complain_of(rt: &HostRuntime, what: &str) {
+    let _ = eprintln!(rt; "ask: {what}");
+}
+
+// One byte more than is taken of each shows that there is more.
 fn main(rt: HostRuntime) {
     let mut index = [0u8; INDEX_MOST + 1];
     let index_size = read_index(&rt, &mut index);
     let mut input = [0u8; INPUT_MOST + 1];
-    let said = match read_file(&mut rt.stdin(), &mut input) {
-        FileRead::Failed(error) => eprintln!(rt; "ask: cannot read the questions: {error}"),
+    match read_file(&mut rt.stdin(), &mut input) {
+        FileRead::Failed(error) => complain(&rt, "cannot read the questions", &error),
         FileRead::Bytes(size) => {
             match answer_input(&index[..index_size], &input[..size], &mut rt.stdout()) {
-                Err(error) => eprintln!(rt; "ask: cannot write the answers: {error}"),
-                Ok(false) => eprintln!(rt; "ask: cannot write the answers"),
-                Ok(true) => Ok(()),
+                Err(error) => complain(&rt, "cannot write the answers", &error),
+                Ok(false) => complain_of(&rt, "cannot write the answers"),
+                Ok(true) => {}
             }
         }
-    };
-    let _ = said;
+    }
 }

@@ -1,4 +1,3 @@
-use Prim.Native.Nat.{◌-◌}
 use lib.ListN.{length-set}
 use Rattle.heap.proofs.SiftLaws.{down-start, down_step, down-stop, down-end}
 use Rattle.heap.proofs.replace_least.Goals as goal

@@ -1,4 +1,3 @@
-use Prim.Native.Nat.{◌-◌}
 use mathlib.Core.Path.{refl, ◌∙◌}
 use native.Mathlib.Omega.{arith}
 use borrow.Author.Tests.{not-true, not-false}
@@ -35,7 +34,7 @@ returns-then-not-sense-clause-steady c =
     let called = c.sense_of-sense in
     let e = c.smaller.ensures in
     rw e (probe-out asked.within asked.order c.loop-k.k c.loop-k-test.true
-            (not-true _ c.if-not-sense.true) called.ensures.steady)
+    (not-true _ c.if-not-sense.true) called.ensures.steady)
 
 pub returns-then-not-sense-clause-near : goal.returns-then-not-sense-clause-near
 returns-then-not-sense-clause-near c =

@@ -1,4 +1,3 @@
-use Prim.Native.Nat.{◌-◌}
 use mathlib.Core.Path.{refl, ◌∙◌}
 use native.Mathlib.Omega.{arith}
 use Rattle.probing.proofs.ProbingLaws.{within-later, cut-start, cut_fits, cut-next, cut-end-fits, cut-end, cells-put-long}

@@ -12,10 +12,10 @@ returns-then-k-j-clause-steady c =
     let w = c.requires.within in
     let m = w.high in
     record {
-        later = omega arith;
-        near = omega arith;
-        same = λ y f g. rw c.if-k-j.true (w.covers y f (omega arith));
-      }
+      later = omega arith;
+      near = omega arith;
+      same = λ y f g. rw c.if-k-j.true (w.covers y f (omega arith));
+    }
 
 pub sense_in-requires-clause-entry : goal.sense_in-requires-clause-entry
 sense_in-requires-clause-entry c =

@@ -1,4 +1,3 @@
-use Prim.Native.Nat.{◌-◌}
 use native.Mathlib.Omega.{arith}
 use Rattle.merge.proofs.ListsLaws.{asked_entry}
 use Rattle.probing.proofs.ProbingLaws.{best-start, best-same, best-other}
@@ -14,8 +13,8 @@ loop-j-preserved c =
     let h = c.loop-j-test.true in
     let e = c.interval_count-count.ensures.is in
     elim c.if-count-fewest.branch [
-      then-count-fewest w ↦ rw (w.best-is, w.fewest-is) (best-other inv h e w.if-count-fewest.true)
-    | else-count-fewest w ↦ rw (w.best-is, w.fewest-is) (best-same inv h e w.if-count-fewest.false)
+      | then-count-fewest w ↦ rw (w.best-is, w.fewest-is) (best-other inv h e w.if-count-fewest.true)
+      | else-count-fewest w ↦ rw (w.best-is, w.fewest-is) (best-same inv h e w.if-count-fewest.false)
     ]
 
 pub returns : goal.returns

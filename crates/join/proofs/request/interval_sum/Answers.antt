@@ -1,4 +1,3 @@
-use Prim.Native.Nat.{◌-◌}
 use native.Mathlib.Omega.{arith}
 use Rattle.merge.proofs.ListsLaws.{asked_entry}
 use Rattle.join.proofs.JoinBound.{sum-next, sum-end}

@@ -26,10 +26,10 @@ returns-then-l-u c = rw (eq-eqb c.args.l c.args.u c.if-l-u.true)
 
 pub returns-else-l-u : goal.returns-else-l-u
 returns-else-l-u c = rw (ne_eqb c.args.l c.args.u c.if-l-u.false) record {
-      puts = c.put_cell-else-l-u-2.ensures
-          ∙ ap (λ (o : List ℕ). sets o c.args.at.upper (cell_bytes c.args.u)) c.put_cell-else-l-u.ensures;
-      moves = refl;
-    }
+  puts = c.put_cell-else-l-u-2.ensures
+      ∙ ap (λ (o : List ℕ). sets o c.args.at.upper (cell_bytes c.args.u)) c.put_cell-else-l-u.ensures;
+  moves = refl;
+}
 
 pub put_cell-requires : goal.put_cell-requires
 put_cell-requires c = single (goal.at.put_cell-requires c).Then-l-u

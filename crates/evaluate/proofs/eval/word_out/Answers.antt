@@ -1,0 +1,22 @@
+-- Where no word stands, or no slot is left for one, it is not said to be out.
+use mathlib.Core.Path.{sym}
+use Rattle.laws.proofs.Tests.{true-false}
+use Rattle.evaluate.proofs.eval.word_out.Goals as goal
+
+pub returns-then-code_at-ne-WORD_CODE-clause-word : goal.returns-then-code_at-ne-WORD_CODE-clause-word
+returns-then-code_at-ne-WORD_CODE-clause-word c = λ e. true-false (sym e)
+
+pub returns-then-code_at-ne-WORD_CODE-clause-slot : goal.returns-then-code_at-ne-WORD_CODE-clause-slot
+returns-then-code_at-ne-WORD_CODE-clause-slot c = λ e. true-false (sym e)
+
+pub returns-then-code_at-ne-WORD_CODE-clause-out : goal.returns-then-code_at-ne-WORD_CODE-clause-out
+returns-then-code_at-ne-WORD_CODE-clause-out c = λ e. true-false (sym e)
+
+pub returns-then-k-ge-QUESTION_WORDS_MAX-clause-word : goal.returns-then-k-ge-QUESTION_WORDS_MAX-clause-word
+returns-then-k-ge-QUESTION_WORDS_MAX-clause-word c = λ e. true-false (sym e)
+
+pub returns-then-k-ge-QUESTION_WORDS_MAX-clause-slot : goal.returns-then-k-ge-QUESTION_WORDS_MAX-clause-slot
+returns-then-k-ge-QUESTION_WORDS_MAX-clause-slot c = λ e. true-false (sym e)
+
+pub returns-then-k-ge-QUESTION_WORDS_MAX-clause-out : goal.returns-then-k-ge-QUESTION_WORDS_MAX-clause-out
+returns-then-k-ge-QUESTION_WORDS_MAX-clause-out c = λ e. true-false (sym e)

@@ -1,0 +1,14 @@
+-- The first m lists are out up to `out`, and of the row hints alone are moved.
+use Prim.Native.Nat.{◌-◌, ◌≤◌}
+use mathlib.Core.Bool.{false}
+use Rattle.list.specs.Sense.{Steady}
+use Rattle.slots.specs.Row.{slots_in, entries_at, HintsMoved}
+use Rattle.slots.specs.Having.{in_entries}
+use Rattle.senses.proofs.kept.sense_entries.Given as goal
+
+abbrev pub invariant-loop-m : goal.invariant-loop-m
+invariant-loop-m l =
+    (l.m ≤ l.count) × HintsMoved l.initial.row l.row × Steady (in_entries l.index (entries_at (slots_in l.initial.row) l.j).first l.m) l.x false l.out
+
+abbrev pub decreases-loop-m : goal.decreases-loop-m
+decreases-loop-m l = l.count - l.m
