@@ -1,0 +1,86 @@
+-- An accepted question is within the limits, so there is room for its codes and its slots. The row is blank before, so that the halves that are not filled
+-- have no entry.
+use native.Mathlib.Omega.{arith}
+use mathlib.Core.Path.{refl}
+use Rattle.question.specs.Rules.{rule_of}
+use Rattle.question.proofs.ParsedLaws.{accepted-within, asked-parsed}
+use Rattle.source.specs.Source.{satisfying}
+use Rattle.source.proofs.AskLaws.{listing-answers}
+use Rattle.slots.proofs.RowLaws.{zeros-blank}
+use Rattle.query.proofs.AskLaws.{compiled-short, compiled-asked, compiled-ready, halves-source}
+use Rattle.query.proofs.ask.answer_accepted.Goals as goal
+
+pub compile-compiled-requires-clause-main : goal.compile-compiled-requires-clause-main
+compile-compiled-requires-clause-main c =
+    let over = c.requires.halves in
+    over.main-sound
+
+pub compile-compiled-requires-clause-arrivals : goal.compile-compiled-requires-clause-arrivals
+compile-compiled-requires-clause-arrivals c =
+    let over = c.requires.halves in
+    over.arrivals-sound
+
+pub compile-compiled-requires-clause-both : goal.compile-compiled-requires-clause-both
+compile-compiled-requires-clause-both c =
+    let over = c.requires.halves in
+    over.both
+
+pub compile-compiled-requires-clause-room : goal.compile-compiled-requires-clause-room
+compile-compiled-requires-clause-room c =
+    let a = c.args in
+    let over = c.requires.halves in
+    let is = c.requires.asked in
+    let within = accepted-within (rule_of a.rule) a.question.now is.tree is.words
+    (asked-parsed a.rule a.question.now is.tree is.words is.is).1 in
+    omega arith
+
+pub compile-compiled-requires-clause-long : goal.compile-compiled-requires-clause-long
+compile-compiled-requires-clause-long c = refl
+
+pub compile-compiled-requires-clause-few : goal.compile-compiled-requires-clause-few
+compile-compiled-requires-clause-few c =
+    let a = c.args in
+    let over = c.requires.halves in
+    let is = c.requires.asked in
+    let within = accepted-within (rule_of a.rule) a.question.now is.tree is.words
+    (asked-parsed a.rule a.question.now is.tree is.words is.is).1 in
+    omega arith
+
+pub answer_codes-requires-clause-asked : goal.answer_codes-requires-clause-asked
+answer_codes-requires-clause-asked c =
+    let a = c.args in
+    let over = c.requires.halves in
+    let is = c.requires.asked in
+    let made = c.compile-compiled.ensures in
+    compiled-asked (made.codes, made.slots) over a.rule is.tree is.words is.is refl zeros-blank
+
+pub answer_codes-requires-clause-short : goal.answer_codes-requires-clause-short
+answer_codes-requires-clause-short c =
+    let a = c.args in
+    let over = c.requires.halves in
+    let is = c.requires.asked in
+    let made = c.compile-compiled.ensures in
+    compiled-short (made.codes, made.slots) over a.rule is.tree is.words is.is refl
+
+pub answer_codes-requires-clause-ready : goal.answer_codes-requires-clause-ready
+answer_codes-requires-clause-ready c =
+    let a = c.args in
+    let over = c.requires.halves in
+    let is = c.requires.asked in
+    let made = c.compile-compiled.ensures in
+    let of = halves-source a.halves a.main.now a.arrivals.now in
+    record {
+      source = of.0;
+      last = of.1.last;
+      tree = is.tree;
+      ready = compiled-ready (made.codes, made.slots) over a.rule is.tree is.words is.is zeros-blank of.0 of.1;
+    }
+
+pub returns : goal.returns
+returns c source of =
+    let a = c.args in
+    let is = c.requires.asked in
+    let made = c.compile-compiled.ensures in
+    listing-answers (satisfying source) is.is
+    (c.answer_codes.ensures source of.last is.tree
+    (compiled-ready (made.codes, made.slots) c.requires.halves a.rule is.tree is.words is.is zeros-blank source of))

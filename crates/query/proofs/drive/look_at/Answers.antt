@@ -1,0 +1,50 @@
+-- The senses of all the words of each tree that the codes read as are known at x.
+use mathlib.Core.Path.{◌∙◌}
+use Rattle.slots.specs.Having.{having}
+use Rattle.query.proofs.TestLaws.{tree-steady}
+use Rattle.query.proofs.drive.look_at.Goals as goal
+
+pub renew_senses-requires-clause-lends : goal.renew_senses-requires-clause-lends
+renew_senses-requires-clause-lends c =
+    let pre = c.requires in
+    pre.lends
+
+pub renew_senses-requires-clause-within : goal.renew_senses-requires-clause-within
+renew_senses-requires-clause-within c =
+    let pre = c.requires in
+    let slotted = pre.slotted in
+    slotted.few
+
+pub renew_senses-requires-clause-near : goal.renew_senses-requires-clause-near
+renew_senses-requires-clause-near c =
+    let pre = c.requires in
+    pre.near
+
+pub renew_senses-requires-clause-sensed : goal.renew_senses-requires-clause-sensed
+renew_senses-requires-clause-sensed c =
+    let pre = c.requires in
+    let slotted = pre.slotted in
+    slotted.sensed
+
+pub look_level-requires-clause-long : goal.look_level-requires-clause-long
+look_level-requires-clause-long c = c.renew_senses.ensures.slots.long ∙ c.requires.lends.long
+
+pub look_level-requires-clause-near : goal.look_level-requires-clause-near
+look_level-requires-clause-near c = c.renew_senses.ensures.sensed.near
+
+pub returns-clause-slots : goal.returns-clause-slots
+returns-clause-slots c =
+    let renewed = c.renew_senses.ensures in
+    renewed.slots
+
+pub returns-clause-sensed : goal.returns-clause-sensed
+returns-clause-sensed c =
+    let renewed = c.renew_senses.ensures in
+    renewed.sensed
+
+pub returns-clause-steady : goal.returns-clause-steady
+returns-clause-steady c =
+    let a = c.args in
+    let renewed = c.renew_senses.ensures in
+    λ t o. tree-steady o (having a.main.now a.arrivals.now a.row.now) a.slots a.x c.requires.slotted.all renewed.known
+    c.look_level.ensures

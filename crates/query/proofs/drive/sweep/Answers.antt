@@ -1,0 +1,171 @@
+use mathlib.Core.Path.{◌≡◌, refl, sym, ◌∙◌}
+use Prim.Native.Nat.{ℕ, ◌+◌, ◌≤◌, ◌<◌}
+use native.Mathlib.Omega.{arith}
+use mathlib.Core.Bool.{Bool, false}
+use Rattle.list.proofs.SweepLaws.{Swept, swept-start, swept-count, swept-length, swept-cells-few, swept-records-few}
+use Rattle.question.specs.Grammar.{Tree}
+use Rattle.window.specs.Flips.{odd}
+use borrow.Author.Rules.{rules}
+use Rattle.slots.specs.Having.{having}
+use Rattle.slots.proofs.RowLaws.{stay-both, stay-having, read_again}
+use Rattle.query.specs.Drive.{test_of, Fits, Stands}
+use Rattle.window.proofs.StepLaws.{step_room, swept_step, close-room, swept-close}
+use Rattle.query.proofs.TestLaws.{test-above, swept-tallied}
+use Rattle.query.proofs.drive.sweep.Goals as goal
+use Rattle.query.proofs.drive.sweep.Goals.{At-loop-at}
+
+abbrev had : At-loop-at → ℕ → ℕ → Bool
+had c = let a = c.args in having a.main.now a.arrivals.now a.row.now
+
+abbrev fit : (c : At-loop-at) → let a = c.args in Fits a.codes.now (had c) a.pass a.out.now
+fit c = c.requires.room
+
+swept : (c : At-loop-at) → let a = c.args in let l = c.loop-at in
+    Swept (test_of (had c) (fit c).tree) a.pass.n a.pass.writing a.out.now l.out (odd l.at.cells) l.at.x l.at.cells l.at.records
+swept c = c.loop-at.invariant.5 (fit c).tree (fit c).reads
+
+-- no record above the last satisfies a tree
+above : (c : At-loop-at) (t : Tree) (y : ℕ) → c.args.pass.n < y → test_of (had c) t y ≡ false
+above c t y h = test-above c.requires.ends t y h
+
+pub loop-at-init : goal.loop-at-init
+loop-at-init c =
+    let a = c.args in (
+      record { long = refl; slots = refl },
+      c.requires.window,
+      omega arith,
+      omega arith,
+      c.requires.slotted.sensed,
+      λ t o. swept-start (test_of (having a.main.now a.arrivals.now a.row.now) t) a.pass.n a.pass.writing a.out.now,
+    )
+
+stands : (c : At-loop-at) → c.loop-at.at.x ≤ c.args.pass.n → Stands c.args.pass.n c.loop-at.at
+stands c more = record {
+  some = c.loop-at.invariant.2;
+  most = c.loop-at.invariant.3;
+  begun = (swept c).near.0;
+  more = more;
+  near = c.requires.ends.near;
+  few = swept-cells-few (swept c);
+  counted = swept-records-few (swept c);
+}
+
+pub step-at-requires-clause-lends : goal.step-at-requires-clause-lends
+step-at-requires-clause-lends c =
+    let inv = c.loop-at.invariant in
+    read_again c.requires.lends inv.0
+
+pub step-at-requires-clause-window : goal.step-at-requires-clause-window
+step-at-requires-clause-window c =
+    let inv = c.loop-at.invariant in
+    inv.1
+
+pub step-at-requires-clause-slotted : goal.step-at-requires-clause-slotted
+step-at-requires-clause-slotted c =
+    let a = c.args in
+    let slotted = c.requires.slotted in
+    let inv = c.loop-at.invariant in
+    let same = stay-having a.main.now a.arrivals.now inv.0 in
+    rw same (record { few = slotted.few; all = slotted.all; sensed = inv.4 })
+
+pub step-at-requires-clause-stands : goal.step-at-requires-clause-stands
+step-at-requires-clause-stands c =
+    let more = c.loop-at-test.true in
+    stands (goal.at.step-at-requires-clause-stands c).At-loop-at more
+
+pub step-at-requires-clause-room : goal.step-at-requires-clause-room
+step-at-requires-clause-room c =
+    let a = c.args in
+    let slotted = c.requires.slotted in
+    let inv = c.loop-at.invariant in
+    let same = stay-having a.main.now a.arrivals.now inv.0 in
+    let more = c.loop-at-test.true in
+    rw same
+    (record {
+      tree = (fit (goal.at.step-at-requires-clause-room c).At-loop-at).tree;
+      reads = (fit (goal.at.step-at-requires-clause-room c).At-loop-at).reads;
+      room = λ w m h. step_room (swept (goal.at.step-at-requires-clause-room c).At-loop-at) (above (goal.at.step-at-requires-clause-room c).At-loop-at (fit (goal.at.step-at-requires-clause-room c).At-loop-at).tree) m h (omega arith) w ((fit (goal.at.step-at-requires-clause-room c).At-loop-at).room w);
+    })
+
+pub loop-at-smaller : goal.loop-at-smaller
+loop-at-smaller c =
+    let a = c.args in
+    let more = c.loop-at-test.true in
+    let moves = rw (stay-having a.main.now a.arrivals.now c.loop-at.invariant.0) at c.step-at.ensures.moves in
+    let moved = moves (fit (goal.at.loop-at-smaller c).At-loop-at).tree (fit (goal.at.loop-at-smaller c).At-loop-at).reads in
+    omega (arith, moved.to, moved.some, (swept (goal.at.loop-at-smaller c).At-loop-at).near)
+
+pub loop-at-preserved : goal.loop-at-preserved
+loop-at-preserved c =
+    let a = c.args in
+    let inv = c.loop-at.invariant in
+    let same = stay-having a.main.now a.arrivals.now inv.0 in
+    let more = c.loop-at-test.true in
+    let e = c.step-at.ensures in
+    let moves = rw same at e.moves in (
+      stay-both inv.0 e.slots,
+      e.long ∙ inv.1,
+      e.some,
+      e.most,
+      rw same at e.sensed,
+      λ t o. let moved = moves t o in rw moved.to (swept_step (inv.5 t o) (above (goal.at.loop-at-preserved c).At-loop-at t) moved.far moved.some (omega arith) moved.step),
+    )
+
+pub put_turn-cells-requires-clause-begun : goal.put_turn-cells-requires-clause-begun
+put_turn-cells-requires-clause-begun c =
+    let l = c.loop-at in
+    let fits = c.requires.room in
+    let done = l.invariant.5 fits.tree fits.reads in
+    done.near.0
+
+pub put_turn-cells-requires-clause-fits : goal.put_turn-cells-requires-clause-fits
+put_turn-cells-requires-clause-fits c =
+    let l = c.loop-at in
+    let fits = c.requires.room in
+    let done = l.invariant.5 fits.tree fits.reads in
+    let over = c.loop-at-test.false in
+    let few = swept-cells-few done in
+    let near = c.requires.ends.near in
+    let e : l.at.x ≡ c.args.pass.n + 1 = omega (arith, done.near) in
+    omega arith
+
+pub put_turn-cells-requires-clause-room : goal.put_turn-cells-requires-clause-room
+put_turn-cells-requires-clause-room c =
+    let l = c.loop-at in
+    let fits = c.requires.room in
+    let done = l.invariant.5 fits.tree fits.reads in
+    let over = c.loop-at-test.false in
+    let few = swept-cells-few done in
+    let near = c.requires.ends.near in
+    let e : l.at.x ≡ c.args.pass.n + 1 = omega (arith, done.near) in
+    λ w. rw e (close-room (rw e at done) w (fits.room w))
+
+pub returns-clause-slots : goal.returns-clause-slots
+returns-clause-slots c =
+    let l = c.loop-at in
+    l.invariant.0
+
+pub returns-clause-tallies : goal.returns-clause-tallies
+returns-clause-tallies c =
+    let l = c.loop-at in
+    let fits = c.requires.room in
+    let done = l.invariant.5 fits.tree fits.reads in
+    let over = c.loop-at-test.false in
+    let e : l.at.x ≡ c.args.pass.n + 1 = omega (arith, done.near) in
+    let last = rw e at c.put_turn-cells.ensures in
+    let mine = swept-close (rw e at done) last in
+    let m = swept-count mine in
+    λ t o.
+    let yours = swept-close (rw e at (l.invariant.5 t o)) last in
+    let y = swept-count yours in
+    swept-tallied yours (λ w. let room = fits.room w in omega arith)
+
+pub shape_of-row : goal.shape_of-row
+shape_of-row c = c.loop-at.invariant.0.long
+
+pub shape_of-ws : goal.shape_of-ws
+shape_of-ws c = c.loop-at.invariant.1 ∙ sym c.requires.window
+
+pub shape_of-out : goal.shape_of-out
+shape_of-out c =
+    let same = swept-length (swept (goal.at.shape_of-out c).At-loop-at) in search rules
