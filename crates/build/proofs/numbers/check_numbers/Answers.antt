@@ -18,6 +18,7 @@ loop-i-init c = (search rules, sum-first-none c.args.counts.now, search rules, �
 room : (c : In-loop-i) → c.loop-i.start + get_or c.args.counts.now c.loop-i.i 0 ≤ length c.args.numbers.now
 room c = omega (arith, (fair-count c.requires c.loop-i.i c.loop-i-test.true).room, c.loop-i.invariant.1)
 
+-- it has a bad number
 hit : (c : In-At) →
     number_fault c.args.n c.args.counts.now (length c.args.counts.now) c.args.numbers.now
     ≡ At (c.loop-i.start + c.in-At.k)

@@ -38,6 +38,7 @@ overflow_add-start c =
     let ended = word-ended c.loop-i.invariant.1 end.place end.within refl c.loop-i-test.true in
     omega arith
 
+-- behind the word
 pub loop-i-preserved : goal.loop-i-preserved
 loop-i-preserved c =
     let at = c.loop-i in
