@@ -30,11 +30,12 @@ j c = whose c.loop-uppers.uppers
 list : (c : At-loop-uppers) → j c < length c.args.entries.now
 list c = turn-list (asked c) c.loop-uppers.invariant.0
 
+-- the largest lower bound is the first of the heap
 largest : (c : After-with_room-size) → Largest c.args.index.now c.args.entries.now (λ k. get_or c.loop-uppers.places k start) (length c.args.entries.now)
     (record_max + 1 - get_or c.with_room-size.new.lowers 0 0)
 largest c = let room = c.with_room-size.ensures in turn-largest (asked (goal.at.After-with_room-size c).At-loop-uppers) c.loop-uppers.invariant.0 room.fills room.keeps room.room
 
--- and is not used up
+-- the list has moved on, and is not used up
 goes_on : (c : Else-used_up) → used_up c.args.index.now (get_or c.args.entries.now (j (goal.at.Else-used_up c).At-loop-uppers) 0) (get_or c.moved_on-places.result (j (goal.at.Else-used_up c).At-loop-uppers) start) ≡ false
 goes_on c = sym c.used_up.ensures ∙ c.if-used_up.false
 
