@@ -16,7 +16,7 @@ use Rattle.list.specs.Among.{among}
 use Rattle.list.proofs.StretchLaws.{cells-proper, cells-proper-from, cells-names}
 use Rattle.list.proofs.RecordLaws.{Ascends}
 use Rattle.convert.proofs.NumberLaws.{good-ascends}
-use Rattle.index.specs.Format.{words_start, directory_start, word_count, highest, edition, entry_place_lem, word_start, word_length, list_start, single_count, pair_count}
+use Rattle.index.specs.Format.{words_start, directory_start, word_count, highest, edition, entry_place, word_start, word_length, list_start, single_count, pair_count}
 use Rattle.index.specs.Format.{list_length, words_end, lists_end, part, word_of, singles_of, lower_of, upper_of, list_of, entry_singles, entry_lowers, entry_uppers}
 use Rattle.index.specs.Sound.{bad_trailer, bad_directory, bad_word, bad_entry, bad_end, bad_list, word_before, Sound}
 use Rattle.index.specs.declared.Checked.TheVariants.{Good}
@@ -141,11 +141,11 @@ module _ {every : Bool} {n : ℕ} {ws xss : List (List ℕ)} (is : Indexable eve
 
   -- ---- the entries
 
-  entry_place_lem : (i : ℕ) → entry_place_lem index i ≡ D + 20 * i
-  unfolding entry_place_lem
+  entry_place_lem : (i : ℕ) → entry_place index i ≡ D + 20 * i
+  unfolding entry_place
   entry_place_lem i = rw built-directory-start
 
-  entry-cell : (i j at : ℕ) → i < length ws → j < 5 → at ≡ entry_place_lem index i + 4 * j →
+  entry-cell : (i j at : ℕ) → i < length ws → j < 5 → at ≡ entry_place index i + 4 * j →
       cell_at index at ≡ get_or (entry_cells (W + words_to ws i) (get_or ws i []) (0 + lists_to n xss i) (cells_in n (get_or xss i []))) j 0
   entry-cell i j at h g e =
       let l = directory-length n W 0 ws xss is.as_many in
@@ -155,23 +155,23 @@ module _ {every : Bool} {n : ℕ} {ws xss : List (List ℕ)} (is : Indexable eve
 
   pub built-word-start : (i : ℕ) → i < length ws → word_start index i ≡ W + words_to ws i
   unfolding word_start
-  built-word-start i h = entry-cell i 0 (entry_place_lem index i) h (omega arith) (omega arith)
+  built-word-start i h = entry-cell i 0 (entry_place index i) h (omega arith) (omega arith)
 
   pub built-word-length : (i : ℕ) → i < length ws → word_length index i ≡ length (get_or ws i [])
   unfolding word_length
-  built-word-length i h = entry-cell i 1 (entry_place_lem index i + 4) h (omega arith) (omega arith)
+  built-word-length i h = entry-cell i 1 (entry_place index i + 4) h (omega arith) (omega arith)
 
   pub built-list-start : (i : ℕ) → i < length ws → list_start index i ≡ lists_to n xss i
   unfolding list_start
-  built-list-start i h = entry-cell i 2 (entry_place_lem index i + 8) h (omega arith) (omega arith) ∙ omega arith
+  built-list-start i h = entry-cell i 2 (entry_place index i + 8) h (omega arith) (omega arith) ∙ omega arith
 
   pub built-single-count : (i : ℕ) → i < length ws → single_count index i ≡ length (cell_singles (cells_in n (get_or xss i [])))
   unfolding single_count
-  built-single-count i h = entry-cell i 3 (entry_place_lem index i + 12) h (omega arith) (omega arith)
+  built-single-count i h = entry-cell i 3 (entry_place index i + 12) h (omega arith) (omega arith)
 
   pub built-pair-count : (i : ℕ) → i < length ws → pair_count index i ≡ length (cell_lowers (cells_in n (get_or xss i [])))
   unfolding pair_count
-  built-pair-count i h = entry-cell i 4 (entry_place_lem index i + 16) h (omega arith) (omega arith)
+  built-pair-count i h = entry-cell i 4 (entry_place index i + 16) h (omega arith) (omega arith)
 
   built-list-length : (i : ℕ) → i < length ws → list_length index i ≡ length (kept_bytes (cells_in n (get_or xss i [])))
   unfolding list_length

@@ -14,7 +14,7 @@ use Rattle.question.specs.declared.token.Op.TheVariants.{And, Or, Not}
 use Rattle.question.specs.Token.{Tok, word_t, op_t, open_t, close_t, other_t}
 use Rattle.codes.specs.declared.group.Grouping.{Grouping}
 use Rattle.codes.specs.Code.{word_code, and_code, or_code, not_code, open_code, close_code, no_code, code_of, codes_of}
-use Rattle.codes.specs.Group.{goes_on_lem, is_wide, opening, closing, levels_around, innermost, grouped_on, grouped}
+use Rattle.codes.specs.Group.{goes_on, is_wide, opening, closing, levels_around, innermost, grouped_on, grouped}
 use Rattle.codes.specs.Grouping.{WideAt, PutsCode, GroupsCode, GroupsCodes}
 use Rattle.codes.proofs.CodeLaws.{get_d-within}
 use Rattle.codes.proofs.ReadsLaws.{stands, stands-end, code-within, code-word, code-open, code-close, code-operator}
@@ -106,7 +106,7 @@ module _ (inside : Bool) (outer : ℕ) (r : List Tok) where
 
 -- ---- whether a group is more than one word, by the codes
 
-goes_on_lem : (t : Tok) (r : List Tok) → goes_on_lem (t ∷ r) ≡ eqb (code_of t) and_code || eqb (code_of t) not_code
+goes_on_lem : (t : Tok) (r : List Tok) → goes_on (t ∷ r) ≡ eqb (code_of t) and_code || eqb (code_of t) not_code
 goes_on_lem (word_t w p) r = refl
 goes_on_lem (op_t And p) r = refl
 goes_on_lem (op_t Or p) r = refl
@@ -116,7 +116,7 @@ goes_on_lem (close_t p) r = refl
 goes_on_lem (other_t p) r = refl
 
 goes_at : (toks : List Tok) (codes : List ℕ) (i : ℕ) → codes_of toks ≡ codes →
-    eqb (get_or codes i no_code) and_code || eqb (get_or codes i no_code) not_code ≡ goes_on_lem (drop i toks)
+    eqb (get_or codes i no_code) and_code || eqb (get_or codes i no_code) not_code ≡ goes_on (drop i toks)
 goes_at toks codes i e =
     leb-cases (length codes) i
     (λ h. rw (get_or-eq_default codes no_code h, stands-end toks codes i e h))
