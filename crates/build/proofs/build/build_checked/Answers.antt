@@ -28,7 +28,7 @@ pub returns-then-size-gt-INDEX_MAX : goal.returns-then-size-gt-INDEX_MAX
 returns-then-size-gt-INDEX_MAX c = build-large c.requires (omega (arith, sized (goal.at.returns-then-size-gt-INDEX_MAX c).After-lists_size-lists, c.if-size-gt-INDEX_MAX.true))
 
 pub returns-then-out-size : goal.returns-then-out-size
-returns-then-out-size c = build-cramped c.requires (sized (goal.at.returns-then-out-size c).After-lists_size-lists) c.if-size-gt-INDEX_MAX.false c.if-out-size.true
+returns-then-out-size c = build-cramped c.requires (sized (goal.at.returns-then-out-size c).After-lists_size-lists) c.if-size-gt-INDEX_MAX.false (omega (arith, c.if-out-size.true))
 
 pub write_index-requires-clause-good : goal.write_index-requires-clause-good
 write_index-requires-clause-good c = c.requires
@@ -43,4 +43,4 @@ pub write_index-requires-clause-room : goal.write_index-requires-clause-room
 write_index-requires-clause-room c = omega (arith, sized (goal.at.write_index-requires-clause-room c).After-lists_size-lists, c.if-out-size.false)
 
 pub returns : goal.returns
-returns c = build-wrote c.requires (sized (goal.at.returns c).After-lists_size-lists) c.if-size-gt-INDEX_MAX.false c.if-out-size.false c.write_index.ensures
+returns c = build-wrote c.requires (sized (goal.at.returns c).After-lists_size-lists) c.if-size-gt-INDEX_MAX.false (omega (arith, c.if-out-size.false)) c.write_index.ensures
