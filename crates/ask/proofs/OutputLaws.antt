@@ -1,4 +1,7 @@
 -- Laws of a question's line: a checked file is sound, an answer's intervals stand in the cells, and the line depends on nothing else.
+use Rattle.std.specs.Prelude.{Result, Ok, Err}
+use Rattle.list.specs.declared.answer.Tally.{Tally}
+use Rattle.refusal.specs.declared.Refusal.{Refusal}
 use mathlib.Core.Path.{◌≡◌, refl, ap}
 use mathlib.Core.Bool.{Bool, true, false, cond}
 use mathlib.Core.List.{List, []}
@@ -11,12 +14,9 @@ use borrow.Author.Tests.{leb-true}
 use Rattle.laws.proofs.Tests.{by-test}
 use Rattle.io.specs.Counts.{IsPrefixLen}
 use Rattle.refusal.specs.declared.Refusal.TheVariants.{Room}
-use Rattle.list.specs.declared.answer.Answer.{Answer}
 use Rattle.list.specs.Interval.{intervals}
 use Rattle.list.specs.Outcome.{Outcome, writes, refused, left_by}
 use Rattle.list.specs.Answer.{answer_of}
-use Rattle.index.specs.declared.Checked.{Checked}
-use Rattle.index.specs.declared.Checked.TheVariants.{Good, Refused}
 use Rattle.index.specs.Sound.{Sound}
 use Rattle.index.proofs.CheckLaws.{good-sound}
 use Rattle.question.specs.Grammar.{Tree}
@@ -29,7 +29,7 @@ use Rattle.lines.specs.Line.{shown, line_of, PutFirst}
 use Rattle.lines.proofs.TextLaws.{line-short}
 use Rattle.ask.specs.Output.{index_most, file_check, line_outcome, AnswersLine, question_line}
 
-pub file-sound : (index : List ℕ) → file_check index ≡ Good → Sound index
+pub file-sound : (index : List ℕ) → file_check index ≡ (Ok tt) → Sound index
 file-sound index e =
     by-test (ltb index_most (length index))
     (λ t. absurd (let r = rw t at e in let z : ◌≡◌ {A = ℕ} 0 1 = cc in omega arith))
@@ -41,10 +41,10 @@ listed-within : (c : List ℕ) (room : ℕ) (t : Bool) → leb (intervals c) roo
 listed-within c room true e = omega (arith, leb-true (intervals c) room e)
 listed-within c room false e = omega arith
 
-shown-within : (check : Checked) (a : Parsed) (list : Tree → List ℕ) (room : ℕ) → shown (answer_of (question_outcome check a list room)) ≤ 2 * room
-shown-within (Refused r) a list room = omega arith
-shown-within Good (refuses r) list room = omega arith
-shown-within Good (parses t k) list room = listed-within (list t) room (leb (intervals (list t)) room) refl
+shown-within : (check : Result Unit Refusal) (a : Parsed) (list : Tree → List ℕ) (room : ℕ) → shown (answer_of (question_outcome check a list room)) ≤ 2 * room
+shown-within (Err r) a list room = omega arith
+shown-within (Ok tt) (refuses r) list room = omega arith
+shown-within (Ok tt) (parses t k) list room = listed-within (list t) room (leb (intervals (list t)) room) refl
 
 -- what stood in the cells before does not show in the line
 line_same : (number : ℕ) (o : Outcome) (out : List ℕ) → line_of number (answer_of o) (left_by o out) ≡ line_of number (answer_of o) (left_by o [])
@@ -53,7 +53,7 @@ line_same number (writes c) out =
     rw (take-append-le (2 * (length c / 2)) c (drop (length c) out) h, take-append-le (2 * (length c / 2)) c (drop (length c) []) h)
 line_same number (refused r) out = refl
 
-module _ (index question : List ℕ) {out out' : List ℕ} {r : Answer} (p : AnswersLine index question out out' r) where
+module _ (index question : List ℕ) {out out' : List ℕ} {r : (Result Tally Refusal)} (p : AnswersLine index question out out' r) where
   pub answer-within : shown r ≤ length out
   answer-within = rw p.answer (omega (arith, shown-within (file_check index) (asked 1 question) (satisfying (of_index index)) (length out / 2)))
 

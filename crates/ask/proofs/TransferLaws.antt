@@ -4,10 +4,11 @@ use lib.Seq.{take-add, take-take}
 use borrow.Rule.Slice.PartMut.{put_mid, mid_of, same_len_mid, mid_len, take_put}
 use Rattle.std.specs.Io.KnownBytes.{Appends, Consumes}
 use Rattle.std.proofs.KnownBytes.{Appends-trans, Consumes-trans}
-use Rattle.ask.specs.declared.transfer.FileRead.{FileRead}
+use Rattle.std.specs.Prelude.{Result}
+use Rattle.std.specs.declared.io.Error.{Error}
 use Rattle.ask.specs.Transfer.{read_count, ReadsOn}
 
-pub tail-read : (done : ℕ) (bytes tail : List ℕ) (r : FileRead) →
+pub tail-read : (done : ℕ) (bytes tail : List ℕ) (r : Result ℕ Error) →
     done ≤ length bytes →
     length tail ≡ length (mid_of done (length bytes - done) bytes) →
     read_count r ≤ length tail →

@@ -5,10 +5,9 @@ ghost use Rattle.lines.specs.Line.{PutFirst};
 ghost use Rattle.lines.specs.Room.{answer_cells, line_room};
 ghost use Rattle.ask.specs.Output.{file_check, AnswersLine, question_line};
 
-use index::Checked;
 use index::check::check_index;
 use lines::line::write_line;
-use list::answer::Answer;
+use list::answer::Tally;
 use query::ask::answer_question;
 use question::rule::FROM_LEFT;
 use refusal::Refusal;
@@ -17,31 +16,34 @@ use refusal::Refusal;
 pub const INDEX_MOST: usize = 65_536;
 
 // The check of what was read of the file.
-pub fn check_file(index: &[u8]) -> Checked
+pub fn check_file(index: &[u8]) -> Result<(), Refusal>
     ensures { result ≡ file_check index.now }
 {
     if INDEX_MOST < index.len() {
-        Checked::Refused(Refusal::IndexLength(INDEX_MOST + 1))
+        Err(Refusal::IndexLength(INDEX_MOST + 1))
     } else {
         check_index(index)
     }
 }
 
 // Answers a question over an index that was checked once for all questions.
-fn answer_line(index: &[u8], checked: Checked, question: &[u8], cells: &mut [u32]) -> Answer
+fn answer_line(
+    index: &[u8],
+    checked: Result<(), Refusal>,
+    question: &[u8],
+    cells: &mut [u32],
+) -> Result<Tally, Refusal>
     requires { checked ≡ file_check index.now }
     ensures { AnswersLine index.now question.now cells.old cells.new result }
 {
-    match checked {
-        Checked::Good => answer_question(index, FROM_LEFT, question, cells),
-        Checked::Refused(refusal) => Answer::Refused(refusal),
-    }
+    checked?;
+    answer_question(index, FROM_LEFT, question, cells)
 }
 
 // Writes the line of question `number`, and answers how long it is.
 pub fn write_answer(
     index: &[u8],
-    checked: Checked,
+    checked: Result<(), Refusal>,
     question: &[u8],
     number: usize,
     cells: &mut [u32],

@@ -11,15 +11,15 @@ ghost use Rattle.lines.specs.Room.{answer_cells, line_room};
 ghost use Rattle.ask.specs.Output.{file_check};
 
 use answer::{INDEX_MOST, check_file, write_answer};
-use index::Checked;
 use lines::line::{ANSWER_CELLS, LINE_ROOM};
 use lines::split::{INPUT_MOST, answered_end, is_past};
 use parts::part_end;
+use refusal::Refusal;
 use std::fs::File;
 use std::io;
 use std::io::Write;
 use std::rt::Files;
-use transfer::{FileRead, read_file, write_whole};
+use transfer::{read_file, write_whole};
 
 // Reads the file from its start, and answers how many bytes there are; one that is missing or cannot be read has none.
 fn read_index(files: &impl Files, bytes: &mut [u8]) -> usize
@@ -29,15 +29,15 @@ fn read_index(files: &impl Files, bytes: &mut [u8]) -> usize
         return 0;
     };
     match read_file(&mut file, bytes) {
-        FileRead::Bytes(count) => count,
-        FileRead::Failed(_) => 0,
+        Ok(count) => count,
+        Err(_) => 0,
     }
 }
 
 // Answers each line in order, and whether all of them were written; `out` has room for every line.
 fn answer_lines<W: Write>(
     index: &[u8],
-    checked: Checked,
+    checked: Result<(), Refusal>,
     input: &[u8],
     cells: &mut [u32],
     out: &mut [u8],
@@ -50,6 +50,7 @@ fn answer_lines<W: Write>(
 {
     let mut number: usize = 1;
     let mut from = 0;
+    // no `for`: the place moves behind the line found, not by one
     while from < input.len() {
         let end = part_end(input, from, b'\n');
         let size = write_answer(index, checked, &input[from..end], number, cells, out);
@@ -119,8 +120,8 @@ fn main(rt: HostRuntime) {
     let index_size = read_index(&rt, &mut index);
     let mut input = [0u8; INPUT_MOST + 1];
     match read_file(&mut rt.stdin(), &mut input) {
-        FileRead::Failed(error) => complain(&rt, "cannot read the questions", &error),
-        FileRead::Bytes(size) => {
+        Err(error) => complain(&rt, "cannot read the questions", &error),
+        Ok(size) => {
             match answer_input(&index[..index_size], &input[..size], &mut rt.stdout()) {
                 Err(error) => complain(&rt, "cannot write the answers", &error),
                 Ok(false) => complain_of(&rt, "cannot write the answers"),

@@ -11,13 +11,6 @@ use std::io::{ErrorKind, Read, Write};
 // How often in a row a call may be interrupted before it counts as failed: every loop has to end.
 const PATIENCE: usize = 1_000_000;
 
-// What was read of a file: so many bytes before its end or the buffer's, or that a read failed.
-#[derive(Clone, Copy)]
-pub enum FileRead {
-    Bytes(usize),
-    Failed(io::Error),
-}
-
 // Whether a call that failed was interrupted: then it moved nothing, and may be made again.
 fn is_interrupted(error: &io::Error) -> bool
     ensures { IsTrue result ↔ (error_kind error.now ≡ ErrorKind.Interrupted) }
@@ -45,6 +38,7 @@ pub fn write_whole<W: Write>(writer: &mut W, bytes: &[u8]) -> io::Result<usize>
     ensures writes { WritesFront (W.contents writer.old) (W.contents writer.new) bytes.now result }
 {
     let mut done = 0;
+    // no `for`: a write takes as many bytes as it will
     while done < bytes.len() {
         let taken = write_some(writer, &bytes[done..])?;
         if taken == 0 {
@@ -56,18 +50,15 @@ pub fn write_whole<W: Write>(writer: &mut W, bytes: &[u8]) -> io::Result<usize>
 }
 
 // What a read into these bytes said by its answer.
-fn file_read_of(got: io::Result<usize>, bytes: &[u8]) -> FileRead
+fn file_read_of(got: io::Result<usize>, bytes: &[u8]) -> io::Result<usize>
     ensures reads { result ≡ file_read_of got (length bytes.now) }
     ensures counts { IsPrefixLen (read_count result) bytes.now }
 {
-    match got {
-        Ok(count) => FileRead::Bytes(count.min(bytes.len())),
-        Err(error) => FileRead::Failed(error),
-    }
+    Ok(got?.min(bytes.len()))
 }
 
 // One read; at the file's end it reads 0 bytes. One that failed reads none.
-fn read_some<R: Read>(reader: &mut R, bytes: &mut [u8]) -> FileRead
+fn read_some<R: Read>(reader: &mut R, bytes: &mut [u8]) -> io::Result<usize>
     ensures counts { IsPrefixLen (read_count result) bytes.new }
     ensures reads { ReadsOnce (R.remaining reader.old) (R.remaining reader.new) bytes.new result }
 {
@@ -82,7 +73,7 @@ fn read_some<R: Read>(reader: &mut R, bytes: &mut [u8]) -> FileRead
 }
 
 // One read behind the bytes that were read before, which stay.
-fn read_on<R: Read>(reader: &mut R, bytes: &mut [u8], done: usize) -> FileRead
+fn read_on<R: Read>(reader: &mut R, bytes: &mut [u8], done: usize) -> io::Result<usize>
     requires { done ≤ length bytes.old }
     ensures on { ReadsOn done bytes.old bytes.new result }
     ensures reads { ReadsOnce (R.remaining reader.old) (R.remaining reader.new) (drop done bytes.new) result }
@@ -91,21 +82,18 @@ fn read_on<R: Read>(reader: &mut R, bytes: &mut [u8], done: usize) -> FileRead
 }
 
 // Reads until the file ends or the buffer is full. Where a read failed, what was read before stands at the front.
-pub fn read_file<R: Read>(reader: &mut R, bytes: &mut [u8]) -> FileRead
+pub fn read_file<R: Read>(reader: &mut R, bytes: &mut [u8]) -> io::Result<usize>
     ensures counts { IsPrefixLen (read_count result) bytes.new }
     ensures reads { ReadsFront (R.remaining reader.old) (R.remaining reader.new) bytes.new result }
 {
     let mut done = 0;
+    // no `for`: a read brings as many bytes as it will
     while done < bytes.len() {
-        match read_on(reader, bytes, done) {
-            FileRead::Failed(error) => return FileRead::Failed(error),
-            FileRead::Bytes(more) => {
-                if more == 0 {
-                    return FileRead::Bytes(done);
-                }
-                done += more;
-            }
+        let more = read_on(reader, bytes, done)?;
+        if more == 0 {
+            return Ok(done);
         }
+        done += more;
     }
-    FileRead::Bytes(done)
+    Ok(done)
 }

@@ -1,4 +1,5 @@
 -- A build that is not refused: what it was lent makes an index, and the bytes it wrote are a sound one that reads back as what was lent.
+use Rattle.std.specs.Prelude.{Result, Err, Ok}
 use mathlib.Core.Path.{◌≡◌, refl, sym, ap, ◌∙◌}
 use Prim.Native.Nat.{ℕ, ◌≤◌, ◌<◌}
 use native.Mathlib.Omega.{arith}
@@ -13,11 +14,8 @@ use Rattle.refusal.specs.declared.Refusal.{Refusal}
 use Rattle.refusal.specs.declared.Refusal.TheVariants.{BuildSize, Room}
 use Rattle.list.specs.Front.{in_front}
 use Rattle.list.specs.Outcome.{Outcome, writes, refused, left_by, written_of}
-use Rattle.list.specs.declared.Written.TheVariants.{Wrote, Refused}
 use Rattle.list.specs.Among.{among}
 use Rattle.convert.proofs.NumberLaws.{ascends-good}
-use Rattle.index.specs.declared.Checked.{Checked}
-use Rattle.index.specs.declared.Checked.TheVariants as checked
 use Rattle.index.specs.Format.{word_count, highest, part, word_of, list_of}
 use Rattle.index.specs.Sound.{Sound}
 use Rattle.index.specs.Check.{check_of}
@@ -36,11 +34,11 @@ use Rattle.build.proofs.GoodLaws.{EachGood, each-good, lent-good, good-word, goo
 
 -- ---- what is written was not refused
 
-never : {A : Type 0} (r : Refusal) (size : ℕ) → Refused r ≡ Wrote size → A
+never : {A : Type 0} (r : Refusal) (size : ℕ) → Err r ≡ Ok size → A
 never r size e = absurd (let z : ◌≡◌ {A = ℕ} 0 1 = cc in omega arith)
 
 size_step : (large fits : Bool) (index : List ℕ) (a size : ℕ) →
-    written_of a (cond large (refused (BuildSize 1)) (cond fits (writes index) (refused (Room a)))) ≡ Wrote size →
+    written_of a (cond large (refused (BuildSize 1)) (cond fits (writes index) (refused (Room a)))) ≡ Ok size →
     (large ≡ false) × (fits ≡ true) × (a ≡ size)
 size_step true fits index a size e = never (BuildSize 1) size e
 size_step false true index a size e = (refl, refl, (cc))
@@ -51,16 +49,16 @@ pub record Accepted (n : ℕ) (words counts numbers : List ℕ) (size : ℕ) : T
   pub small : length (index_from n words counts numbers) ≤ index_max
   pub is-size : length (index_from n words counts numbers) ≡ size
 
-after-passed : (c : Checked) (next : Outcome) (a size : ℕ) → written_of a (after_lent c next) ≡ Wrote size → (c ≡ checked.Good) × (written_of a next ≡ Wrote size)
-after-passed (checked.Refused r) next a size e = never r size e
-after-passed checked.Good next a size e = (refl, e)
+after-passed : (c : Result Unit Refusal) (next : Outcome) (a size : ℕ) → written_of a (after_lent c next) ≡ Ok size → (c ≡ Ok tt) × (written_of a next ≡ Ok size)
+after-passed (Err r) next a size e = never r size e
+after-passed (Ok u) next a size e = (refl, e)
 
 module _ (n : ℕ) (words counts numbers : List ℕ) (room size : ℕ)
-    (e : written_of (length (index_from n words counts numbers)) (build_outcome n words counts numbers room) ≡ Wrote size) where
+    (e : written_of (length (index_from n words counts numbers)) (build_outcome n words counts numbers room) ≡ Ok size) where
   abbrev asked : List ℕ
   asked = index_from n words counts numbers
 
-  passed : (lent_of n words counts numbers ≡ checked.Good) × (written_of (length asked) (size_outcome asked room) ≡ Wrote size)
+  passed : (lent_of n words counts numbers ≡ Ok tt) × (written_of (length asked) (size_outcome asked room) ≡ Ok size)
   unfolding build_outcome
   passed = after-passed (lent_of n words counts numbers) (size_outcome asked room) (length asked) size e
 
@@ -100,7 +98,7 @@ module _ {n : ℕ} {words counts numbers : List ℕ} {size : ℕ} (is : Accepted
 
 -- ---- the bytes that a build wrote
 
-module _ {n : ℕ} {words counts numbers out out' : List ℕ} {size : ℕ} (done : Builds n words counts numbers out out' (Wrote size)) where
+module _ {n : ℕ} {words counts numbers out out' : List ℕ} {size : ℕ} (done : Builds n words counts numbers out out' (Ok size)) where
   build-accepted : Accepted n words counts numbers size
   build-accepted = accepted n words counts numbers (length out) size (sym done.answer)
 
@@ -123,7 +121,7 @@ module _ {n : ℕ} {words counts numbers out out' : List ℕ} {size : ℕ} (done
   pub build-sound : Sound (take size out')
   build-sound = rw build-bytes (built-sound indexable)
 
-  pub build-good : check_of (take size out') ≡ checked.Good
+  pub build-good : check_of (take size out') ≡ Ok tt
   build-good = rw build-bytes (built-good indexable)
 
   pub build-highest : highest (take size out') ≡ n

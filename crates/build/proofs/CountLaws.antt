@@ -1,8 +1,10 @@
 -- One count, and the list of one count: when each is bad, as the passes over counts and numbers find it.
+use Rattle.std.specs.Prelude.{Some, None}
 use mathlib.Core.Path.{◌≡◌, refl, sym, ap, ◌∙◌}
 use Prim.Native.Nat.{ℕ, zero, suc, ◌+◌, ◌-◌, ◌≤◌, ◌<◌}
 use native.Mathlib.Omega.{arith}
 use native.Mathlib.Numerals.{add-one}
+use mathlib.Core.Logic.{◌⊎◌, inl, inr}
 use mathlib.Core.Bool.{Bool, true, false, or-true}
 use mathlib.Core.List.{List}
 use lib.Dec.{eqb}
@@ -10,7 +12,6 @@ use lib.ListN.{length, get_or, take, drop}
 use lib.Seq.{get_or-take, get_or-drop}
 use borrow.Author.Tests.{eq-eqb, ne_eqb, le-leb, lt-leb, lt-ltb, le-ltb}
 use Rattle.laws.proofs.Tests.{leb-cases}
-use Rattle.refusal.specs.declared.Found.TheVariants.{At, Nowhere}
 use Rattle.refusal.specs.First.{first}
 use Rattle.refusal.proofs.FirstLaws.{first-none, first-none-is, first-at, first-is}
 use Rattle.convert.specs.Convert.{number_before, bad_number}
@@ -39,15 +40,13 @@ module _ (counts : List ℕ) (total i : ℕ) where
   unfolding bad_count
   count-missing h = rw (le-leb (length counts) i h)
 
-  pub count-zero : i < length counts → get_or counts i 0 ≡ 0 → bad_count counts total i ≡ true
+  pub count-bad : (left : ℕ) → i < length counts → sum_to counts i + left ≡ total →
+      (get_or counts i 0 ≡ 0) ⊎ ((get_or counts i 0 ≡ 0 → ⊥) × left < get_or counts i 0) → bad_count counts total i ≡ true
   unfolding bad_count
-  count-zero h e = rw (lt-leb (length counts) i h, eq-eqb (get_or counts i 0) 0 e)
-
-  pub count_past : (left : ℕ) → i < length counts → (get_or counts i 0 ≡ 0 → ⊥) → sum_to counts i + left ≡ total → left < get_or counts i 0 →
-      bad_count counts total i ≡ true
-  unfolding bad_count
-  count_past left h e s g =
-      rw (lt-leb (length counts) i h, ne_eqb (get_or counts i 0) 0 e, lt-ltb total (sum_to counts (i + 1)) (omega (arith, sum-next counts i)))
+  count-bad left h s (inl e) = rw (lt-leb (length counts) i h, eq-eqb (get_or counts i 0) 0 e)
+  count-bad left h s (inr w) =
+      let g = w.1 in
+      rw (lt-leb (length counts) i h, ne_eqb (get_or counts i 0) 0 w.0, lt-ltb total (sum_to counts (i + 1)) (omega (arith, sum-next counts i)))
 
   pub count-good : (left : ℕ) → i < length counts → (get_or counts i 0 ≡ 0 → ⊥) → sum_to counts i + left ≡ total → get_or counts i 0 ≤ left →
       bad_count counts total i ≡ false
@@ -56,13 +55,11 @@ module _ (counts : List ℕ) (total i : ℕ) where
       rw (lt-leb (length counts) i h, ne_eqb (get_or counts i 0) 0 e, le-ltb total (sum_to counts (i + 1)) (omega (arith, sum-next counts i)))
 
 module _ (counts : List ℕ) (total words : ℕ) where
-  pub rest-surplus : words < length counts → bad_rest counts total words ≡ true
+  pub rest-bad : (left : ℕ) → sum_to counts words + left ≡ total → (words < length counts) ⊎ (length counts ≤ words × 0 < left) →
+      bad_rest counts total words ≡ true
   unfolding bad_rest
-  rest-surplus h = rw (lt-ltb words (length counts) h)
-
-  pub rest_over : (left : ℕ) → length counts ≤ words → sum_to counts words + left ≡ total → 0 < left → bad_rest counts total words ≡ true
-  unfolding bad_rest
-  rest_over left h s g = rw (le-ltb words (length counts) h, lt-ltb (sum_to counts words) total (omega arith))
+  rest-bad left s (inl h) = rw (lt-ltb words (length counts) h)
+  rest-bad left s (inr w) = let g = w.1 in rw (le-ltb words (length counts) w.0, lt-ltb (sum_to counts words) total (omega arith))
 
   pub rest-none : (left : ℕ) → length counts ≤ words → sum_to counts words + left ≡ total → left ≤ 0 → bad_rest counts total words ≡ false
   unfolding bad_rest
@@ -108,8 +105,8 @@ module _ (n : ℕ) (counts numbers : List ℕ) (i : ℕ) (h : i < length counts)
       rw (listed-before k g, get_or-take (get_or counts i 0) (drop begin numbers) k 0 g, get_or-drop begin numbers k 0)
 
   -- none of the list is bad where none of all is
-  pub list-none : begin + get_or counts i 0 ≤ length numbers → first (bad_listed n counts (length counts) numbers) (length numbers) ≡ Nowhere →
-      first (bad_number n xs) (length xs) ≡ Nowhere
+  pub list-none : begin + get_or counts i 0 ≤ length numbers → first (bad_listed n counts (length counts) numbers) (length numbers) ≡ None →
+      first (bad_number n xs) (length xs) ≡ None
   list-none r e =
       let l = part_length begin (get_or counts i 0) numbers r in
       first-none-is (bad_number n xs) (length xs)
@@ -144,7 +141,7 @@ module _ (n : ℕ) (counts numbers : List ℕ) (is : Fair counts (length numbers
         let f : j ≡ sum_to counts i + (j - start) = omega arith in
         ap bad f ∙ rw list-is (listed-alone n counts numbers i h (j - start) (omega arith))
 
-    pub list_hit : (k : ℕ) → first (bad_number n list) (length list) ≡ At k → ((j : ℕ) → j < start → bad j ≡ false) → first bad (length numbers) ≡ At (start + k)
+    pub list_hit : (k : ℕ) → first (bad_number n list) (length list) ≡ Some k → ((j : ℕ) → j < start → bad j ≡ false) → first bad (length numbers) ≡ Some (start + k)
     list_hit k f g =
         let w = first-at (bad_number n list) k (length list) f in
         let c = fair-count is i h in
@@ -160,14 +157,14 @@ module _ (n : ℕ) (counts numbers : List ℕ) (is : Fair counts (length numbers
         }
         )
 
-    pub list_on : first (bad_number n list) (length list) ≡ Nowhere → ((j : ℕ) → j < start → bad j ≡ false) → (j : ℕ) → j < end → bad j ≡ false
+    pub list_on : first (bad_number n list) (length list) ≡ None → ((j : ℕ) → j < start → bad j ≡ false) → (j : ℕ) → j < end → bad j ≡ false
     list_on f g j l =
         leb-cases start j
         (λ p. at_place j p l ∙ first-none (bad_number n list) (length list) f (j - start) (omega (arith, list_length)))
         (λ p. g j p)
 
   pub lists-end : (i start : ℕ) → length counts ≤ i → i ≤ length counts → start ≡ sum_to counts i → ((j : ℕ) → j < start → bad j ≡ false) →
-      first bad (length numbers) ≡ Nowhere
+      first bad (length numbers) ≡ None
   lists-end i start h g s f =
       let q : i ≡ length counts = omega arith in
       let t : start ≡ sum_to counts (length counts) = s ∙ ap (sum_to counts) q in

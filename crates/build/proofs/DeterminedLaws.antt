@@ -1,4 +1,5 @@
 -- N and what an index has of each word determine its bytes: two sound indexes that agree in these are the same.
+use Rattle.std.specs.Prelude.{Result, Ok, Err}
 use mathlib.Core.Path.{◌≡◌, refl, sym, ap, ◌∙◌}
 use Prim.Native.Nat.{ℕ, zero, suc, ◌≤◌, ◌<◌}
 use native.Mathlib.Omega.{arith}
@@ -7,7 +8,6 @@ use mathlib.Core.List.{List, [], ◌∷◌}
 use lib.ListN.{length, get_or, take}
 use Rattle.laws.proofs.Tests.{true-false, leb-cases}
 use Rattle.word.proofs.WordLaws.{before-irreflexive}
-use Rattle.list.specs.declared.Written.TheVariants.{Wrote}
 use Rattle.list.specs.Interval.{is_proper, names}
 use Rattle.list.specs.Among.{among}
 use Rattle.list.proofs.ProperLaws.{ProperFrom, proper-facts}
@@ -17,8 +17,6 @@ use Rattle.list.proofs.WalkLaws.{walked-length}
 use Rattle.list.proofs.KeptLaws.{kept-facts}
 use Rattle.index.specs.Format.{word_count, highest, word_of, singles_of, lower_of, list_of, entry_singles, entry_lowers, entry_uppers}
 use Rattle.index.specs.Sound.{Sound}
-use Rattle.directory.specs.declared.Standing.{Standing}
-use Rattle.directory.specs.declared.Standing.TheVariants.{Here, Absent}
 use Rattle.directory.specs.Has.{has}
 use Rattle.directory.specs.Standing.{word_place, standing_of}
 use Rattle.index.proofs.SoundLaws.{words_step, sound-entry, sound-list, singles-length, lower-length}
@@ -68,9 +66,9 @@ module _ (a b : List ℕ) (s : Sound a) (t : Sound b) (agree : (w : List ℕ) (x
   word-there : (i : ℕ) → i < word_count a → (place_in i < word_count b) × (word_of b (place_in i) ≡ word_of a i)
   word-there i h = go (standing_of b (word_of a i)) refl
     where
-      go : (found : Standing) → standing_of b (word_of a i) ≡ found → (place_in i < word_count b) × (word_of b (place_in i) ≡ word_of a i)
-      go (Here j) e = let w = stands_at b t (word_of a i) (Here j) e in rw (entry_place_lem b t (word_of a i) j w.1 w.2) (w.1, w.2)
-      go (Absent p) e =
+      go : (found : Result ℕ ℕ) → standing_of b (word_of a i) ≡ found → (place_in i < word_count b) × (word_of b (place_in i) ≡ word_of a i)
+      go (Ok j) e = let w = stands_at b t (word_of a i) (Ok j) e in rw (entry_place_lem b t (word_of a i) j w.1 w.2) (w.1, w.2)
+      go (Err p) e =
           let x = get_or (list_of a i) 0 0 in
           let some = first-named (highest a) (list_of a i) (list-proper a s i h) (list-some a s i h) in
           true-false (sym some ∙ sym (has-entry a s (word_of a i) i x h refl) ∙ agree (word_of a i) x ∙ absent-has b t (word_of a i) p x e)
@@ -120,7 +118,7 @@ has-determines a b s t c d e f =
 
 -- so a build from an index's N and its words' records gives that index again, byte for byte
 pub build-again : (index : List ℕ) → Sound index → Below 256 index → (words counts numbers out out' : List ℕ) (size : ℕ) →
-    Builds (highest index) words counts numbers out out' (Wrote size) →
+    Builds (highest index) words counts numbers out out' (Ok size) →
     ((w : List ℕ) (x : ℕ) → among (records_for (lent_words words) (lists_from counts numbers) w) x ≡ has index w x) → take size out' ≡ index
 build-again index s b words counts numbers out out' size done f =
     has-determines (take size out') index (build-sound done) s (build-below done) b (build-highest done) (λ w x. build-has done w x ∙ f w x)

@@ -1,4 +1,5 @@
 -- What is lent to a build and is good: what the check's answer is, and what it says of the words, counts and numbers.
+use Rattle.std.specs.Prelude.{Option, Some, None, Result, Ok, Err}
 use mathlib.Core.Path.{◌≡◌, refl, sym, ap, ◌∙◌}
 use Prim.Native.Nat.{ℕ, ◌+◌, ◌-◌, ◌*◌, ◌≤◌, ◌<◌}
 use native.Mathlib.Omega.{arith}
@@ -10,22 +11,16 @@ use lib.Seq.{sets}
 use borrow.Author.Tests.{lt-ltb, le-ltb, ltb-false, le-leb, lt-leb}
 use Rattle.laws.proofs.Tests.{leb-cases}
 use Rattle.limits.specs.Limits.{index_max, record_max, words_max}
-use Rattle.refusal.specs.declared.Found.{Found}
-use Rattle.refusal.specs.declared.Found.TheVariants.{At, Nowhere}
 use Rattle.refusal.specs.declared.Refusal.{Refusal}
 use Rattle.refusal.specs.declared.Refusal.TheVariants.{BuildWord, BuildCount, BuildSize, Number, Room}
 use Rattle.refusal.specs.First.{first}
 use Rattle.refusal.proofs.FirstLaws.{first-none}
-use Rattle.list.specs.declared.Written.TheVariants as written
 use Rattle.list.specs.Outcome.{refused}
 use Rattle.list.proofs.RecordLaws.{Ascends}
 use Rattle.list.specs.Front.{in_front}
 use Rattle.convert.proofs.NumberLaws.{good-ascends, ascends-good}
-use Rattle.index.specs.declared.Checked.{Checked}
-use Rattle.index.specs.declared.Checked.TheVariants.{Good, Refused}
 use Rattle.index.specs.Format.{part}
 use Rattle.index.proofs.CheckLaws.{not_good, cond-good, place_none}
-use Rattle.build.specs.declared.words.Words.TheVariants.{Counted, Bad}
 use Rattle.layout.specs.declared.entry.Spots.{Spots}
 use Rattle.build.specs.Lent.{lent_words, word_total, bad_lent, bad_count, bad_rest, sum_to, lists_from}
 use Rattle.layout.specs.Layout.{cells_bytes, lists_bytes, words_bytes}
@@ -40,16 +35,16 @@ use Rattle.build.proofs.EnterLaws.{index-written}
 
 -- ---- the answers of the passes
 
-pub words-bad : (f : Found) (n i : ℕ) → words_answer f n ≡ Bad i → f ≡ At i
-words-bad (At j) n i e = let q : j ≡ i = cc in ap At q
-words-bad Nowhere n i e = absurd (let z : ◌≡◌ {A = ℕ} 0 1 = cc in omega arith)
+pub words-bad : (f : Option ℕ) (n : ℕ) (r : Refusal) (c : Result Unit Refusal) → words_answer f n ≡ Err r → fault_then BuildWord f c ≡ Err r
+words-bad (Some j) n r c e = cc
+words-bad None n r c e = absurd (let z : ◌≡◌ {A = ℕ} 0 1 = cc in omega arith)
 
-pub words-counted : (f : Found) (n k : ℕ) → words_answer f n ≡ Counted k → (f ≡ Nowhere) × (n ≡ k)
-words-counted (At j) n k e = absurd (let z : ◌≡◌ {A = ℕ} 0 1 = cc in omega arith)
-words-counted Nowhere n k e = (refl, cc)
+pub words-counted : (f : Option ℕ) (n k : ℕ) → words_answer f n ≡ Ok k → (f ≡ None) × (n ≡ k)
+words-counted (Some j) n k e = absurd (let z : ◌≡◌ {A = ℕ} 0 1 = cc in omega arith)
+words-counted None n k e = (refl, cc)
 
 -- where no count is bad there are as many as words, and they take all numbers
-pub fair-counts : (counts : List ℕ) (total words : ℕ) → count_fault counts total words ≡ Nowhere → (length counts ≡ words) × Fair counts total
+pub fair-counts : (counts : List ℕ) (total words : ℕ) → count_fault counts total words ≡ None → (length counts ≡ words) × Fair counts total
 fair-counts counts total words e =
     let p = place_none (first (bad_count counts total) words) (bad_rest counts total words) words e in
     let q : length counts ≡ words = leb-cases words (length counts) (λ h. omega (arith, (lent-rest counts total words p.1).0))
@@ -59,39 +54,39 @@ fair-counts counts total words e =
 -- ---- the check's answer
 
 module _ (n : ℕ) (words counts numbers : List ℕ) where
-  pub refused-limit : record_max < n → lent_of n words counts numbers ≡ Refused (BuildSize 0)
+  pub refused-limit : record_max < n → lent_of n words counts numbers ≡ Err (BuildSize 0)
   unfolding lent_of
   refused-limit h = rw (lt-ltb record_max n h)
 
   module _ (h : n ≤ record_max) where
-    pub refused-word : (i : ℕ) → bad_words words ≡ At i → lent_of n words counts numbers ≡ Refused (BuildWord i)
+    pub refused-word : (k : ℕ) (r : Refusal) → words_answer (bad_words words) k ≡ Err r → lent_of n words counts numbers ≡ Err r
     unfolding lent_of
-    refused-word i e = rw (le-ltb record_max n h, e)
+    refused-word k r e = rw (le-ltb record_max n h) (words-bad (bad_words words) k r _ e)
 
-    module _ (e : bad_words words ≡ Nowhere) where
-      pub refused-count : (i : ℕ) → bad_counts words counts numbers ≡ At i → lent_of n words counts numbers ≡ Refused (BuildCount i)
+    module _ (e : bad_words words ≡ None) where
+      pub refused-count : (i : ℕ) → bad_counts words counts numbers ≡ Some i → lent_of n words counts numbers ≡ Err (BuildCount i)
       unfolding lent_of
       refused-count i f = rw (le-ltb record_max n h, e, f)
 
-      pub refused-number : bad_counts words counts numbers ≡ Nowhere → (i : ℕ) → bad_numbers n words counts numbers ≡ At i →
-          lent_of n words counts numbers ≡ Refused (Number i)
+      pub refused-number : bad_counts words counts numbers ≡ None → (i : ℕ) → bad_numbers n words counts numbers ≡ Some i →
+          lent_of n words counts numbers ≡ Err (Number i)
       unfolding lent_of
       refused-number f i g = rw (le-ltb record_max n h, e, f, g)
 
-      pub none-refused : bad_counts words counts numbers ≡ Nowhere → bad_numbers n words counts numbers ≡ Nowhere → lent_of n words counts numbers ≡ Good
+      pub none-refused : bad_counts words counts numbers ≡ None → bad_numbers n words counts numbers ≡ None → lent_of n words counts numbers ≡ Ok tt
       unfolding lent_of
       none-refused f g = rw (le-ltb record_max n h, e, f, g)
 
   -- and what comes of the build by it
-  pub refused-lent : (r : Refusal) (room : ℕ) → lent_of n words counts numbers ≡ Refused r → build_outcome n words counts numbers room ≡ refused r
+  pub refused-lent : (r : Refusal) (room : ℕ) → lent_of n words counts numbers ≡ Err r → build_outcome n words counts numbers room ≡ refused r
   unfolding build_outcome
   refused-lent r room e = rw e
 
 -- ---- what is good
 
-then-good : (refusal : ℕ → Refusal) (f : Found) (c : Checked) → fault_then refusal f c ≡ Good → (f ≡ Nowhere) × (c ≡ Good)
-then-good refusal (At i) c e = not_good (refusal i) e
-then-good refusal Nowhere c e = (refl, e)
+then-good : (refusal : ℕ → Refusal) (f : Option ℕ) (c : Result Unit Refusal) → fault_then refusal f c ≡ Ok tt → (f ≡ None) × (c ≡ Ok tt)
+then-good refusal (Some i) c e = not_good (refusal i) e
+then-good refusal None c e = (refl, e)
 
 pub record EachGood (n : ℕ) (words counts numbers : List ℕ) : Type 0 where
   pub limit : n ≤ record_max
@@ -101,7 +96,7 @@ pub record EachGood (n : ℕ) (words counts numbers : List ℕ) : Type 0 where
   pub ascends : (i : ℕ) → i < length counts → Ascends n 0 (get_or (lists_from counts numbers) i [])
   pub lists : Lists counts numbers
 
-pub each-good : {n : ℕ} {words counts numbers : List ℕ} → lent_of n words counts numbers ≡ Good → EachGood n words counts numbers
+pub each-good : {n : ℕ} {words counts numbers : List ℕ} → lent_of n words counts numbers ≡ Ok tt → EachGood n words counts numbers
 unfolding lent_of
 each-good {n} {words} {counts} {numbers} e =
     let k = length (lent_words words) in
@@ -145,7 +140,7 @@ module _ {n : ℕ} {words counts numbers : List ℕ} (is : EachGood n words coun
   good-lists : lists_bytes n xss ≡ lists_bytes record_max xss
   good-lists = lists-limit n is.limit xss lists-ascend
 
-pub lent-good : {n : ℕ} {words counts numbers : List ℕ} → lent_of n words counts numbers ≡ Good → GoodLent n words counts numbers
+pub lent-good : {n : ℕ} {words counts numbers : List ℕ} → lent_of n words counts numbers ≡ Ok tt → GoodLent n words counts numbers
 lent-good {n} {words} {counts} {numbers} e =
     let is : EachGood n words counts numbers = each-good e in
     let m = is.as_many in
@@ -166,7 +161,7 @@ module _ {n : ℕ} {words counts numbers : List ℕ} (is : GoodLent n words coun
   abbrev index : List ℕ
   index = index_from n words counts numbers
 
-  pub build-large : {out : List ℕ} → index_max < length index → Builds n words counts numbers out out (written.Refused (BuildSize 1))
+  pub build-large : {out : List ℕ} → index_max < length index → Builds n words counts numbers out out (Err (BuildSize 1))
   unfolding build_outcome
   build-large h = let large = lt-ltb index_max (length index) h in record { answer = rw (is.good, large); bytes = rw (is.good, large) }
 
@@ -174,13 +169,13 @@ module _ {n : ℕ} {words counts numbers : List ℕ} (is : GoodLent n words coun
     abbrev small : ltb index_max size ≡ false
     small = le-ltb index_max size h
 
-    pub build-cramped : {out : List ℕ} → length out < size → Builds n words counts numbers out out (written.Refused (Room size))
+    pub build-cramped : {out : List ℕ} → length out < size → Builds n words counts numbers out out (Err (Room size))
     unfolding build_outcome
     build-cramped {out} g =
         let cramped = lt-leb size (length out) g in
         record { answer = rw (is.good, e, small, cramped); bytes = rw (is.good, e, small, cramped) }
 
-    pub build-wrote : {out out' : List ℕ} → size ≤ length out → out' ≡ in_front index out → Builds n words counts numbers out out' (written.Wrote size)
+    pub build-wrote : {out out' : List ℕ} → size ≤ length out → out' ≡ in_front index out → Builds n words counts numbers out out' (Ok size)
     unfolding build_outcome
     build-wrote {out} g w =
         let fits = le-leb size (length out) g in

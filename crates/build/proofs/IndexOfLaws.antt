@@ -1,4 +1,5 @@
 -- What an index that is built reads as: its trailer, its entries, its words and its lists. So it is sound.
+use Rattle.std.specs.Prelude.{Ok}
 use mathlib.Core.Path.{◌≡◌, refl, sym, ap, ◌∙◌}
 use Prim.Native.Nat.{ℕ, zero, suc, ◌+◌, ◌-◌, ◌*◌, ◌≤◌, ◌<◌}
 use native.Mathlib.Omega.{arith}
@@ -19,7 +20,6 @@ use Rattle.convert.proofs.NumberLaws.{good-ascends}
 use Rattle.index.specs.Format.{words_start, directory_start, word_count, highest, edition, entry_place, word_start, word_length, list_start, single_count, pair_count}
 use Rattle.index.specs.Format.{list_length, words_end, lists_end, part, word_of, singles_of, lower_of, upper_of, list_of, entry_singles, entry_lowers, entry_uppers}
 use Rattle.index.specs.Sound.{bad_trailer, bad_directory, bad_word, bad_entry, bad_end, bad_list, word_before, Sound}
-use Rattle.index.specs.declared.Checked.TheVariants.{Good}
 use Rattle.index.specs.Check.{check_of}
 use Rattle.index.proofs.CheckLaws.{length-good, edition-good, sound-good}
 use Rattle.build.specs.Lent.{lent_before}
@@ -370,7 +370,7 @@ module _ {every : Bool} {n : ℕ} {ws xss : List (List ℕ)} (is : Indexable eve
         lists = λ i h. good-list i (omega (arith, built-word-count));
       }
 
-  pub built-good : check_of index ≡ Good
+  pub built-good : check_of index ≡ Ok tt
   built-good = sound-good index built-sound
 
   pub built-below : Below 256 index

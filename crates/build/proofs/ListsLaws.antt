@@ -1,4 +1,5 @@
 -- The lists that are lent, one after the other: the next one and those behind it; and that no limit above their numbers changes what they are written as.
+use Rattle.std.specs.Prelude.{None}
 use mathlib.Core.Path.{◌≡◌, refl, sym, ap, ◌∙◌}
 use Prim.Native.Nat.{ℕ, suc, ◌+◌, ◌-◌, ◌≤◌, ◌<◌}
 use native.Mathlib.Omega.{arith}
@@ -7,7 +8,6 @@ use lib.ListN.{length, get_or, take, drop, length-append}
 use lib.Seq.{drop-drop}
 use Rattle.laws.proofs.Lists.{drop-next, drop-none}
 use Rattle.limits.specs.Limits.{record_max}
-use Rattle.refusal.specs.declared.Found.TheVariants.{Nowhere}
 use Rattle.convert.specs.Convert.{bad_number_of}
 use Rattle.list.proofs.RecordLaws.{Ascends}
 use Rattle.convert.proofs.NumberLaws.{ascends-good}
@@ -29,7 +29,7 @@ lists-next counts numbers i start {end} h e =
 
 module _ {counts numbers : List ℕ} (is : Lists counts numbers) (i : ℕ) {start end : ℕ} (h : i < length counts) (s : start ≡ sum_to counts i)
     (e : end ≡ start + get_or counts i 0) where
-  pub list-good : bad_number_of (take (end - start) (drop start numbers)) ≡ Nowhere
+  pub list-good : bad_number_of (take (end - start) (drop start numbers)) ≡ None
   list-good = rw (list-part counts numbers i start end s e) (is.good i h)
 
   pub list-long : length (take (end - start) (drop start numbers)) ≡ get_or counts i 0

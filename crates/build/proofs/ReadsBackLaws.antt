@@ -1,4 +1,5 @@
 -- An index that is built has of each word the records that it was built from, and of no other word any.
+use Rattle.std.specs.Prelude.{Option, Some, None}
 use mathlib.Core.Path.{◌≡◌, refl, sym, ap, ◌∙◌}
 use Prim.Native.Nat.{ℕ, zero, suc, ◌≤◌, ◌<◌}
 use native.Mathlib.Omega.{arith}
@@ -7,8 +8,6 @@ use native.Mathlib.Decide.{dec_le}
 use mathlib.Core.Bool.{Bool, true, false}
 use mathlib.Core.List.{List, [], ◌∷◌}
 use lib.ListN.{length, get_or}
-use Rattle.refusal.specs.declared.Found.{Found}
-use Rattle.refusal.specs.declared.Found.TheVariants.{At, Nowhere}
 use Rattle.refusal.specs.First.{first}
 use Rattle.refusal.proofs.FirstLaws.{first-at, first-none}
 use Rattle.word.specs.Word.{same}
@@ -67,11 +66,11 @@ module _ {every : Bool} {n : ℕ} {ws xss : List (List ℕ)} (is : Indexable eve
   unfolding among
   reads-back w x = go (first (λ i. same (get_or ws i []) w) (length ws)) refl
     where
-      go : (f : Found) → first (λ i. same (get_or ws i []) w) (length ws) ≡ f → has (index_of n ws xss) w x ≡ among (records_for ws xss w) x
-      go (At i) e =
+      go : (f : Option ℕ) → first (λ i. same (get_or ws i []) w) (length ws) ≡ f → has (index_of n ws xss) w x ≡ among (records_for ws xss w) x
+      go (Some i) e =
           let f = first-at (λ i. same (get_or ws i []) w) i (length ws) e in
           let q = same-equal (get_or ws i []) w f.holds in
           rw (records-for-at ws xss w i is.as_many f.below f.holds f.before, ← q) (built-has i x f.below)
-      go Nowhere e =
+      go None e =
           let f = first-none (λ i. same (get_or ws i []) w) (length ws) e in
           rw (records-for-none ws xss w f) (built-lacks w x f)

@@ -1,8 +1,10 @@
 -- One pass over the words that are lent: where the next one ends, what is left behind it, and what the words passed so far were.
+use Rattle.std.specs.Prelude.{Some, None}
 use mathlib.Core.Path.{◌≡◌, refl, sym, ◌∙◌}
 use Prim.Native.Nat.{ℕ, suc, ◌+◌, ◌-◌, ◌≤◌, ◌<◌}
 use native.Mathlib.Omega.{arith}
 use native.Mathlib.Numerals.{add-one}
+use mathlib.Core.Logic.{◌⊎◌, inl, inr}
 use mathlib.Core.Bool.{Bool, true, false, cond, not, ◌&&◌, ◌||◌}
 use mathlib.Core.List.{List, [], ◌∷◌, ◌++◌, append-nil, append_assoc}
 use lib.Dec.{eqb, leb}
@@ -12,7 +14,6 @@ use borrow.Author.Tests.{le-leb, lt-leb}
 use Rattle.laws.proofs.Tests.{and_both, leb-cases, true-false}
 use Rattle.laws.proofs.Lists.{drop-none}
 use Rattle.limits.specs.Limits.{words_max}
-use Rattle.refusal.specs.declared.Found.TheVariants.{At, Nowhere}
 use Rattle.refusal.specs.First.{first}
 use Rattle.refusal.proofs.FirstLaws.{first-is, first-none-is}
 use Rattle.word.specs.Word.{before, is_word}
@@ -105,26 +106,22 @@ module _ (bytes : List ℕ) (good : (i : ℕ) → i < word_total bytes → LentW
 
 -- ---- the pass
 
--- the words before start are passed, count of them, and none is bad; the last of them stands from prior to prior_end
-pub record Passing (bytes : List ℕ) (prior prior_end start count : ℕ) : Type 0 where
+-- the words before start are passed, count of them, and none is bad; prior is the last of them
+pub record Passing (bytes prior : List ℕ) (start count : ℕ) : Type 0 where
   pub within : start ≤ length bytes
-  pub ordered : prior ≤ prior_end
-  pub behind : prior_end ≤ start
   pub few : count ≤ start
   pub limit : count ≤ words_max
   pub seen : count ≤ length (lent_words bytes)
   pub words : words_from [] (drop start bytes) ≡ drop count (lent_words bytes)
   pub rest : rest_from [] (drop start bytes) ≡ rest_of bytes
-  pub last : take (prior_end - prior) (drop prior bytes) ≡ lent_before (lent_words bytes) count
+  pub last : prior ≡ lent_before (lent_words bytes) count
   pub good : (j : ℕ) → j < count → bad_lent (lent_words bytes) j ≡ false
 
-pub pass-start : (bytes : List ℕ) → Passing bytes 0 0 0 0
+pub pass-start : (bytes : List ℕ) → Passing bytes [] 0 0
 unfolding lent_words rest_of
 pass-start bytes =
     record {
       within = omega arith;
-      ordered = omega arith;
-      behind = omega arith;
       few = omega arith;
       limit = omega arith;
       seen = omega arith;
@@ -139,7 +136,7 @@ none_left ws i e =
     leb-cases (length ws) i (λ h. h)
     (λ h. absurd (let f = e ∙ drop-cons ws i [] h in let z : ◌≡◌ {A = ℕ} 0 1 = cc in omega arith))
 
-module _ {bytes : List ℕ} {prior prior_end start count : ℕ} (at : Passing bytes prior prior_end start count) where
+module _ {bytes prior : List ℕ} {start count : ℕ} (at : Passing bytes prior start count) where
   abbrev ws : List (List ℕ)
   ws = lent_words bytes
 
@@ -147,7 +144,7 @@ module _ {bytes : List ℕ} {prior prior_end start count : ℕ} (at : Passing by
   unfolding word_total
   words-within i h = omega arith
 
-  pub pass-end : length bytes ≤ start → (first (bad_lent ws) (word_total bytes) ≡ Nowhere) × (count ≡ length ws)
+  pub pass-end : length bytes ≤ start → (first (bad_lent ws) (word_total bytes) ≡ None) × (count ≡ length ws)
   unfolding word_total words_from rest_from
   pass-end h =
       let e = drop-none bytes start h in
@@ -161,7 +158,7 @@ module _ {bytes : List ℕ} {prior prior_end start count : ℕ} (at : Passing by
     word = take (end - start) (drop start bytes)
 
     -- the last is not ended
-    pub pass-open : start < length bytes → end ≡ length bytes → first (bad_lent ws) (word_total bytes) ≡ At count
+    pass-open : start < length bytes → end ≡ length bytes → first (bad_lent ws) (word_total bytes) ≡ Some count
     unfolding word_total bad_lent
     pass-open h g =
         let w = last_word bytes is at.within g in
@@ -178,18 +175,18 @@ module _ {bytes : List ℕ} {prior prior_end start count : ℕ} (at : Passing by
       here : Next [] ws count word (words_from [] (drop (end + 1) bytes))
       here = next_of [] (sym at.words ∙ (next_word bytes is at.within h).0)
 
-      at-bad : bad_lent ws count ≡ true → first (bad_lent ws) (word_total bytes) ≡ At count
+      at-bad : bad_lent ws count ≡ true → first (bad_lent ws) (word_total bytes) ≡ Some count
       at-bad e = first-is (bad_lent ws) count (word_total bytes) (record { below = words-within count here.below; holds = e; before = at.good })
 
       -- the 65,536th
-      pub pass-full : count ≡ words_max → first (bad_lent ws) (word_total bytes) ≡ At count
+      pass-full : count ≡ words_max → first (bad_lent ws) (word_total bytes) ≡ Some count
       unfolding bad_lent
       pass-full e = at-bad (rw (le-leb words_max count (omega arith)))
 
-      pub pass-bad : (is_word true word && before (take (prior_end - prior) (drop prior bytes)) word) ≡ false → first (bad_lent ws) (word_total bytes) ≡ At count
+      pub pass-bad : (is_word true word && before prior word) ≡ false → first (bad_lent ws) (word_total bytes) ≡ Some count
       unfolding bad_lent
       pass-bad e = at-bad (rw (here.is, ← at.last)
-          (bad (leb words_max count) (leb (length ws) count) (is_word true word) (before (take (prior_end - prior) (drop prior bytes)) word) e))
+          (bad (leb words_max count) (leb (length ws) count) (is_word true word) (before prior word) e))
         where
           bad : (a b c d : Bool) → c && d ≡ false → a || b || not c || not d ≡ true
           bad true b c d e = refl
@@ -198,17 +195,15 @@ module _ {bytes : List ℕ} {prior prior_end start count : ℕ} (at : Passing by
           bad false false true false e = refl
           bad false false false d e = refl
 
-      pub pass-next : (count ≡ words_max → ⊥) → (is_word true word && before (take (prior_end - prior) (drop prior bytes)) word) ≡ true →
-          Passing bytes start end (end + 1) (count + 1)
+      pub pass-next : (count ≡ words_max → ⊥) → (is_word true word && before prior word) ≡ true →
+          Passing bytes word (end + 1) (count + 1)
       unfolding bad_lent
       pass-next f e =
-          let b = and_both (is_word true word) (before (take (prior_end - prior) (drop prior bytes)) word) e in
+          let b = and_both (is_word true word) (before prior word) e in
           let l : count < words_max = leb-cases words_max count (λ g. absurd (f (omega (arith, at.limit)))) (λ g. g) in
           let n = here in
           record {
             within = omega arith;
-            ordered = omega arith;
-            behind = omega arith;
             few = omega (arith, at.few);
             limit = omega arith;
             seen = omega (arith, n.below);
@@ -219,3 +214,9 @@ module _ {bytes : List ℕ} {prior prior_end start count : ℕ} (at : Passing by
                 (λ g. let q : j ≡ count = omega arith in rw (q, lt-leb words_max count l, lt-leb (length ws) count n.below, n.is, b.0, ← at.last, b.1))
                 (λ g. at.good j g);
           }
+
+    -- it is not ended, or is one too many
+    pub pass-over : start < length bytes → end ≤ length bytes → (end ≡ length bytes) ⊎ ((end ≡ length bytes → ⊥) × count ≡ words_max) →
+        first (bad_lent ws) (word_total bytes) ≡ Some count
+    pass-over h g (inl e) = pass-open h e
+    pass-over h g (inr w) = let d = w.0 in pass-full (omega arith) w.1

@@ -1,38 +1,35 @@
 -- What the passes of a build answer and hold, each by the definitions that the build goes by.
-use Rattle.std.specs.Prelude.{ℕ, ◌+◌, ◌-◌, ◌*◌, ◌≤◌, ◌<◌, ◌≡◌, false, List, length, get_or}
+use Rattle.std.specs.Prelude.{ℕ, ◌+◌, ◌-◌, ◌*◌, ◌≤◌, ◌<◌, ◌≡◌, false, List, length, get_or, Option, Some, None, Result, Ok, Err}
 use Rattle.std.proofs.lemmas.List.Edits.{sets}
 use Rattle.limits.specs.Limits.{index_max, record_max, words_max}
-use Rattle.refusal.specs.declared.Found.{Found}
-use Rattle.refusal.specs.declared.Found.TheVariants.{At, Nowhere}
+use Rattle.refusal.specs.declared.Refusal.{Refusal}
+use Rattle.refusal.specs.declared.Refusal.TheVariants.{BuildWord}
 use Rattle.refusal.specs.First.{first}
 use Rattle.convert.specs.Convert.{bad_number_of}
 use Rattle.index.specs.Format.{part}
-use Rattle.build.specs.declared.words.Words.{Words}
-use Rattle.build.specs.declared.words.Words.TheVariants.{Counted, Bad}
 use Rattle.layout.specs.declared.entry.Spots.{Spots}
-use Rattle.index.specs.declared.Checked.TheVariants.{Good}
 use Rattle.build.specs.Lent.{lent_words, sum_to, bad_count, bad_rest, lists_from}
 use Rattle.build.specs.Build.{lent_of, index_from}
 use Rattle.layout.specs.Layout.{lists_bytes, words_bytes, directory_bytes}
 
--- the first bad word, or how many words there are
-abbrev pub words_answer : Found → ℕ → Words
-words_answer (At i) count = Bad i
-words_answer Nowhere count = Counted count
+-- the first bad word is refused, or how many words there are
+abbrev pub words_answer : Option ℕ → ℕ → Result ℕ Refusal
+words_answer (Some i) count = Err (BuildWord i)
+words_answer None count = Ok count
 
 -- every count is good, and they take all numbers
 pub record Fair (counts : List ℕ) (total : ℕ) : Type 0 where
-  pub each : first (bad_count counts total) (length counts) ≡ Nowhere
+  pub each : first (bad_count counts total) (length counts) ≡ None
   pub all : bad_rest counts total (length counts) ≡ false
 
 -- the list of each count lies within the numbers, and ascends
 pub record Lists (counts numbers : List ℕ) : Type 0 where
   pub room : (i : ℕ) → i < length counts → sum_to counts i + get_or counts i 0 ≤ length numbers
-  pub good : (i : ℕ) → i < length counts → bad_number_of (part (sum_to counts i) (get_or counts i 0) numbers) ≡ Nowhere
+  pub good : (i : ℕ) → i < length counts → bad_number_of (part (sum_to counts i) (get_or counts i 0) numbers) ≡ None
 
 -- Reference 9.2: nothing that is lent is refused; how many words there are then, and how long their bytes and the index
 pub record GoodLent (n : ℕ) (words counts numbers : List ℕ) : Type 0 where
-  pub good : lent_of n words counts numbers ≡ Good
+  pub good : lent_of n words counts numbers ≡ Ok tt
   pub few : length counts ≤ words_max
   pub as_many : length (lent_words words) ≡ length counts
   pub lists : Lists counts numbers

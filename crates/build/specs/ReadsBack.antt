@@ -1,7 +1,6 @@
 -- The words in which it is said that a built index reads back (Reference 8.9), and that a sound one has one encoding (Reference 5.5).
-use Rattle.std.specs.Prelude.{ℕ, zero, suc, ◌+◌, ◌≤◌, ◌<◌, ◌≡◌, Bool, true, cond, List, [], ◌∷◌, length, get_or}
+use Rattle.std.specs.Prelude.{ℕ, zero, suc, ◌+◌, ◌≤◌, ◌<◌, ◌≡◌, Bool, true, cond, List, [], ◌∷◌, length, get_or, None}
 use Rattle.limits.specs.Limits.{index_max, record_max, words_max}
-use Rattle.refusal.specs.declared.Found.TheVariants.{Nowhere}
 use Rattle.refusal.specs.First.{first}
 use Rattle.word.specs.Word.{same, before, is_word}
 use Rattle.list.specs.Interval.{names}
@@ -20,7 +19,7 @@ pub record Indexable (every : Bool) (n : ℕ) (ws xss : List (List ℕ)) : Type 
   pub word : (i : ℕ) → i < length ws → is_word every (get_or ws i []) ≡ true
   pub order : (i : ℕ) → i < length ws → before (lent_before ws i) (get_or ws i []) ≡ true
   pub some : (i : ℕ) → i < length ws → 1 ≤ length (get_or xss i [])
-  pub records : (i : ℕ) → i < length ws → first (bad_number n (get_or xss i [])) (length (get_or xss i [])) ≡ Nowhere
+  pub records : (i : ℕ) → i < length ws → first (bad_number n (get_or xss i [])) (length (get_or xss i [])) ≡ None
   pub size : length (index_of n ws xss) ≤ index_max
 
 -- Reference 8.9: the records of word w, of words and their lists: none where it is not among the words

@@ -6,58 +6,74 @@ ghost use Rattle.build.specs.Passes.{GoodLent};
 use crate::counts::check_counts;
 use crate::numbers::check_numbers;
 use crate::size::lists_size;
-use crate::words::{Words, check_words};
-use crate::write::write_index;
-use index::Checked;
+use crate::words::check_words;
 use limits::{INDEX_MAX, RECORD_MAX};
-use list::Written;
-use refusal::{Found, Refusal};
+use refusal::Refusal;
 
-// Reference 9.2: refusals 19 with 0, 17, 18 and 15.
-fn check_lent(n: u32, words: &[u8], counts: &[u32], numbers: &[u32]) -> Checked
-    ensures { result ≡ lent_of n words.now counts.now numbers.now }
-{
-    if n > RECORD_MAX {
-        return Checked::Refused(Refusal::BuildSize(0));
-    }
-    match check_words(words) {
-        Words::Bad(i) => Checked::Refused(Refusal::BuildWord(i)),
-        Words::Counted(count) => match check_counts(counts, numbers.len(), count) {
-            Found::At(i) => Checked::Refused(Refusal::BuildCount(i)),
-            Found::Nowhere => match check_numbers(n, counts, numbers) {
-                Found::At(i) => Checked::Refused(Refusal::Number(i)),
-                Found::Nowhere => Checked::Good,
-            },
-        },
-    }
+// What is lent to a build: the limit N, the words with a byte 10 behind each, and the records of each word, counted and then all in one.
+#[derive(Clone, Copy)]
+pub struct Lent<'a> {
+    pub n: u32,
+    pub words: &'a [u8],
+    pub counts: &'a [u32],
+    pub numbers: &'a [u32],
 }
 
-// Reference 9.2: refusals 19 with 1 and 12, or the index written.
-fn build_checked(n: u32, words: &[u8], counts: &[u32], numbers: &[u32], out: &mut [u8]) -> Written
-    requires { GoodLent n words.now counts.now numbers.now }
-    ensures { Builds n words.now counts.now numbers.now out.old out.new result }
-{
-    let lists = lists_size(counts, numbers);
-    if lists > INDEX_MAX {
-        return Written::Refused(Refusal::BuildSize(1));
+impl Lent<'_> {
+    // Reference 9.2: refusals 19 with 0, 17, 18 and 15.
+    fn check(self) -> Result<(), Refusal>
+        ensures { result ≡ lent_of self.entry.n self.entry.words.now self.entry.counts.now self.entry.numbers.now }
+    {
+        if self.n > RECORD_MAX {
+            return Err(Refusal::BuildSize(0));
+        }
+        let count = check_words(self.words)?;
+        if let Some(i) = check_counts(self.counts, self.numbers.len(), count) {
+            return Err(Refusal::BuildCount(i));
+        }
+        if let Some(i) = check_numbers(self.n, self.counts, self.numbers) {
+            return Err(Refusal::Number(i));
+        }
+        Ok(())
     }
-    let size = lists + (words.len() - counts.len()) + 20 * counts.len() + 20;
-    if size > INDEX_MAX {
-        return Written::Refused(Refusal::BuildSize(1));
+
+    // Reference 9.2: refusals 19 with 1 and 12, or the index written.
+    fn build_checked(self, out: &mut [u8]) -> Result<usize, Refusal>
+        requires { GoodLent self.n self.words.now self.counts.now self.numbers.now }
+        ensures { Builds self.entry.n self.entry.words.now self.entry.counts.now self.entry.numbers.now out.old out.new result }
+    {
+        let lists = lists_size(self.counts, self.numbers);
+        if lists > INDEX_MAX {
+            return Err(Refusal::BuildSize(1));
+        }
+        let size = lists + (self.words.len() - self.counts.len()) + 20 * self.counts.len() + 20;
+        if size > INDEX_MAX {
+            return Err(Refusal::BuildSize(1));
+        }
+        if out.len() < size {
+            return Err(Refusal::Room(size));
+        }
+        self.write_index(lists, out);
+        Ok(size)
     }
-    if out.len() < size {
-        return Written::Refused(Refusal::Room(size));
-    }
-    write_index(n, words, counts, numbers, lists, out);
-    Written::Wrote(size)
 }
 
 // Reference 8.9: builds an index; how many bytes were written, or the first refusal that holds.
-pub fn build_index(n: u32, words: &[u8], counts: &[u32], numbers: &[u32], out: &mut [u8]) -> Written
+pub fn build_index(
+    n: u32,
+    words: &[u8],
+    counts: &[u32],
+    numbers: &[u32],
+    out: &mut [u8],
+) -> Result<usize, Refusal>
     ensures { Builds n words.now counts.now numbers.now out.old out.new result }
 {
-    match check_lent(n, words, counts, numbers) {
-        Checked::Refused(refusal) => Written::Refused(refusal),
-        Checked::Good => build_checked(n, words, counts, numbers, out),
-    }
+    let lent = Lent {
+        n,
+        words,
+        counts,
+        numbers,
+    };
+    lent.check()?;
+    lent.build_checked(out)
 }

@@ -14,12 +14,10 @@ pub fn lists_size(counts: &[u32], numbers: &[u32]) -> usize
 {
     let mut size: usize = 0;
     let mut start = 0;
-    let mut i = 0;
-    while i < counts.len() {
-        let end = start + counts[i] as usize;
+    for &count in counts {
+        let end = start + count as usize;
         size += list_size(count_kept(&numbers[start..end]));
         start = end;
-        i += 1;
     }
     size
 }

@@ -6,37 +6,28 @@ ghost use Rattle.build.specs.Passes.{words_answer};
 
 use limits::WORDS_MAX;
 use parts::part_end;
+use refusal::Refusal;
 
-// How many words there are, or the first bad one.
-#[derive(Clone, Copy)]
-pub enum Words {
-    Counted(usize),
-    Bad(usize),
-}
-
-// One pass over the words, with where the one before stands.
-pub fn check_words(words: &[u8]) -> Words
+// How many words there are, or the first bad one: one pass, with the word before.
+pub fn check_words(words: &[u8]) -> Result<usize, Refusal>
     ensures { result ≡ words_answer (bad_words words.now) (length (lent_words words.now)) }
 {
-    let mut prior = 0;
-    let mut prior_end = 0;
+    let mut prior: &[u8] = &[];
     let mut start = 0;
     let mut count = 0;
+    // no `for`: the place moves past the word found, not by one
     while start < words.len() {
         let end = part_end(words, start, b'\n');
-        if end == words.len() {
-            return Words::Bad(count);
+        if end == words.len() || count == WORDS_MAX {
+            return Err(Refusal::BuildWord(count));
         }
-        if count == WORDS_MAX {
-            return Words::Bad(count);
+        let word = &words[start..end];
+        if !index::check::word_good(prior, word, true) {
+            return Err(Refusal::BuildWord(count));
         }
-        if !index::check::word_good(&words[prior..prior_end], &words[start..end], true) {
-            return Words::Bad(count);
-        }
-        prior = start;
-        prior_end = end;
+        prior = word;
         start = end + 1;
         count += 1;
     }
-    Words::Counted(count)
+    Ok(count)
 }

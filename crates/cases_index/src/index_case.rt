@@ -1,48 +1,46 @@
 // The calls that read an index.
-use crate::print::{print_refusal, print_two};
-use directory::{Lookup, Probed};
-use index::Checked;
+use refusal::Refusal;
 use script::number::number32;
+use script::output::{Printed, Shown};
 use script::part::field;
 use script::text::read_text;
+use std::fmt::Write;
 
-fn print_checked(checked: Checked) {
+fn print_checked(out: &mut impl Write, checked: Result<(), Refusal>) -> Printed {
     match checked {
-        Checked::Good => print_two(0, 0),
-        Checked::Refused(refusal) => print_refusal(refusal),
+        Ok(()) => write!(out, "0 0"),
+        Err(refusal) => write!(out, "{}", Shown(refusal)),
     }
 }
 
-pub fn check(index: &[u8]) {
-    print_checked(index::check::check_index(index));
+pub fn check(out: &mut impl Write, index: &[u8]) -> Printed {
+    print_checked(out, index::check::check_index(index))
 }
 
-pub fn look(line: &[u8], index: &[u8]) {
+pub fn look(out: &mut impl Write, line: &[u8], index: &[u8]) -> Printed {
     let mut word = [0u8; 64];
     let n = read_text(field(line, 2), &mut word);
     match directory::find::look_up(index, &word[..n]) {
-        Lookup::Entry(i) => print_two(0, i as u64),
-        Lookup::NoEntry(refusal) => print_refusal(refusal),
+        Ok(i) => write!(out, "0 {i}"),
+        Err(refusal) => write!(out, "{}", Shown(refusal)),
     }
 }
 
-pub fn word(line: &[u8], index: &[u8]) {
+// The word is bytes, which `write!` does not take.
+pub fn word(out: &mut impl Write, line: &[u8], index: &[u8]) -> Printed {
     let entry = number32(field(line, 2));
-    print_checked(directory::entry::entry_refusal(index, entry));
-    io::write_all(1, b" \"");
+    print_checked(out, directory::entry::entry_refusal(index, entry))?;
+    write!(out, " \"")?;
     io::write_all(1, directory::entry::entry_word(index, entry));
-    io::write_all(1, b"\"");
+    write!(out, "\"")
 }
 
-pub fn probe(line: &[u8], index: &[u8]) {
+pub fn probe(out: &mut impl Write, line: &[u8], index: &[u8]) -> Printed {
     let entry = number32(field(line, 2));
     let a = number32(field(line, 3));
     let b = number32(field(line, 4));
     match directory::probe::probe_entry(index, entry, a, b) {
-        Probed::Counted(counts) => {
-            io::write_all(1, b"0 0 ");
-            print_two(counts.below as u64, counts.overlapping as u64);
-        }
-        Probed::NoCount(refusal) => print_refusal(refusal),
+        Ok(counts) => write!(out, "0 0 {} {}", counts.below, counts.overlapping),
+        Err(refusal) => write!(out, "{}", Shown(refusal)),
     }
 }

@@ -12,70 +12,52 @@
 
 use check::same;
 use script::lay::change;
+use script::output::{Output, Printed};
 use script::part::field;
-use script::run::begin;
+use script::run::run_input;
+use std::fmt::Write;
 
 mod build_case;
 mod bytes_case;
 mod index_case;
 mod many_case;
 mod outcome;
-mod print;
 
-fn on_index(kind: &[u8], line: &[u8], index: &[u8]) {
+fn on_index(out: &mut impl Write, kind: &[u8], line: &[u8], index: &[u8]) -> Printed {
     if same(kind, b"check") {
-        index_case::check(index);
+        index_case::check(out, index)
     } else if same(kind, b"look") {
-        index_case::look(line, index);
+        index_case::look(out, line, index)
     } else if same(kind, b"word") {
-        index_case::word(line, index);
+        index_case::word(out, line, index)
     } else if same(kind, b"probe") {
-        index_case::probe(line, index);
+        index_case::probe(out, line, index)
     } else {
-        io::write_all(1, b"no such case");
+        write!(out, "no such case")
     }
 }
 
-fn call(line: &[u8], base: &[u8], size: usize, work: &mut [u8]) {
+fn call(out: &mut impl Write, line: &[u8], base: &[u8], size: usize, work: &mut [u8]) -> Printed {
     let kind = field(line, 0);
+    write!(out, " -> ")?;
     if same(kind, b"build") {
-        build_case::build(line);
+        build_case::build(out, line)
     } else if same(kind, b"bytes") {
         bytes_case::every_byte();
+        Ok(())
     } else if same(kind, b"many") {
-        many_case::many(line);
+        many_case::many(out, line)
     } else {
         let n = change(field(line, 1), base, size, work);
-        on_index(kind, line, &work[..n]);
-    }
-}
-
-// Runs a line that is begun, if it is a call.
-fn run_line(calls: bool, line: &[u8], base: &[u8], size: usize, work: &mut [u8]) {
-    if !calls {
-        return;
-    }
-    io::write_all(1, b" -> ");
-    call(line, base, size, work);
-}
-
-fn run(script: &[u8], base: &mut [u8], work: &mut [u8]) {
-    let mut size = 0;
-    let mut at = 0;
-    while at < script.len() {
-        let begun = begin(script, at, base, size);
-        let end = begun.end;
-        size = begun.size;
-        run_line(begun.calls, &script[at..end], base, size, work);
-        io::write_all(1, b"\n");
-        at = end + 1;
+        on_index(out, kind, line, &work[..n])
     }
 }
 
 fn main() {
-    let mut script = io::large_buffer();
-    let n = io::read_full(0, &mut script);
+    let mut out = Output;
     let mut base = io::buffer();
     let mut work = io::buffer();
-    run(&script[..n], &mut base, &mut work);
+    run_input(&mut base, |line, laid, size| {
+        call(&mut out, line, laid, size, &mut work)
+    });
 }

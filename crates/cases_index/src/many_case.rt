@@ -3,7 +3,9 @@ ghost use Rattle.std.specs.Prelude.{◌≡◌, length};
 
 use crate::outcome::{BEFORE, print_outcome};
 use script::number::{number32, read_numbers, within};
+use script::output::Printed;
 use script::part::field;
+use std::fmt::Write;
 
 // A digit of i, as a letter.
 fn letter(i: usize) -> u8 {
@@ -13,25 +15,18 @@ fn letter(i: usize) -> u8 {
 // The byte at a place of ascending words of four letters, each ended by byte 10.
 fn word_byte(at: usize) -> u8 {
     let word = at / 5;
-    let place = at % 5;
-    if place == 0 {
-        letter(word / 4096)
-    } else if place == 1 {
-        letter(word / 256)
-    } else if place == 2 {
-        letter(word / 16)
-    } else if place == 3 {
-        letter(word)
-    } else {
-        10
+    match at % 5 {
+        0 => letter(word / 4096),
+        1 => letter(word / 256),
+        2 => letter(word / 16),
+        3 => letter(word),
+        _ => 10,
     }
 }
 
 fn fill_words(words: &mut [u8]) {
-    let mut at = 0;
-    while at < words.len() {
-        words[at] = word_byte(at);
-        at += 1;
+    for (at, byte) in words.iter_mut().enumerate() {
+        *byte = word_byte(at);
     }
 }
 
@@ -44,10 +39,8 @@ fn spoil_word(words: &mut [u8], word: u32) {
 
 // Puts a bad byte into each of the words.
 fn spoil(words: &mut [u8], bad: &[u32]) {
-    let mut i = 0;
-    while i < bad.len() {
-        spoil_word(words, bad[i]);
-        i += 1;
+    for &word in bad {
+        spoil_word(words, word);
     }
 }
 
@@ -65,7 +58,7 @@ fn ones() -> [u32; 65_536]
     [1; 65_536]
 }
 
-fn build_many(line: &[u8], words: &[u8], ones: &[u32]) {
+fn build_many(out: &mut impl Write, line: &[u8], words: &[u8], ones: &[u32]) -> Printed {
     let mut byte = [BEFORE];
     let n = number32(field(line, 1));
     let size = within(field(line, 2), words.len());
@@ -78,14 +71,14 @@ fn build_many(line: &[u8], words: &[u8], ones: &[u32]) {
         &ones[..total],
         &mut byte,
     );
-    print_outcome(answer, &byte);
+    print_outcome(out, answer, &byte)
 }
 
-pub fn many(line: &[u8]) {
+pub fn many(out: &mut impl Write, line: &[u8]) -> Printed {
     let mut words = word_bytes();
     let mut bad = [0u32; 8];
     let n = read_numbers(field(line, 5), &mut bad);
     fill_words(&mut words);
     spoil(&mut words, &bad[..n]);
-    build_many(line, &words, &ones());
+    build_many(out, line, &words, &ones())
 }

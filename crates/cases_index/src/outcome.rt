@@ -1,65 +1,43 @@
 // How a build's outcome is written: the answer, and whether the bytes behind what was written, or all after a refusal, are as they were.
-use crate::print::print_refusal;
-use list::Written;
+use refusal::Refusal;
+use script::output::{Printed, Shown};
+use std::fmt::Write;
 
 // What stands in every byte before a build.
 pub const BEFORE: u8 = 165;
 
-fn print_byte(b: u8) {
-    io::print_hex(1, b as u64, 2);
-}
-
-fn print_bytes(bytes: &[u8]) {
-    let mut i = 0;
-    while i < bytes.len() {
-        print_byte(bytes[i]);
-        i += 1;
-    }
-}
-
 // Whether the bytes from a place on are what they were before the call.
-fn kept_from(bytes: &[u8], from: usize) -> bool {
-    let mut i = from;
-    while i < bytes.len() {
-        if bytes[i] != BEFORE {
-            return false;
-        }
-        i += 1;
-    }
-    true
-}
-
-fn print_kept(bytes: &[u8], from: usize) {
-    if kept_from(bytes, from) {
-        io::write_all(1, b", kept");
+fn print_kept(out: &mut impl Write, bytes: &[u8], from: usize) -> Printed {
+    if bytes.iter().skip(from).all(|&b| b == BEFORE) {
+        write!(out, ", kept")
     } else {
-        io::write_all(1, b", changed");
+        write!(out, ", changed")
     }
 }
 
 // The bytes of an index that was written follow in hexadecimal.
-fn print_wrote(bytes: &[u8], size: usize) {
-    io::write_all(1, b"wrote ");
-    io::print_decimal(1, size as u64);
-    print_kept(bytes, size);
+fn print_wrote(out: &mut impl Write, bytes: &[u8], size: usize) -> Printed {
+    write!(out, "wrote {size}")?;
+    print_kept(out, bytes, size)?;
     if size <= bytes.len() {
-        io::write_all(1, b": ");
-        print_bytes(&bytes[..size]);
+        write!(out, ": ")?;
+        for b in &bytes[..size] {
+            write!(out, "{b:02x}")?;
+        }
     }
+    Ok(())
 }
 
-// Answers the refusal's number, or 0.
-pub fn print_outcome(answer: Written, bytes: &[u8]) -> u64 {
+pub fn print_outcome(
+    out: &mut impl Write,
+    answer: Result<usize, Refusal>,
+    bytes: &[u8],
+) -> Printed {
     match answer {
-        Written::Wrote(size) => {
-            print_wrote(bytes, size);
-            0
-        }
-        Written::Refused(refusal) => {
-            io::write_all(1, b"refused ");
-            print_refusal(refusal);
-            print_kept(bytes, 0);
-            refusal::number_of(refusal)
+        Ok(size) => print_wrote(out, bytes, size),
+        Err(refusal) => {
+            write!(out, "refused {}", Shown(refusal))?;
+            print_kept(out, bytes, 0)
         }
     }
 }

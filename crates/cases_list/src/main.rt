@@ -8,62 +8,46 @@
 #![tactic(auto)]
 
 use check::same;
+use convert::to_intervals::to_intervals;
+use convert::to_numbers::to_numbers;
 use script::lay::change;
+use script::output::{Output, Printed};
 use script::part::field;
-use script::run::begin;
+use script::run::run_input;
+use std::fmt::Write;
 
 mod convert_case;
 mod join_case;
 mod print;
 mod probe_case;
 
-fn on_bytes(kind: &[u8], line: &[u8], bytes: &[u8]) {
+fn on_bytes(out: &mut impl Write, kind: &[u8], line: &[u8], bytes: &[u8]) -> Printed {
     if same(kind, b"probe") {
-        probe_case::probe(line, bytes);
+        probe_case::probe(out, line, bytes)
     } else if same(kind, b"join") {
-        join_case::join(line, bytes);
+        join_case::join(out, line, bytes)
     } else {
-        io::write_all(1, b" -> no such case");
+        write!(out, " -> no such case")
     }
 }
 
-fn call(line: &[u8], base: &[u8], size: usize, work: &mut [u8]) {
+fn call(out: &mut impl Write, line: &[u8], base: &[u8], size: usize, work: &mut [u8]) -> Printed {
     let kind = field(line, 0);
     if same(kind, b"numbers") {
-        convert_case::convert(line, false);
+        convert_case::convert(out, line, to_intervals)
     } else if same(kind, b"intervals") {
-        convert_case::convert(line, true);
+        convert_case::convert(out, line, to_numbers)
     } else {
         let n = change(field(line, 1), base, size, work);
-        on_bytes(kind, line, &work[..n]);
-    }
-}
-
-// Runs a line that is begun, if it is a call.
-fn run_line(calls: bool, line: &[u8], base: &[u8], size: usize, work: &mut [u8]) {
-    if !calls {
-        return;
-    }
-    call(line, base, size, work);
-}
-
-fn run(script: &[u8], base: &mut [u8], work: &mut [u8]) {
-    let mut size = 0;
-    let mut at = 0;
-    while at < script.len() {
-        let begun = begin(script, at, base, size);
-        let end = begun.end;
-        size = begun.size;
-        run_line(begun.calls, &script[at..end], base, size, work);
-        io::write_all(1, b"\n");
-        at = end + 1;
+        on_bytes(out, kind, line, &work[..n])
     }
 }
 
 fn main() {
-    let mut script = io::large_buffer();
-    let n = io::read_full(0, &mut script);
+    let mut out = Output;
     let mut base = io::large_buffer();
     let mut work = io::large_buffer();
-    run(&script[..n], &mut base, &mut work);
+    run_input(&mut base, |line, laid, size| {
+        call(&mut out, line, laid, size, &mut work)
+    });
 }

@@ -1,43 +1,40 @@
 // Probing a list as an index keeps it.
 ghost use Rattle.std.specs.Prelude.{◌≡◌, length};
 
-use crate::print::print_number;
 use limits::RECORD_MAX;
+use list::Kept;
 use script::number::{number32, within};
+use script::output::Printed;
 use script::part::field;
+use std::fmt::Write;
 
 // The intervals wholly below [a, b] and those that overlap it, where there is such a range and a kept list.
-fn probe_parts(singles: &[u8], lower: &[u8], upper: &[u8], a: u32, b: u32)
-    requires { length lower.now ≡ length upper.now }
+fn probe_parts(out: &mut impl Write, kept: Kept<'_>, a: u32, b: u32) -> Printed
+    requires { length kept.lower.now ≡ length kept.upper.now }
 {
-    if RECORD_MAX < b {
-        return;
+    if RECORD_MAX < b || b < a {
+        return Ok(());
     }
-    if b < a {
-        return;
+    if kept.is_kept(RECORD_MAX) {
+        let found = kept.probe(a, b);
+        write!(out, " -> {} {}", found.below, found.overlapping)?;
     }
-    if list::kept::is_kept(singles, lower, upper, RECORD_MAX) {
-        let found = list::probe::probe_list(singles, lower, upper, a, b);
-        io::write_all(1, b" ->");
-        print_number(found.below as u64);
-        print_number(found.overlapping as u64);
-    }
+    Ok(())
 }
 
-pub fn probe(line: &[u8], bytes: &[u8]) {
+pub fn probe(out: &mut impl Write, line: &[u8], bytes: &[u8]) -> Printed {
     let a = number32(field(line, 4));
     let b = number32(field(line, 5));
     let lower = 4 * within(field(line, 2), 64);
     let upper = lower + 4 * within(field(line, 3), 64);
     let end = upper + (upper - lower);
     if bytes.len() < end {
-        return;
+        return Ok(());
     }
-    probe_parts(
-        &bytes[..lower],
-        &bytes[lower..upper],
-        &bytes[upper..end],
-        a,
-        b,
-    );
+    let kept = Kept {
+        singles: &bytes[..lower],
+        lower: &bytes[lower..upper],
+        upper: &bytes[upper..end],
+    };
+    probe_parts(out, kept, a, b)
 }

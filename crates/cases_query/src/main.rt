@@ -8,56 +8,38 @@
 
 use check::same;
 use script::lay::change;
+use script::output::{Output, Printed};
 use script::part::field;
-use script::run::begin;
+use script::run::run_input;
+use std::fmt::Write;
 
 mod ask_case;
 mod read_case;
 
-fn on_index(kind: &[u8], line: &[u8], index: &[u8]) {
+fn on_index(out: &mut impl Write, kind: &[u8], line: &[u8], index: &[u8]) -> Printed {
     if same(kind, b"ask") {
-        ask_case::ask(line, index);
+        ask_case::ask(out, line, index)
     } else {
-        io::write_all(1, b"no such case");
+        write!(out, "no such case")
     }
 }
 
-fn call(line: &[u8], base: &[u8], size: usize, work: &mut [u8]) {
+fn call(out: &mut impl Write, line: &[u8], base: &[u8], size: usize, work: &mut [u8]) -> Printed {
     let kind = field(line, 0);
+    write!(out, " -> ")?;
     if same(kind, b"read") {
-        read_case::read(line);
+        read_case::read(out, line)
     } else {
         let n = change(field(line, 1), base, size, work);
-        on_index(kind, line, &work[..n]);
-    }
-}
-
-// Runs a line that is begun, if it is a call.
-fn run_line(calls: bool, line: &[u8], base: &[u8], size: usize, work: &mut [u8]) {
-    if !calls {
-        return;
-    }
-    io::write_all(1, b" -> ");
-    call(line, base, size, work);
-}
-
-fn run(script: &[u8], base: &mut [u8], work: &mut [u8]) {
-    let mut size = 0;
-    let mut at = 0;
-    while at < script.len() {
-        let begun = begin(script, at, base, size);
-        let end = begun.end;
-        size = begun.size;
-        run_line(begun.calls, &script[at..end], base, size, work);
-        io::write_all(1, b"\n");
-        at = end + 1;
+        on_index(out, kind, line, &work[..n])
     }
 }
 
 fn main() {
-    let mut script = io::large_buffer();
-    let n = io::read_full(0, &mut script);
+    let mut out = Output;
     let mut base = io::large_buffer();
     let mut work = io::large_buffer();
-    run(&script[..n], &mut base, &mut work);
+    run_input(&mut base, |line, laid, size| {
+        call(&mut out, line, laid, size, &mut work)
+    });
 }

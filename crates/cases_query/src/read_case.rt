@@ -1,60 +1,47 @@
 // Reading a question.
-use question::Verdict;
 use question::token::{Token, next_token, token_end};
 use script::number::number32;
+use script::output::{Printed, Shown};
 use script::part::field;
 use script::text::read_text;
+use std::fmt::Write;
 
-fn print_two(a: u64, between: &[u8], b: u64) {
-    io::print_decimal(1, a);
-    io::write_all(1, between);
-    io::print_decimal(1, b);
-}
-
-fn print_place(token: Token) {
+fn print_place(out: &mut impl Write, token: Token) -> Printed {
     match token {
-        Token::Word(start, end) => {
-            io::write_all(1, b" ");
-            print_two(start as u64, b"-", end as u64);
-        }
-        _ => {}
+        Token::Word(start, end) => write!(out, " {start}-{end}"),
+        _ => Ok(()),
     }
 }
 
-fn print_places(question: &[u8]) {
+fn print_places(out: &mut impl Write, question: &[u8]) -> Printed {
     let mut at = 0;
+    // no `for`: the place goes on behind the token that comes next
     loop {
         let token = next_token(question, at);
         match token {
             Token::End(_) => {
-                return;
+                return Ok(());
             }
             _ => {
-                print_place(token);
+                print_place(out, token)?;
                 at = token_end(token);
             }
         }
     }
 }
 
-fn read_question(rule: u32, question: &[u8]) {
+fn read_question(out: &mut impl Write, rule: u32, question: &[u8]) -> Printed {
     match question::read_question(rule, question) {
-        Verdict::Accepted(words) => {
-            print_two(0, b" ", words as u64);
-            print_places(question);
+        Ok(words) => {
+            write!(out, "0 {words}")?;
+            print_places(out, question)
         }
-        Verdict::Refused(refusal) => {
-            print_two(
-                refusal::number_of(refusal),
-                b" ",
-                refusal::value_of(refusal),
-            );
-        }
+        Err(refusal) => write!(out, "{}", Shown(refusal)),
     }
 }
 
-pub fn read(line: &[u8]) {
+pub fn read(out: &mut impl Write, line: &[u8]) -> Printed {
     let mut question = [0u8; 512];
     let n = read_text(field(line, 2), &mut question);
-    read_question(number32(field(line, 1)), &question[..n]);
+    read_question(out, number32(field(line, 1)), &question[..n])
 }

@@ -7,8 +7,8 @@ use mathlib.Core.List.{List, [], ◌∷◌, ◌++◌}
 use lib.Dec.{eqb, ltb}
 use borrow.Author.Tests.{eq-eqb, ne_eqb}
 use Rattle.laws.proofs.Tests.{true-false}
-use Rattle.question.specs.declared.token.Op.{Op}
-use Rattle.question.specs.declared.token.Op.TheVariants.{And, Or, Not}
+use Rattle.word.specs.declared.Op.{Op}
+use Rattle.word.specs.declared.Op.TheVariants.{And, Or, Not}
 use Rattle.question.specs.Token.{choose, Tok, word_t, op_t, open_t, close_t, other_t}
 use Rattle.question.specs.Grammar.{Tree, word, pair, part, Link, link, Out, good, bad, bind, closed, from_left, question, operand, links, tree_words}
 use Rattle.question.specs.Rules.{first_group, later_groups, and_first}

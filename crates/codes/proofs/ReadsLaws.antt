@@ -3,21 +3,24 @@ use Prim.Native.Nat.{ℕ, zero, suc, ◌+◌, ◌-◌, ◌≤◌, ◌<◌}
 use native.Mathlib.Omega.{arith}
 use native.Mathlib.Numerals.{add-one}
 use mathlib.Core.Path.{◌≡◌, refl, sym, ap, ◌∙◌, subst}
-use mathlib.Core.Bool.{true, ◌&&◌}
 use mathlib.Core.List.{List, [], ◌∷◌}
-use lib.Dec.{eqb, leb}
-use lib.ListN.{length, get_or, drop, drop_of_length-le, length-append, get_or-eq_default}
+use lib.Dec.{eqb}
+use lib.ListN.{length, drop, drop_of_length-le, length-append}
+use Rattle.std.specs.Prelude.{Some, slice_get}
+use Rattle.std.proofs.lemmas.Option.{slice_get_within}
 use borrow.Author.Tests.{lt-ltb, le-ltb, eqb-false}
 use Rattle.laws.proofs.Tests.{by-test, leb-cases}
-use Rattle.question.specs.declared.token.Op.{Op}
+use Rattle.word.specs.declared.Op.{Op}
 use Rattle.question.specs.Token.{Tok, word_t, op_t, open_t, close_t, other_t}
 use Rattle.question.specs.Grammar.{Tree, word, pair, part, Link, link, good, bind, closed, from_left, question, operand, links, tree_words}
 use Rattle.question.proofs.LevelLaws.{bad-good, bind-first, question-level}
 use Rattle.question.proofs.TreeWords.{Words, operand-words}
 use Rattle.question.proofs.RuleLaws.{from-left-keeps, from-left-link, from-left-none}
-use Rattle.codes.specs.Code.{word_code, open_code, close_code, and_code, not_code, no_code, op_code, op_of, code_of, codes_of}
+use Rattle.codes.specs.declared.code.Code.{Code}
+use Rattle.codes.specs.declared.code.Code.TheVariants as kind
+use Rattle.codes.specs.Code.{code_of, codes_of, operator_at}
 use Rattle.codes.specs.Reads.{Reads}
-use Rattle.codes.proofs.CodeLaws.{op-back, op-range, operator-code}
+use Rattle.codes.proofs.CodeLaws.{operator-code}
 
 -- ---- the token at a place
 
@@ -26,79 +29,79 @@ unfolding codes_of
 codes-length [] = refl
 codes-length (t ∷ ts) = ap suc (codes-length ts)
 
-pub record Stands (toks : List Tok) (codes : List ℕ) (i : ℕ) : Type 0 where
+pub record Stands (toks : List Tok) (codes : List Code) (i : ℕ) : Type 0 where
   pub tok : Tok
   pub here : drop i toks ≡ tok ∷ drop (i + 1) toks
-  pub code : code_of tok ≡ get_or codes i no_code
+  pub code : slice_get codes i ≡ Some (code_of tok)
 
 stands-go : (toks : List Tok) (i : ℕ) → i < length (codes_of toks) →
-    (t : Tok) × (drop i toks ≡ t ∷ drop (suc i) toks) × (code_of t ≡ get_or (codes_of toks) i no_code)
+    (t : Tok) × (drop i toks ≡ t ∷ drop (suc i) toks) × (slice_get (codes_of toks) i ≡ Some (code_of t))
 unfolding codes_of
 stands-go [] i h = absurd (omega arith)
 stands-go (t ∷ ts) zero h = (t, refl, refl)
 stands-go (t ∷ ts) (suc i) h = stands-go ts i (omega arith)
 
-pub stands : (toks : List Tok) (codes : List ℕ) (i : ℕ) → codes_of toks ≡ codes → i < length codes → Stands toks codes i
+pub stands : (toks : List Tok) (codes : List Code) (i : ℕ) → codes_of toks ≡ codes → i < length codes → Stands toks codes i
 stands toks codes i e h =
     let w = stands-go toks i (rw e h) in
-    record { tok = w.0; here = rw (add-one i) w.1; code = w.2 ∙ rw e }
+    record { tok = w.0; here = rw (add-one i) w.1; code = rw e at w.2 }
 
-pub stands-end : (toks : List Tok) (codes : List ℕ) (i : ℕ) → codes_of toks ≡ codes → length codes ≤ i → drop i toks ≡ []
+pub stands-end : (toks : List Tok) (codes : List Code) (i : ℕ) → codes_of toks ≡ codes → length codes ≤ i → drop i toks ≡ []
 stands-end toks codes i e h =
     let l = codes-length toks in
     let m = ap length e in
     let g : length toks ≤ i = omega arith in
     drop_of_length-le toks g
 
--- a code below the one that is read behind the last stands there
-pub code-within : (codes : List ℕ) (i : ℕ) → get_or codes i no_code < no_code → i < length codes
-code-within codes i h = leb-cases (length codes) i (λ g. absurd (let e = get_or-eq_default codes no_code g in omega arith)) (λ g. g)
-
 -- the code at place i is v
-abbrev pub Here : List ℕ → ℕ → ℕ → Type 0
-Here codes i v = (get_or codes i no_code ≡ v) × (i < length codes)
+abbrev pub Here : List Code → ℕ → Code → Type 0
+Here codes i v = (slice_get codes i ≡ Some v) × (i < length codes)
 
--- c was read there, and is v
-pub code_here : (codes : List ℕ) (i : ℕ) {c v : ℕ} → c ≡ get_or codes i no_code → c ≡ v → v < no_code → Here codes i v
-code_here codes i e f h = (sym e ∙ f, code-within codes i (omega arith))
+-- v was read there
+pub code_here : (codes : List Code) (i : ℕ) {v : Code} → slice_get codes i ≡ Some v → Here codes i v
+code_here codes i {v} e = (e, slice_get_within codes i v e)
 
--- c was read there, and is an operator's
-pub operator-here : (codes : List ℕ) (i : ℕ) {c : ℕ} → c ≡ get_or codes i no_code → leb and_code c && leb c not_code ≡ true → Here codes i (op_code (op_of c))
-operator-here codes i {c} e f = code_here codes i e (operator-code c f) (let r = op-range (op_of c) in omega arith)
+-- the operator o was read there
+pub operator-here : (codes : List Code) (i : ℕ) {o : Op} → operator_at codes i ≡ Some o → Here codes i (kind.Op o)
+operator-here codes i {o} e = code_here codes i (operator-code (slice_get codes i) o e)
+
+-- the token there has the code that was read there
+pub stands-code : {toks : List Tok} {codes : List Code} {i : ℕ} (s : Stands toks codes i) {v : Code} → slice_get codes i ≡ Some v → code_of s.tok ≡ v
+stands-code s e = let c = s.code in cc
 
 -- ---- the token of a code
 
-pub code-word : (t : Tok) → code_of t ≡ word_code → (w : List ℕ) × (p : ℕ) × (t ≡ word_t w p)
+pub code-word : (t : Tok) → code_of t ≡ kind.Word → (w : List ℕ) × (p : ℕ) × (t ≡ word_t w p)
 code-word (word_t w p) e = (w, p, refl)
-code-word (op_t o p) e = absurd (let r = op-range o in omega arith)
-code-word (open_t p) e = absurd (omega arith)
-code-word (close_t p) e = absurd (omega arith)
-code-word (other_t p) e = absurd (omega arith)
+code-word (op_t o p) e = absurd (cc)
+code-word (open_t p) e = absurd (cc)
+code-word (close_t p) e = absurd (cc)
+code-word (other_t p) e = absurd (cc)
 
-pub code-open : (t : Tok) → code_of t ≡ open_code → (p : ℕ) × (t ≡ open_t p)
+pub code-open : (t : Tok) → code_of t ≡ kind.Open → (p : ℕ) × (t ≡ open_t p)
 code-open (open_t p) e = (p, refl)
-code-open (word_t w p) e = absurd (omega arith)
-code-open (op_t o p) e = absurd (let r = op-range o in omega arith)
-code-open (close_t p) e = absurd (omega arith)
-code-open (other_t p) e = absurd (omega arith)
+code-open (word_t w p) e = absurd (cc)
+code-open (op_t o p) e = absurd (cc)
+code-open (close_t p) e = absurd (cc)
+code-open (other_t p) e = absurd (cc)
 
-pub code-close : (t : Tok) → code_of t ≡ close_code → (p : ℕ) × (t ≡ close_t p)
+pub code-close : (t : Tok) → code_of t ≡ kind.Close → (p : ℕ) × (t ≡ close_t p)
 code-close (close_t p) e = (p, refl)
-code-close (word_t w p) e = absurd (omega arith)
-code-close (op_t o p) e = absurd (let r = op-range o in omega arith)
-code-close (open_t p) e = absurd (omega arith)
-code-close (other_t p) e = absurd (omega arith)
+code-close (word_t w p) e = absurd (cc)
+code-close (op_t o p) e = absurd (cc)
+code-close (open_t p) e = absurd (cc)
+code-close (other_t p) e = absurd (cc)
 
-pub code-operator : (o : Op) (t : Tok) → code_of t ≡ op_code o → (p : ℕ) × (t ≡ op_t o p)
-code-operator o (op_t a p) e = (p, ap (λ (x : Op). op_t x p) (sym (op-back a) ∙ ap op_of e ∙ op-back o))
-code-operator o (word_t w p) e = absurd (let r = op-range o in omega arith)
-code-operator o (open_t p) e = absurd (let r = op-range o in omega arith)
-code-operator o (close_t p) e = absurd (let r = op-range o in omega arith)
-code-operator o (other_t p) e = absurd (let r = op-range o in omega arith)
+pub code-operator : (o : Op) (t : Tok) → code_of t ≡ kind.Op o → (p : ℕ) × (t ≡ op_t o p)
+code-operator o (op_t a p) e = let q : a ≡ o = cc in (p, rw q)
+code-operator o (word_t w p) e = absurd (cc)
+code-operator o (open_t p) e = absurd (cc)
+code-operator o (close_t p) e = absurd (cc)
+code-operator o (other_t p) e = absurd (cc)
 
 -- ---- what is no operand, no link, no closing bracket
 
-none-operand : (f d k : ℕ) (t : Tok) (r : List Tok) (x : Tree) (z : List Tok) (j : ℕ) → (code_of t ≡ word_code → ⊥) → (code_of t ≡ open_code → ⊥) →
+none-operand : (f d k : ℕ) (t : Tok) (r : List Tok) (x : Tree) (z : List Tok) (j : ℕ) → (code_of t ≡ kind.Word → ⊥) → (code_of t ≡ kind.Open → ⊥) →
     operand from_left f d k (t ∷ r) ≡ good x z j → ⊥
 unfolding operand
 none-operand zero d k t r x z j a b e = bad-good 0 (t ∷ r) x z j e
@@ -113,7 +116,7 @@ unfolding operand
 nil-operand zero d k x z j e = bad-good 0 [] x z j e
 nil-operand (suc f) d k x z j e = bad-good 9 [] x z j e
 
-none-links : (f d k : ℕ) (t : Tok) (r : List Tok) → ((o : Op) → code_of t ≡ op_code o → ⊥) → links from_left (suc f) d k (t ∷ r) ≡ good [] (t ∷ r) k
+none-links : (f d k : ℕ) (t : Tok) (r : List Tok) → ((o : Op) → code_of t ≡ kind.Op o → ⊥) → links from_left (suc f) d k (t ∷ r) ≡ good [] (t ∷ r) k
 unfolding links
 none-links f d k (word_t w p) r a = refl
 none-links f d k (op_t o p) r a = absurd (a o refl)
@@ -125,29 +128,29 @@ nil-links : (f d k : ℕ) → links from_left (suc f) d k [] ≡ good [] [] k
 unfolding links
 nil-links f d k = refl
 
-none-closed : (t : Tok) (y : Tree) (r : List Tok) (k : ℕ) (x : Tree) (z : List Tok) (j : ℕ) → (code_of t ≡ close_code → ⊥) → closed y (t ∷ r) k ≡ good x z j → ⊥
+none-closed : (t : Tok) (y : Tree) (r : List Tok) (k : ℕ) (x : Tree) (z : List Tok) (j : ℕ) → (code_of t ≡ kind.Close → ⊥) → closed y (t ∷ r) k ≡ good x z j → ⊥
 none-closed (word_t w p) y r k x z j a e = bad-good 9 (word_t w p ∷ r) x z j e
 none-closed (op_t o p) y r k x z j a e = bad-good 9 (op_t o p ∷ r) x z j e
 none-closed (open_t p) y r k x z j a e = bad-good 9 (open_t p ∷ r) x z j e
 none-closed (close_t p) y r k x z j a e = a refl
 none-closed (other_t p) y r k x z j a e = bad-good 9 (other_t p ∷ r) x z j e
 
-some-closed : (t : Tok) (y : Tree) (r : List Tok) (k : ℕ) → code_of t ≡ close_code → closed y (t ∷ r) k ≡ good (part y) r k
+some-closed : (t : Tok) (y : Tree) (r : List Tok) (k : ℕ) → code_of t ≡ kind.Close → closed y (t ∷ r) k ≡ good (part y) r k
 some-closed (close_t p) y r k e = refl
-some-closed (word_t w p) y r k e = absurd (omega arith)
-some-closed (op_t o p) y r k e = absurd (let r = op-range o in omega arith)
-some-closed (open_t p) y r k e = absurd (omega arith)
-some-closed (other_t p) y r k e = absurd (omega arith)
+some-closed (word_t w p) y r k e = absurd (cc)
+some-closed (op_t o p) y r k e = absurd (cc)
+some-closed (open_t p) y r k e = absurd (cc)
+some-closed (other_t p) y r k e = absurd (cc)
 
 -- ---- operands
 
-pub operand-none : (codes : List ℕ) (f d k i i' k' : ℕ) (Q : Tree → Type 0) → (get_or codes i no_code ≡ word_code → ⊥) → (get_or codes i no_code ≡ open_code → ⊥) →
+pub operand-none : (codes : List Code) (f d k i i' k' : ℕ) (Q : Tree → Type 0) → (slice_get codes i ≡ Some kind.Word → ⊥) → (slice_get codes i ≡ Some kind.Open → ⊥) →
     Reads (operand from_left f d k) codes i i' k' Q
 operand-none codes f d k i i' k' Q a b toks t rest j e r =
     leb-cases (length codes) i
     (λ h. absurd (nil-operand f d k t rest j (rw (stands-end toks codes i e h) at r)))
     (λ h. let w = stands toks codes i e h in
-    absurd (none-operand f d k w.tok (drop (i + 1) toks) t rest j (λ c. a (sym w.code ∙ c)) (λ c. b (sym w.code ∙ c)) (rw w.here at r)))
+    absurd (none-operand f d k w.tok (drop (i + 1) toks) t rest j (λ c. a (w.code ∙ ap Some c)) (λ c. b (w.code ∙ ap Some c)) (rw w.here at r)))
 
 -- a word
 word_read : (f d k : ℕ) (w : List ℕ) (p : ℕ) (r : List Tok) (x : Tree) (z : List Tok) (j : ℕ) → operand from_left f d k (word_t w p ∷ r) ≡ good x z j →
@@ -159,15 +162,15 @@ word_read (suc f) d k w p r x z j e =
     (λ h. bad-good 10 (word_t w p ∷ r) x z j (rw (le-ltb k 16 h) at e))
     (λ h. let g : good (word w) r (k + 1) ≡ good x z j = rw (lt-ltb k 16 h) at e in (h, (cc), (cc), (cc)))
 
-module _ (codes : List ℕ) (f d k i : ℕ) (c : get_or codes i no_code ≡ word_code) where
+module _ (codes : List Code) (f d k i : ℕ) (c : slice_get codes i ≡ Some kind.Word) where
   word-within : i < length codes
-  word-within = code-within codes i (omega arith)
+  word-within = slice_get_within codes i kind.Word c
 
   is_word : (toks : List Tok) (x : Tree) (z : List Tok) (j : ℕ) → codes_of toks ≡ codes → operand from_left f d k (drop i toks) ≡ good x z j →
       (w : List ℕ) × (k < 16) × (word w ≡ x) × (drop (i + 1) toks ≡ z) × (k + 1 ≡ j)
   is_word toks x z j e r =
       let s = stands toks codes i e word-within in
-      let t = code-word s.tok (s.code ∙ c) in
+      let t = code-word s.tok (stands-code s c) in
       let v = word_read f d k t.0 t.1 (drop (i + 1) toks) x z j (rw (s.here, t.2) at r) in
       (t.0, v.0, v.1, v.2, v.3)
 
@@ -190,35 +193,35 @@ part-read (suc f) d k p r x z j e =
     (λ t. bad-good 11 (open_t p ∷ r) x z j (rw t at e))
     (λ t. (eqb-false d 0 t, (f, rw t at e)))
 
-module _ (codes : List ℕ) (f d k i : ℕ) (c : get_or codes i no_code ≡ open_code) where
+module _ (codes : List Code) (f d k i : ℕ) (c : slice_get codes i ≡ Some kind.Open) where
   open-within : i < length codes
-  open-within = code-within codes i (omega arith)
+  open-within = slice_get_within codes i kind.Open c
 
   is-part : (toks : List Tok) (x : Tree) (z : List Tok) (j : ℕ) → codes_of toks ≡ codes → operand from_left f d k (drop i toks) ≡ good x z j →
       (d ≡ 0 → ⊥) × ((g : ℕ) × (bind (question from_left g (d - 1) k (drop (i + 1) toks)) closed ≡ good x z j))
   is-part toks x z j e r =
       let s = stands toks codes i e open-within in
-      let t = code-open s.tok (s.code ∙ c) in
+      let t = code-open s.tok (stands-code s c) in
       part-read f d k t.0 (drop (i + 1) toks) x z j (rw (s.here, t.1) at r)
 
   pub operand-deep : (i' k' : ℕ) (Q : Tree → Type 0) → d ≡ 0 → Reads (operand from_left f d k) codes i i' k' Q
   operand-deep i' k' Q z toks x y j e r = absurd ((is-part toks x y j e r).0 z)
 
   module _ (i' k' : ℕ) (P : Tree → Type 0) (inner : (g : ℕ) → Reads (question from_left g (d - 1) k) codes (i + 1) i' k' P) where
-    pub operand-part : (Q : Tree → Type 0) → get_or codes i' no_code ≡ close_code → ((t : Tree) → P t → Q (part t)) →
+    pub operand-part : (Q : Tree → Type 0) → slice_get codes i' ≡ Some kind.Close → ((t : Tree) → P t → Q (part t)) →
         Reads (operand from_left f d k) codes i (i' + 1) k' Q
     operand-part Q a q toks x z j e r =
-        let l = code-within codes i' (omega arith) in
+        let l = slice_get_within codes i' kind.Close a in
         let w = (is-part toks x z j e r).1 in
         let b = bind-first (question from_left w.0 (d - 1) k (drop (i + 1) toks)) closed x z j w.1 in
         let v = inner w.0 toks b.got b.rest b.count e b.says in
         let s = stands toks codes i' e l in
         let o : good (part b.got) (drop (i' + 1) toks) b.count ≡ good x z j =
-        sym (some-closed s.tok b.got (drop (i' + 1) toks) b.count (s.code ∙ a)) ∙ (rw (← v.0, s.here) at b.then) in
+        sym (some-closed s.tok b.got (drop (i' + 1) toks) b.count (stands-code s a)) ∙ (rw (← v.0, s.here) at b.then) in
         let y : part b.got ≡ x = cc in
         ((cc), v.1 ∙ (cc), omega (arith, v.2), omega arith, rw y at (q b.got v.4))
 
-    pub operand-unclosed : (i'' k'' : ℕ) (Q : Tree → Type 0) → (get_or codes i' no_code ≡ close_code → ⊥) → Reads (operand from_left f d k) codes i i'' k'' Q
+    pub operand-unclosed : (i'' k'' : ℕ) (Q : Tree → Type 0) → (slice_get codes i' ≡ Some kind.Close → ⊥) → Reads (operand from_left f d k) codes i i'' k'' Q
     operand-unclosed i'' k'' Q a toks x z j e r =
         let w = (is-part toks x z j e r).1 in
         let b = bind-first (question from_left w.0 (d - 1) k (drop (i + 1) toks)) closed x z j w.1 in
@@ -226,7 +229,7 @@ module _ (codes : List ℕ) (f d k i : ℕ) (c : get_or codes i no_code ≡ open
         leb-cases (length codes) i'
         (λ l. absurd (bad-good 9 [] x z j (rw (← v.0, stands-end toks codes i' e l) at b.then)))
         (λ l. let s = stands toks codes i' e l in
-        absurd (none-closed s.tok b.got (drop (i' + 1) toks) b.count x z j (λ c. a (sym s.code ∙ c)) (rw (← v.0, s.here) at b.then)))
+        absurd (none-closed s.tok b.got (drop (i' + 1) toks) b.count x z j (λ c. a (s.code ∙ ap Some c)) (rw (← v.0, s.here) at b.then)))
 
 -- ---- a level: its first operand, and what is grouped from the left as the links are read
 
@@ -241,7 +244,7 @@ pub record Going (toks : List Tok) (d k₀ i k : ℕ) (Q : Tree → Type 0) (t :
   pub holds : Q sofar
 
 -- that this is so whenever the grammar reads a level from i₀ on
-abbrev pub Level : List ℕ → ℕ → ℕ → ℕ → ℕ → ℕ → (Tree → Type 0) → Type 0
+abbrev pub Level : List Code → ℕ → ℕ → ℕ → ℕ → ℕ → (Tree → Type 0) → Type 0
 Level codes d k₀ i₀ i k Q =
     (f : ℕ) (toks : List Tok) (t : Tree) (rest : List Tok) (j : ℕ) → codes_of toks ≡ codes → question from_left f d k₀ (drop i₀ toks) ≡ good t rest j →
     (i₀ ≤ i) × (i ≤ length codes) × Going toks d k₀ i k Q t rest j
@@ -250,7 +253,7 @@ Level codes d k₀ i₀ i k Q =
 operand-count : (f d k : ℕ) (ts : List Tok) (t : Tree) (z : List Tok) (j : ℕ) → operand from_left f d k ts ≡ good t z j → j ≡ k + length (tree_words t)
 operand-count f d k ts t z j e = (subst (Words tree_words k ts) e (operand-words from_left from-left-keeps f d k ts)).1
 
-pub level-start : (codes : List ℕ) (d k₀ i₀ i k : ℕ) (Q : Tree → Type 0) → ((f : ℕ) → Reads (operand from_left f d k₀) codes i₀ i k Q) →
+pub level-start : (codes : List Code) (d k₀ i₀ i k : ℕ) (Q : Tree → Type 0) → ((f : ℕ) → Reads (operand from_left f d k₀) codes i₀ i k Q) →
     Level codes d k₀ i₀ i k Q
 level-start codes d k₀ i₀ i k Q h f toks t rest j e r =
     let l = question-level from_left f d k₀ (drop i₀ toks) t rest j r in
@@ -306,15 +309,15 @@ unfolding tree_words
 pair-count k₀ k k' o a b x y = omega (arith, length-append (tree_words a) (tree_words b))
 
 -- the operator o stands at i, and its operand reads up to i'
-pub level-step : (codes : List ℕ) (d k₀ i₀ i k i' k' : ℕ) (Q R S : Tree → Type 0) (o : Op) → get_or codes i no_code ≡ op_code o →
+pub level-step : (codes : List Code) (d k₀ i₀ i k i' k' : ℕ) (Q R S : Tree → Type 0) (o : Op) → slice_get codes i ≡ Some (kind.Op o) →
     Level codes d k₀ i₀ i k Q → ((f : ℕ) → Reads (operand from_left f d k) codes (i + 1) i' k' R) →
     ((a b : Tree) → k ≡ k₀ + length (tree_words a) → Q a → R b → S (pair o a b)) → Level codes d k₀ i₀ i' k' S
 level-step codes d k₀ i₀ i k i' k' Q R S o c l g q f toks t rest j e r =
-    let h = code-within codes i (let b = op-range o in omega arith) in
+    let h = slice_get_within codes i (kind.Op o) c in
     let w = l f toks t rest j e r in
     let y = w.2 in
     let s = stands toks codes i e h in
-    let u = code-operator o s.tok (s.code ∙ c) in
+    let u = code-operator o s.tok (stands-code s c) in
     let n = links-operator y.fuel d k o u.0 (drop (i + 1) toks) y.left rest j (rw (s.here, u.1) at y.reads-left) in
     let v = g n.fuel toks n.tree n.rest n.count e n.reads-operand in (
       omega (arith, w.0, v.2),
@@ -346,12 +349,12 @@ level-ends toks d k₀ i k Q t rest j h y = go y.fuel y.left y.reads-left y.grou
         let s : t ≡ y.sofar = g ∙ ap (from_left y.sofar) n ∙ from-left-none y.sofar in
         ((cc), (cc), rw s y.holds)
 
-pub level-end : (codes : List ℕ) (d k₀ i₀ i k : ℕ) (Q : Tree → Type 0) → Level codes d k₀ i₀ i k Q → ((o : Op) → get_or codes i no_code ≡ op_code o → ⊥) →
+pub level-end : (codes : List Code) (d k₀ i₀ i k : ℕ) (Q : Tree → Type 0) → Level codes d k₀ i₀ i k Q → ((o : Op) → slice_get codes i ≡ Some (kind.Op o) → ⊥) →
     (f : ℕ) → Reads (question from_left f d k₀) codes i₀ i k Q
 level-end codes d k₀ i₀ i k Q l a f toks t rest j e r =
     let w = l f toks t rest j e r in
     let v = level-ends toks d k₀ i k Q t rest j (λ n. leb-cases (length codes) i
     (λ h. rw (stands-end toks codes i e h) (nil-links n d k))
     (λ h. let s = stands toks codes i e h in
-    rw s.here (none-links n d k s.tok (drop (i + 1) toks) (λ o c. a o (sym s.code ∙ c))))) w.2 in
+    rw s.here (none-links n d k s.tok (drop (i + 1) toks) (λ o c. a o (s.code ∙ ap Some c))))) w.2 in
     (v.0, v.1, w.0, w.1, v.2)

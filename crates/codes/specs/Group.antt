@@ -2,8 +2,17 @@
 -- second rule makes of the question. A group that is one word has none.
 use Rattle.std.specs.Prelude.{ℕ, ◌+◌, ◌*◌, ◌/◌, ◌%◌, Bool, true, false, cond, List, [], ◌∷◌, eqb}
 use Rattle.limits.specs.Limits.{brackets_max}
-use Rattle.question.specs.declared.token.Op.TheVariants.{And, Or, Not}
+use Rattle.word.specs.declared.Op.{Op}
+use Rattle.word.specs.declared.Op.TheVariants.{And, Or, Not}
+use Rattle.codes.specs.declared.code.Code.{Code}
+use Rattle.codes.specs.declared.code.Code.TheVariants as kind
 use Rattle.question.specs.Token.{Tok, word_t, op_t, open_t, close_t, other_t}
+
+-- whether an operator is of the higher rank
+abbrev pub binds_first : Op → Bool
+binds_first And = true
+binds_first Or = false
+binds_first Not = true
 
 -- whether an operator of the higher rank stands next
 abbrev pub goes_on : List Tok → Bool
@@ -35,6 +44,16 @@ closing inside ts = cond inside (close_t 0 ∷ ts) ts
 -- the levels around a part, as one number with a bit for each, the innermost the lowest: whether a group of it stands in brackets; there are eight at most
 abbrev pub levels_around : Bool → ℕ → ℕ
 levels_around inside outer = outer % 256 * 2 + cond inside 1 0
+
+-- whether a code ends the group in brackets before it
+abbrev pub ends_group : Bool → Code → Bool
+ends_group inside kind.Word = false
+ends_group inside (kind.Op And) = false
+ends_group inside (kind.Op Or) = inside
+ends_group inside (kind.Op Not) = false
+ends_group inside kind.Open = false
+ends_group inside kind.Close = inside
+ends_group inside kind.Other = false
 
 abbrev pub innermost : ℕ → Bool
 innermost outer = eqb (outer % 2) 1

@@ -1,43 +1,30 @@
 // The code of each kind of token.
 ghost use Rattle.std.specs.Prelude.{◌≡◌};
-ghost use Rattle.codes.specs.Code.{op_code, token_code};
+ghost use Rattle.codes.specs.Code.{token_code};
 
 use question::token::{Op, Token};
 
-pub const WORD_CODE: u8 = 0;
-
-pub const AND_CODE: u8 = 1;
-
-pub const OR_CODE: u8 = 2;
-
-pub const NOT_CODE: u8 = 3;
-
-pub const OPEN_CODE: u8 = 4;
-
-pub const CLOSE_CODE: u8 = 5;
-
-// What is read behind the last token; no token of an accepted question has it.
-pub const NO_CODE: u8 = 6;
-
-fn op_code(o: Op) -> u8
-    ensures { result ≡ op_code o }
-{
-    match o {
-        Op::And => AND_CODE,
-        Op::Or => OR_CODE,
-        Op::Not => NOT_CODE,
-    }
+// A token without its place and its bytes.
+#[derive(Clone, Copy)]
+pub enum Code {
+    Word,
+    Op(Op),
+    Open,
+    Close,
+    // a byte that has no place in a question: no token of an accepted one
+    Other,
 }
 
-pub fn token_code(token: Token) -> u8
+// The end has no code of its own.
+pub fn token_code(token: Token) -> Code
     ensures { result ≡ token_code token }
 {
     match token {
-        Token::End(_) => NO_CODE,
-        Token::Word(_, _) => WORD_CODE,
-        Token::Op(o, _, _) => op_code(o),
-        Token::Open(_) => OPEN_CODE,
-        Token::Close(_) => CLOSE_CODE,
-        Token::Other(_) => NO_CODE,
+        Token::End(_) => Code::Other,
+        Token::Word(_, _) => Code::Word,
+        Token::Op(op, _, _) => Code::Op(op),
+        Token::Open(_) => Code::Open,
+        Token::Close(_) => Code::Close,
+        Token::Other(_) => Code::Other,
     }
 }

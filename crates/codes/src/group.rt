@@ -1,12 +1,12 @@
 // Rule 2 (Reference 6.3): the groups of a question's codes put in brackets, so that from the left they mean what the rule makes of the question.
-ghost use Rattle.std.specs.Prelude.{◌≡◌, ◌&&◌, ◌||◌, ◌+◌, ◌*◌, ◌≤◌, ◌<◌, eqb, length};
-ghost use Rattle.codes.specs.Code.{or_code, close_code};
-ghost use Rattle.codes.specs.Group.{levels_around};
+ghost use Rattle.std.specs.Prelude.{◌≡◌, ◌+◌, ◌*◌, ◌≤◌, ◌<◌, length};
+ghost use Rattle.codes.specs.Group.{binds_first, levels_around, ends_group};
 ghost use Rattle.codes.specs.Grouping.{WideAt, PutsCode, GroupsCode, GroupsCodes};
 
-use crate::code::{AND_CODE, CLOSE_CODE, NOT_CODE, OPEN_CODE, OR_CODE, WORD_CODE};
-use crate::read::code_at;
+use crate::code::Code;
+use crate::read::{operator_at, word_at};
 use limits::{BRACKETS_MAX, QUESTION_MAX};
+use question::token::Op;
 
 // The most codes that there are with groups in brackets, and the most brackets that are open at one place.
 pub const GROUPED_MAX: usize = 3 * QUESTION_MAX + 1;
@@ -24,16 +24,29 @@ pub struct Grouping {
     pub count: usize,
 }
 
+// Whether an operator is of the higher rank, which goes before `or`.
+fn binds_first(op: Op) -> bool
+    ensures { result ≡ binds_first op }
+{
+    match op {
+        Op::And => true,
+        Op::Or => false,
+        Op::Not => true,
+    }
+}
+
 // Whether the group that begins at place i is more than one word.
-fn is_wide(codes: &[u8], i: usize) -> bool
+fn is_wide(codes: &[Code], i: usize) -> bool
     requires { i ≤ length codes.now }
     ensures { WideAt codes.now i result }
 {
-    if code_at(codes, i) != WORD_CODE {
+    if !word_at(codes, i) {
         return true;
     }
-    let next = code_at(codes, i + 1);
-    (next == AND_CODE) | (next == NOT_CODE)
+    match operator_at(codes, i + 1) {
+        Some(op) => binds_first(op),
+        None => false,
+    }
 }
 
 // The levels around a part that opens.
@@ -48,14 +61,18 @@ fn enter(inside: bool, outer: usize) -> usize
 }
 
 // Whether a code ends the group in brackets before it.
-fn ends_group(inside: bool, code: u8) -> bool
-    ensures { result ≡ inside && (eqb code or_code || eqb code close_code) }
+fn ends_group(inside: bool, code: Code) -> bool
+    ensures { result ≡ ends_group inside code }
 {
-    inside & ((code == OR_CODE) | (code == CLOSE_CODE))
+    match code {
+        Code::Op(op) => inside & !binds_first(op),
+        Code::Close => inside,
+        _ => false,
+    }
 }
 
 // Writes a code behind the first n, where it is wanted.
-fn put_code(wanted: bool, code: u8, n: usize, out: &mut [u8]) -> usize
+fn put_code(wanted: bool, code: Code, n: usize, out: &mut [Code]) -> usize
     requires { n < length out.old }
     ensures { PutsCode wanted code n out.old out.new result }
 {
@@ -67,45 +84,42 @@ fn put_code(wanted: bool, code: u8, n: usize, out: &mut [u8]) -> usize
 }
 
 // One code more.
-fn group_code(codes: &[u8], i: usize, at: Grouping, out: &mut [u8]) -> Grouping
+fn group_code(codes: &[Code], i: usize, at: Grouping, out: &mut [Code]) -> Grouping
     requires within { i < length codes.now }
     requires room { at.count + 3 ≤ length out.old }
     ensures { GroupsCode codes.now i at out.old out.new result }
 {
     let code = codes[i];
-    let begun = put_code(ends_group(at.inside, code), CLOSE_CODE, at.count, out);
+    let begun = put_code(ends_group(at.inside, code), Code::Close, at.count, out);
     let count = put_code(true, code, begun, out);
-    if code == OR_CODE {
-        let wide = is_wide(codes, i + 1);
-        return Grouping {
-            inside: wide,
-            outer: at.outer,
-            count: put_code(wide, OPEN_CODE, count, out),
-        };
-    }
-    if code == OPEN_CODE {
-        return Grouping {
+    match code {
+        Code::Op(op) => {
+            if binds_first(op) {
+                return Grouping { count, ..at };
+            }
+            let wide = is_wide(codes, i + 1);
+            Grouping {
+                inside: wide,
+                outer: at.outer,
+                count: put_code(wide, Code::Open, count, out),
+            }
+        }
+        Code::Open => Grouping {
             inside: false,
             outer: enter(at.inside, at.outer),
             count,
-        };
-    }
-    if code == CLOSE_CODE {
-        return Grouping {
+        },
+        Code::Close => Grouping {
             inside: at.outer % 2 == 1,
             outer: at.outer / 2,
             count,
-        };
-    }
-    Grouping {
-        inside: at.inside,
-        outer: at.outer,
-        count,
+        },
+        _ => Grouping { count, ..at },
     }
 }
 
 // Writes the codes with their groups in brackets, and answers how many there are.
-pub fn group_codes(codes: &[u8], out: &mut [u8]) -> usize
+pub fn group_codes(codes: &[Code], out: &mut [Code]) -> usize
     requires { 3 * length codes.now + 1 ≤ length out.old }
     ensures { GroupsCodes codes.now out.old out.new result }
 {
@@ -114,10 +128,8 @@ pub fn group_codes(codes: &[u8], out: &mut [u8]) -> usize
         outer: 0,
         count: 0,
     };
-    let mut i = 0;
-    while i < codes.len() {
+    for i in 0..codes.len() {
         at = group_code(codes, i, at, out);
-        i += 1;
     }
-    put_code(at.inside, CLOSE_CODE, at.count, out)
+    put_code(at.inside, Code::Close, at.count, out)
 }

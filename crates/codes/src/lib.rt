@@ -1,4 +1,4 @@
-// A question's tokens as codes, one byte a token: its evaluation needs no word's bytes, only which word it is.
+// A question's tokens as codes, without their bytes and places: its evaluation needs no word's bytes, only which word it is.
 #![tactic(auto)]
 
 pub mod code;

@@ -1,22 +1,42 @@
-// Reading a question's codes, one byte a token.
-ghost use Rattle.std.specs.Prelude.{◌≡◌, ◌&&◌, leb, get_or};
-ghost use Rattle.codes.specs.Code.{and_code, not_code, no_code};
+// Reading a question's codes.
+ghost use Rattle.std.specs.Prelude.{◌≡◌, ◌↔◌, Some, IsTrue, slice_get};
+ghost use Rattle.codes.specs.declared.code.Code.TheVariants as kind;
+ghost use Rattle.codes.specs.Code.{operator_at};
 
-use crate::code::{AND_CODE, NO_CODE, NOT_CODE};
+use crate::code::Code;
+use question::token::Op;
 
-// The code at place i; behind the last the code of a token that no question has.
-pub fn code_at(codes: &[u8], i: usize) -> u8
-    ensures { result ≡ get_or codes.now i no_code }
+// The code at place i; behind the last there is none.
+pub fn code_at(codes: &[Code], i: usize) -> Option<Code>
+    ensures { result ≡ slice_get codes.now i }
 {
-    if i < codes.len() { codes[i] } else { NO_CODE }
+    codes.get(i).copied()
 }
 
-pub fn is_operator(code: u8) -> bool
-    ensures { result ≡ leb and_code code && leb code not_code }
+pub fn word_at(codes: &[Code], i: usize) -> bool
+    ensures { IsTrue result ↔ (slice_get codes.now i ≡ Some kind.Word) }
 {
-    if AND_CODE <= code {
-        code <= NOT_CODE
-    } else {
-        false
+    matches!(code_at(codes, i), Some(Code::Word))
+}
+
+pub fn opening_at(codes: &[Code], i: usize) -> bool
+    ensures { IsTrue result ↔ (slice_get codes.now i ≡ Some kind.Open) }
+{
+    matches!(code_at(codes, i), Some(Code::Open))
+}
+
+pub fn closing_at(codes: &[Code], i: usize) -> bool
+    ensures { IsTrue result ↔ (slice_get codes.now i ≡ Some kind.Close) }
+{
+    matches!(code_at(codes, i), Some(Code::Close))
+}
+
+// The operator at place i, if one stands there.
+pub fn operator_at(codes: &[Code], i: usize) -> Option<Op>
+    ensures { result ≡ operator_at codes.now i }
+{
+    match code_at(codes, i) {
+        Some(Code::Op(op)) => Some(op),
+        _ => None,
     }
 }

@@ -1,19 +1,20 @@
 -- Cells with no bad interval: where one is bad, one interval on; and that none is bad says that the cells are a proper list.
+use Rattle.std.specs.Prelude.{None}
 use mathlib.Core.Path.{◌≡◌, refl, ◌∙◌}
 use Prim.Native.Nat.{ℕ, zero, suc, ◌+◌, ◌*◌, ◌/◌, ◌≤◌, ◌<◌}
 use native.Mathlib.Omega.{arith}
 use native.Mathlib.Nat.{lt_of_not-le}
 use native.Mathlib.Numerals.{add-one}
 use native.Mathlib.Decide.{dec_le}
+use mathlib.Core.Logic.{◌⊎◌, inl, inr}
 use mathlib.Core.Bool.{true, false, ◌||◌}
-use mathlib.Core.List.{List, [], ◌∷◌}
+use mathlib.Core.List.{List, [], ◌∷◌, ◌++◌}
 use lib.Dec.{leb, ltb}
 use lib.ListN.{length, get_or, drop}
 use borrow.Author.Tests.{leb-false, ltb-false, le-leb, lt-leb, lt-ltb, le-ltb}
 use Rattle.laws.proofs.Tests.{or-neither}
 use Rattle.laws.proofs.Lists.{drop-next, drop-two, drop-none}
 use Rattle.limits.specs.Limits.{record_max}
-use Rattle.refusal.specs.declared.Found.TheVariants.{Nowhere}
 use Rattle.refusal.proofs.FirstLaws.{first-none, first-none-is}
 use Rattle.list.specs.Interval.{is_proper}
 use Rattle.convert.specs.Convert.{least_lower, bad_interval, bad_interval_of}
@@ -42,14 +43,10 @@ module _ {c : List ℕ} {i least : ℕ} (is : Tested c i least) where
   unfolding bad_interval
   bad-interval-at = rw (← is.least-is, lt-leb (length c) (2 * i + 1) is.whole)
 
-  pub bad-interval-low : get_or c (2 * i) 0 < least → bad_interval c i ≡ true
-  bad-interval-low low = bad-interval-at ∙ rw (lt-ltb l least low)
-
-  pub bad-interval-backward : least ≤ get_or c (2 * i) 0 → get_or c (2 * i + 1) 0 < get_or c (2 * i) 0 → bad_interval c i ≡ true
-  bad-interval-backward low back = bad-interval-at ∙ rw (le-ltb l least low, lt-ltb u l back)
-
-  pub bad-interval-high : least ≤ get_or c (2 * i) 0 → get_or c (2 * i) 0 ≤ get_or c (2 * i + 1) 0 → record_max < get_or c (2 * i + 1) 0 → bad_interval c i ≡ true
-  bad-interval-high low back high = bad-interval-at ∙ rw (le-ltb l least low, le-ltb u l back, lt-ltb record_max u high)
+  pub bad-interval : (l < least) ⊎ ((least ≤ l × u < l) ⊎ (least ≤ l × l ≤ u × record_max < u)) → bad_interval c i ≡ true
+  bad-interval (inl low) = bad-interval-at ∙ rw (lt-ltb l least low)
+  bad-interval (inr (inl h)) = bad-interval-at ∙ rw (le-ltb l least h.0, lt-ltb u l h.1)
+  bad-interval (inr (inr h)) = bad-interval-at ∙ rw (le-ltb l least h.0, le-ltb u l h.1, lt-ltb record_max u h.2)
 
   pub good-interval : least ≤ get_or c (2 * i) 0 → get_or c (2 * i) 0 ≤ get_or c (2 * i + 1) 0 → get_or c (2 * i + 1) 0 ≤ record_max → bad_interval c i ≡ false
   good-interval low back high = bad-interval-at ∙ rw (le-ltb l least low, le-ltb u l back, le-ltb record_max u high)
@@ -95,9 +92,26 @@ proper-next {n} {k} {i} {c} h p = go (dec_le (length c) (i + 1))
         let q = rw (drop-two c i g) at p in
         record { whole = g; least = q.0; forward = q.1; within = q.2; rest = q.3 }
 
+-- ---- the first interval of a proper list, as two cells in front of the rest
+
+pub record Pair (n k : ℕ) (c pair rest : List ℕ) : Type 0 where
+  pub is : c ≡ get_or pair 0 0 ∷ get_or pair 1 0 ∷ rest
+  pub least : k ≤ get_or pair 0 0
+  pub forward : get_or pair 0 0 ≤ get_or pair 1 0
+  pub within : get_or pair 1 0 ≤ n
+  pub behind : ProperFrom n (get_or pair 1 0 + 2) rest
+
+pub proper-pair : {n k : ℕ} {c : List ℕ} (pair rest : List ℕ) → c ≡ pair ++ rest → length pair ≡ 2 → ProperFrom n k c → Pair n k c pair rest
+proper-pair (l ∷ u ∷ []) rest e h p =
+    let q = rw e at p in
+    record { is = e; least = q.0; forward = q.1; within = q.2; behind = q.3 }
+proper-pair [] rest e h p = absurd (omega (arith, h))
+proper-pair (l ∷ []) rest e h p = absurd (omega (arith, h))
+proper-pair (l ∷ u ∷ m ∷ r) rest e h p = absurd (omega (arith, h))
+
 -- a loop forgets the least lower bound
-pub next-rest : {n k i : ℕ} {c : List ℕ} → Next n k i c → ProperFrom n 0 (drop (i + 2) c)
-next-rest {n} {k} {i} {c} w = proper-weaker n n 0 (get_or c (i + 1) 0 + 2) (drop (i + 2) c) (omega arith) (omega arith) w.rest
+pub pair-rest : {n k : ℕ} {c pair rest : List ℕ} → Pair n k c pair rest → ProperFrom n 0 rest
+pair-rest {n} {k} {c} {pair} {rest} w = proper-weaker n n 0 (get_or pair 1 0 + 2) rest (omega arith) (omega arith) w.behind
 
 -- ---- none is bad
 
@@ -113,14 +127,14 @@ proper-rest i (suc m) c e f =
     let ih = rw (least-lower-next c i, s) at (proper-rest (i + 1) m c (omega arith) f) in
     rw (drop-two c (2 * i) w.0) (w.1, w.2, w.3, ih)
 
-good-proper-facts : (c : List ℕ) → bad_interval_of c ≡ Nowhere → ProperFrom record_max 1 c
+good-proper-facts : (c : List ℕ) → bad_interval_of c ≡ None → ProperFrom record_max 1 c
 good-proper-facts c e = proper-rest 0 ((length c + 1) / 2) c (omega arith) (first-none (bad_interval c) ((length c + 1) / 2) e)
 
-pub good-proper : (c : List ℕ) → bad_interval_of c ≡ Nowhere → is_proper record_max c ≡ true
+pub good-proper : (c : List ℕ) → bad_interval_of c ≡ None → is_proper record_max c ≡ true
 unfolding is_proper
 good-proper c e = facts-proper record_max 1 c (good-proper-facts c e)
 
-pub good-proper-from : (c : List ℕ) → bad_interval_of c ≡ Nowhere → ProperFrom record_max 0 c
+pub good-proper-from : (c : List ℕ) → bad_interval_of c ≡ None → ProperFrom record_max 0 c
 good-proper-from c e = proper-weaker record_max record_max 0 1 c (omega arith) (omega arith) (good-proper-facts c e)
 
 proper-at : (c : List ℕ) → ProperFrom record_max 1 c → (i : ℕ) → 2 * i ≤ length c + 1 → ProperFrom record_max (least_lower c i) (drop (2 * i) c)
@@ -135,6 +149,6 @@ proper-good-at c p i h =
     let w : Next record_max (least_lower c i) (2 * i) c = proper-next h (proper-at c p i (omega arith)) in
     good-interval (record { least-is = refl; whole = w.whole }) w.least w.forward w.within
 
-pub proper-good : (c : List ℕ) → is_proper record_max c ≡ true → bad_interval_of c ≡ Nowhere
+pub proper-good : (c : List ℕ) → is_proper record_max c ≡ true → bad_interval_of c ≡ None
 unfolding is_proper
 proper-good c e = first-none-is (bad_interval c) ((length c + 1) / 2) (λ i h. proper-good-at c (proper-facts record_max 1 c e) i (omega arith))

@@ -1,4 +1,5 @@
 -- Ascending numbers turned to stretches by one pass: the cells that the pass gives are the proper list of the numbers.
+use Rattle.std.specs.Prelude.{None}
 use mathlib.Core.Path.{◌≡◌, refl, sym, ap, ◌∙◌}
 use Prim.Native.Nat.{ℕ, ◌+◌, ◌*◌, ◌≤◌, ◌<◌}
 use native.Mathlib.Omega.{arith}
@@ -10,7 +11,6 @@ use borrow.Author.Tests.{eqb-true, eqb-false, le-leb, lt-leb, eq-eqb, ne_eqb}
 use Rattle.laws.proofs.Tests.{leb-cases, leb-both}
 use Rattle.laws.proofs.Lists.{drop-next, drop-none}
 use Rattle.limits.specs.Limits.{record_max}
-use Rattle.refusal.specs.declared.Found.TheVariants.{Nowhere}
 use Rattle.refusal.specs.First.{first}
 use Rattle.list.specs.Interval.{is_proper, names, intervals}
 use Rattle.list.specs.Stretches.{cells_of}
@@ -154,10 +154,10 @@ runs-names [] x = refl
 runs-names (y ∷ ys) x = runs_from-names y y x ys (omega arith) ∙ rw (leb-both x y)
 
 -- with no bad number the pass gives the proper list of the numbers
-pub runs-cells : (n : ℕ) (xs : List ℕ) → first (bad_number n xs) (length xs) ≡ Nowhere → runs xs ≡ cells_of (among xs) n
+pub runs-cells : (n : ℕ) (xs : List ℕ) → first (bad_number n xs) (length xs) ≡ None → runs xs ≡ cells_of (among xs) n
 runs-cells n xs e = is-cells (among xs) n (runs xs) (runs-proper n xs (good-ascends n xs e)) (λ x h g. runs-names xs x)
 
-pub rest-cells : (xs : List ℕ) → bad_number_of xs ≡ Nowhere → (i : ℕ) → i ≤ length xs → runs (drop i xs) ≡ intervals_of (drop i xs)
+pub rest-cells : (xs : List ℕ) → bad_number_of xs ≡ None → (i : ℕ) → i ≤ length xs → runs (drop i xs) ≡ intervals_of (drop i xs)
 rest-cells xs e i h = runs-cells record_max (drop i xs) (good-rest record_max xs e i h)
 
 -- behind the last number stands no interval
@@ -166,7 +166,7 @@ intervals-none xs i h =
     ap (λ (ys : List ℕ). intervals_of ys) (drop-none xs i h) ∙ sym (runs-cells record_max [] (ascends-good record_max [] tt)) ∙ runs_none [] refl
 
 -- a stretch that ends before place `next`, said of the intervals
-pub run-ended : (xs : List ℕ) (i l u next : ℕ) → bad_number_of xs ≡ Nowhere → i ≤ length xs → next ≤ length xs → runs (drop i xs) ≡ runs_from l u (drop next xs) →
+pub run-ended : (xs : List ℕ) (i l u next : ℕ) → bad_number_of xs ≡ None → i ≤ length xs → next ≤ length xs → runs (drop i xs) ≡ runs_from l u (drop next xs) →
     runs_from l u (drop next xs) ≡ l ∷ u ∷ runs (drop next xs) → intervals_of (drop i xs) ≡ l ∷ u ∷ intervals_of (drop next xs)
 run-ended xs i l u next e h g begun ended =
     sym (rest-cells xs e i h) ∙ begun ∙ ended ∙ ap (λ (r : List ℕ). l ∷ u ∷ r) (rest-cells xs e next g)

@@ -6,16 +6,16 @@ use native.Mathlib.Nat.{lt_of_not-le}
 use native.Mathlib.Decide.{dec_le}
 use mathlib.Core.Bool.{Bool, true, false}
 use mathlib.Core.List.{List, [], ◌∷◌, ◌++◌}
-use lib.ListN.{length, get_or, drop, length-append}
+use lib.ListN.{length, get_or, length-append}
 use lib.Seq.{sets}
 use borrow.Author.Tests.{le-leb}
-use Rattle.laws.proofs.Lists.{drop-two, drop-none, sets-append}
+use Rattle.laws.proofs.Lists.{sets-append}
 use Rattle.list.specs.Interval.{is_proper, names, records}
 use Rattle.list.specs.Stretches.{cons_if, records_from, records_of}
 use Rattle.list.proofs.ProperLaws.{ProperFrom, proper-facts}
 use Rattle.list.proofs.NamesLaws.{names_in, names-past, names-below}
 use Rattle.list.proofs.RecordLaws.{proper-count, records-length}
-use Rattle.convert.proofs.IntervalLaws.{Next}
+use Rattle.convert.proofs.IntervalLaws.{Pair}
 
 -- k numbers from x on
 abbrev pub count_up : ℕ → ℕ → List ℕ
@@ -51,21 +51,26 @@ range-end x e h = let s : e - x ≡ 0 = omega arith in rw s
 
 -- ---- the intervals of a slice
 
-pub spans-at : {n k i : ℕ} {c : List ℕ} → Next n k i c → spans (drop i c) ≡ count_up (get_or c i 0) (get_or c (i + 1) 0 + 1 - get_or c i 0) ++ spans (drop (i + 2) c)
+module _ {n k : ℕ} {c pair rest : List ℕ} (w : Pair n k c pair rest) where
+  pub spans-pair : spans c ≡ count_up (get_or pair 0 0) (get_or pair 1 0 + 1 - get_or pair 0 0) ++ spans rest
+  unfolding spans
+  spans-pair = rw w.is
+
+  pub records-pair : records c ≡ get_or pair 1 0 + 1 - get_or pair 0 0 + records rest
+  unfolding records
+  records-pair = rw w.is
+
+pub spans-none : (c : List ℕ) → length c < 2 → spans c ≡ []
 unfolding spans
-spans-at {i = i} {c} w = rw (drop-two c i w.whole)
+spans-none [] h = refl
+spans-none (l ∷ []) h = refl
+spans-none (l ∷ u ∷ r) h = absurd (omega arith)
 
-pub spans-end : (c : List ℕ) (i : ℕ) → length c ≤ i → spans (drop i c) ≡ []
-unfolding spans
-spans-end c i h = rw (drop-none c i h)
-
-pub records-at : {n k i : ℕ} {c : List ℕ} → Next n k i c → records (drop i c) ≡ get_or c (i + 1) 0 + 1 - get_or c i 0 + records (drop (i + 2) c)
+pub records-none : (c : List ℕ) → length c < 2 → records c ≡ 0
 unfolding records
-records-at {i = i} {c} w = rw (drop-two c i w.whole)
-
-pub records-end : (c : List ℕ) (i : ℕ) → length c ≤ i → records (drop i c) ≡ 0
-unfolding records
-records-end c i h = rw (drop-none c i h)
+records-none [] h = refl
+records-none (l ∷ []) h = refl
+records-none (l ∷ u ∷ r) h = absurd (omega arith)
 
 pub records-small : (n : ℕ) (c : List ℕ) → is_proper n c ≡ true → records c ≤ n
 records-small n c e = omega (arith, proper-count n c e, records-length (names c) n)
@@ -124,15 +129,15 @@ spans_step p n x m k l u r a h f ih (yes d) (yes w) =
     let i = ih (u + 2) r a.3 (omega arith) (λ y j. f y (omega arith) ∙ names-past l u y r (omega arith)) in
     rw e (last_step p m l u r (omega arith) (f l (omega arith)) (rw e at i))
 
-spans-none : (p : ℕ → Bool) (x m : ℕ) → p x ≡ false → records_from p (x + 1) m ≡ [] → cons_if (p x) x (records_from p (x + 1) m) ≡ []
-spans-none p x m e ih = rw e ih
+past-none : (p : ℕ → Bool) (x m : ℕ) → p x ≡ false → records_from p (x + 1) m ≡ [] → cons_if (p x) x (records_from p (x + 1) m) ≡ []
+past-none p x m e ih = rw e ih
 
 spans-from : (p : ℕ → Bool) (n x m k : ℕ) (c : List ℕ) → ProperFrom n k c → x ≤ k → x + m ≡ n + 1 → ((y : ℕ) → x ≤ y → p y ≡ names c y) →
     records_from p x m ≡ spans c
 unfolding records_from spans names
 spans-from p n x zero k [] a h e f = refl
 spans-from p n x zero k (l ∷ u ∷ r) a h e f = absurd (omega arith)
-spans-from p n x (suc m) k [] a h e f = spans-none p x m (f x (omega arith))
+spans-from p n x (suc m) k [] a h e f = past-none p x m (f x (omega arith))
     (spans-from p n (x + 1) m (x + 1) [] tt (omega arith) (omega arith) (λ y i. f y (omega arith)))
 spans-from p n x (suc m) k (l ∷ u ∷ r) a h e f =
     spans_step p n x m k l u r a h f (λ k c b i g. spans-from p n (x + 1) m k c b i (omega arith) g) (dec_le l x) (dec_le u x)

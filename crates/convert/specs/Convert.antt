@@ -1,12 +1,9 @@
 -- Numbers to intervals, and intervals to numbers: when each is refused, and what each writes. Reference 8.7 and 8.8.
-use Rattle.std.specs.Prelude.{ℕ, zero, suc, ◌+◌, ◌*◌, ◌/◌, ◌≡◌, Bool, cond, ◌||◌, List, leb, ltb, length, get_or}
+use Rattle.std.specs.Prelude.{ℕ, zero, suc, ◌+◌, ◌*◌, ◌/◌, ◌≡◌, Bool, cond, ◌||◌, List, leb, ltb, length, get_or, Option, Some, None, Result}
 use Rattle.limits.specs.Limits.{record_max}
-use Rattle.refusal.specs.declared.Found.{Found}
-use Rattle.refusal.specs.declared.Found.TheVariants.{At, Nowhere}
 use Rattle.refusal.specs.declared.Refusal.{Refusal}
 use Rattle.refusal.specs.declared.Refusal.TheVariants.{Number, Interval, Room}
 use Rattle.refusal.specs.First.{first}
-use Rattle.list.specs.declared.Written.{Written}
 use Rattle.list.specs.Interval.{names, intervals, records}
 use Rattle.list.specs.Outcome.{Outcome, writes, refused, left_by, written_of}
 use Rattle.list.specs.Among.{among}
@@ -35,12 +32,12 @@ bad_interval c i =
     || ltb record_max (get_or c (2 * i + 1) 0)
 
 -- Reference 9.2: a fault first, then 12 with what is needed; else c is written
-abbrev pub conversion : (ℕ → Refusal) → Found → ℕ → List ℕ → ℕ → Outcome
-conversion refusal (At i) needed c room = refused (refusal i)
-conversion refusal Nowhere needed c room = cond (leb needed room) (writes c) (refused (Room needed))
+abbrev pub conversion : (ℕ → Refusal) → Option ℕ → ℕ → List ℕ → ℕ → Outcome
+conversion refusal (Some i) needed c room = refused (refusal i)
+conversion refusal None needed c room = cond (leb needed room) (writes c) (refused (Room needed))
 
 -- Reference 9.2: 15, with the limit of all record numbers
-abbrev pub bad_number_of : List ℕ → Found
+abbrev pub bad_number_of : List ℕ → Option ℕ
 bad_number_of xs = first (bad_number record_max xs) (length xs)
 
 -- Reference 8.7: the list to write
@@ -48,12 +45,12 @@ abbrev pub intervals_of : List ℕ → List ℕ
 intervals_of xs = cells_of (among xs) record_max
 
 -- Reference 8.7: the room is half of the cells
-pub record ToIntervals (xs out out' : List ℕ) (r : Written) : Type 0 where
+pub record ToIntervals (xs out out' : List ℕ) (r : Result ℕ Refusal) : Type 0 where
   pub answer : r ≡ written_of (intervals (intervals_of xs)) (conversion Number (bad_number_of xs) (intervals (intervals_of xs)) (intervals_of xs) (length out / 2))
   pub cells : out' ≡ left_by (conversion Number (bad_number_of xs) (intervals (intervals_of xs)) (intervals_of xs) (length out / 2)) out
 
 -- Reference 9.2: 16; a last cell without a second counts as an interval
-abbrev pub bad_interval_of : List ℕ → Found
+abbrev pub bad_interval_of : List ℕ → Option ℕ
 bad_interval_of c = first (bad_interval c) ((length c + 1) / 2)
 
 -- Reference 8.8: the numbers to write
@@ -61,6 +58,6 @@ abbrev pub numbers_of : List ℕ → List ℕ
 numbers_of c = records_of (names c) record_max
 
 -- Reference 8.8: the room is all of the cells
-pub record ToNumbers (c out out' : List ℕ) (r : Written) : Type 0 where
+pub record ToNumbers (c out out' : List ℕ) (r : Result ℕ Refusal) : Type 0 where
   pub answer : r ≡ written_of (records c) (conversion Interval (bad_interval_of c) (records c) (numbers_of c) (length out))
   pub cells : out' ≡ left_by (conversion Interval (bad_interval_of c) (records c) (numbers_of c) (length out)) out

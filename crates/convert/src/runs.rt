@@ -4,8 +4,6 @@ ghost use Rattle.limits.specs.Limits.{record_max};
 ghost use Rattle.convert.specs.Convert.{bad_number_of};
 ghost use Rattle.convert.specs.Runs.{RunAt};
 
-use refusal::Found;
-
 // An interval of the numbers, and the place of the number behind it.
 #[derive(Clone, Copy)]
 pub struct Run {
@@ -16,29 +14,23 @@ pub struct Run {
 
 // The longest run from place i on.
 pub fn next_run(numbers: &[u32], i: usize) -> Run
-    requires good { bad_number_of numbers.now ≡ Found.Nowhere }
+    requires good { bad_number_of numbers.now ≡ None }
     requires within { i < length numbers.now }
     ensures { RunAt numbers.now i result }
 {
     let lower = numbers[i];
     let mut upper = lower;
-    let mut next = i + 1;
-    while next < numbers.len() {
+    for next in i + 1..numbers.len() {
         let x = numbers[next];
         if x != upper + 1 {
-            return Run {
-                lower: lower,
-                upper: upper,
-                next: next,
-            };
+            return Run { lower, upper, next };
         }
         upper = x;
-        next += 1;
     }
     Run {
-        lower: lower,
-        upper: upper,
-        next: next,
+        lower,
+        upper,
+        next: numbers.len(),
     }
 }
 

@@ -7,37 +7,34 @@ ghost use Rattle.list.specs.Front.{in_front};
 use crate::numbers::first_bad_number;
 use crate::runs::{gap, next_run};
 use limits::RECORD_MAX;
-use list::Written;
-use refusal::{Found, Refusal};
+use refusal::Refusal;
 
 // How many intervals the numbers listed make.
 fn count_intervals(listed: &[u32]) -> usize
-    requires { bad_number_of listed.now ≡ Found.Nowhere }
+    requires { bad_number_of listed.now ≡ None }
     ensures { result ≡ intervals (intervals_of listed.now) }
 {
-    if listed.len() == 0 {
+    let [first, rest @ ..] = listed else {
         return 0;
-    }
-    let mut u = listed[0];
+    };
+    let mut u = *first;
     let mut n: usize = 1;
-    let mut i = 1;
-    while i < listed.len() {
-        let x = listed[i];
+    for &x in rest {
         n += gap(u, x);
         u = x;
-        i += 1;
     }
     n
 }
 
 // Writes the intervals of the numbers from cell 0; the cells behind them stay.
 fn write_intervals(numbers: &[u32], out: &mut [u32])
-    requires good { bad_number_of numbers.now ≡ Found.Nowhere }
+    requires good { bad_number_of numbers.now ≡ None }
     requires room { length (intervals_of numbers.now) ≤ length out.old }
     ensures { out.new ≡ in_front (intervals_of numbers.now) out.old }
 {
     let mut k = 0;
     let mut i = 0;
+    // no `for`: the place moves by the run found, not by one
     while i < numbers.len() {
         let run = next_run(numbers, i);
         out[k] = run.lower;
@@ -48,17 +45,16 @@ fn write_intervals(numbers: &[u32], out: &mut [u32])
 }
 
 // Reference 8.7: refusals 15 and 12, or how many intervals were written.
-pub fn to_intervals(numbers: &[u32], out: &mut [u32]) -> Written
+pub fn to_intervals(numbers: &[u32], out: &mut [u32]) -> Result<usize, Refusal>
     ensures { ToIntervals numbers.now out.old out.new result }
 {
-    let bad = first_bad_number(numbers, RECORD_MAX);
-    if let Found::At(i) = bad {
-        return Written::Refused(Refusal::Number(i));
+    if let Some(i) = first_bad_number(numbers, RECORD_MAX) {
+        return Err(Refusal::Number(i));
     }
     let n = count_intervals(numbers);
     if out.len() / 2 < n {
-        return Written::Refused(Refusal::Room(n));
+        return Err(Refusal::Room(n));
     }
     write_intervals(numbers, out);
-    Written::Wrote(n)
+    Ok(n)
 }

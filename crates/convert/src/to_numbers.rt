@@ -7,47 +7,36 @@ ghost use Rattle.convert.specs.Convert.{bad_interval_of, numbers_of, ToNumbers};
 ghost use Rattle.list.specs.Front.{in_front};
 
 use limits::RECORD_MAX;
-use list::Written;
-use refusal::{Found, Refusal};
+use refusal::Refusal;
 
 // Reference 9.1, row 16: the first bad interval.
-fn first_bad_interval(cells: &[u32]) -> Found
+fn first_bad_interval(cells: &[u32]) -> Option<usize>
     ensures { result ≡ bad_interval_of cells.now }
 {
     let whole = cells.len() / 2;
     let mut least: u32 = 1;
-    let mut i = 0;
-    while i < whole {
+    for i in 0..whole {
         let l = cells[2 * i];
         let u = cells[2 * i + 1];
-        if l < least {
-            return Found::At(i);
-        }
-        if u < l {
-            return Found::At(i);
-        }
-        if RECORD_MAX < u {
-            return Found::At(i);
+        if l < least || u < l || RECORD_MAX < u {
+            return Some(i);
         }
         least = u + 2;
-        i += 1;
     }
     if cells.len() % 2 == 1 {
-        return Found::At(whole);
+        return Some(whole);
     }
-    Found::Nowhere
+    None
 }
 
 // How many numbers the intervals name.
 fn count_numbers(cells: &[u32]) -> usize
-    requires { bad_interval_of cells.now ≡ Found.Nowhere }
+    requires { bad_interval_of cells.now ≡ None }
     ensures { result ≡ records cells.now }
 {
     let mut n: u32 = 0;
-    let mut i = 0;
-    while i < cells.len() {
-        n += cells[i + 1] - cells[i] + 1;
-        i += 2;
+    for pair in cells.chunks_exact(2) {
+        n += pair[1] - pair[0] + 1;
     }
     n as usize
 }
@@ -58,44 +47,37 @@ fn write_range(out: &mut [u32], k: usize, l: u32, end: u32)
     requires room { k + (end - l) ≤ length out.old }
     ensures { out.new ≡ sets out.old k (records_from (λ (y : ℕ). true) l (end - l)) }
 {
-    let mut x = l;
-    let mut at = k;
-    while x < end {
-        out[at] = x;
-        at += 1;
-        x += 1;
+    for x in l..end {
+        out[k + (x - l) as usize] = x;
     }
 }
 
 // Writes the numbers that the intervals name from cell 0; the cells behind them stay.
 fn write_numbers(cells: &[u32], out: &mut [u32])
-    requires good { bad_interval_of cells.now ≡ Found.Nowhere }
+    requires good { bad_interval_of cells.now ≡ None }
     requires room { records cells.now ≤ length out.old }
     ensures { out.new ≡ in_front (numbers_of cells.now) out.old }
 {
     let mut k: usize = 0;
-    let mut i = 0;
-    while i < cells.len() {
-        let l = cells[i];
-        let end = cells[i + 1] + 1;
+    for pair in cells.chunks_exact(2) {
+        let l = pair[0];
+        let end = pair[1] + 1;
         write_range(out, k, l, end);
         k += (end - l) as usize;
-        i += 2;
     }
 }
 
 // Reference 8.8: refusals 16 and 12, or how many numbers were written.
-pub fn to_numbers(cells: &[u32], out: &mut [u32]) -> Written
+pub fn to_numbers(cells: &[u32], out: &mut [u32]) -> Result<usize, Refusal>
     ensures { ToNumbers cells.now out.old out.new result }
 {
-    let bad = first_bad_interval(cells);
-    if let Found::At(i) = bad {
-        return Written::Refused(Refusal::Interval(i));
+    if let Some(i) = first_bad_interval(cells) {
+        return Err(Refusal::Interval(i));
     }
     let n = count_numbers(cells);
     if out.len() < n {
-        return Written::Refused(Refusal::Room(n));
+        return Err(Refusal::Room(n));
     }
     write_numbers(cells, out);
-    Written::Wrote(n)
+    Ok(n)
 }

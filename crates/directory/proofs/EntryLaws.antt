@@ -5,6 +5,7 @@ use mathlib.Core.Path.{◌≡◌, sym, ◌∙◌}
 use mathlib.Core.List.{List}
 use lib.ListN.{length}
 use Rattle.limits.specs.Limits.{record_max}
+use Rattle.list.specs.declared.Kept.{Kept}
 use Rattle.list.specs.Interval.{intervals}
 use Rattle.list.specs.Reading.{KeptIn, list_in}
 use Rattle.list.proofs.CellLaws.{numbers_in-length}
@@ -15,7 +16,7 @@ use Rattle.index.specs.Format.{highest, list_start, part, single_count, pair_cou
 use Rattle.index.specs.Read.{EntryCells}
 use Rattle.index.proofs.SoundLaws.{sound-trailer, sound-length, sound-list, sound-list-room, singles-length, lower-length, upper-length}
 use Rattle.directory.specs.declared.parts.Regions.{Regions}
-use Rattle.directory.specs.Regions.{EntryIn, singles_in, lower_in, upper_in, RegionsOf}
+use Rattle.directory.specs.Regions.{EntryIn, singles_in, lower_in, upper_in, RegionsOf, KeptOf}
 
 module _ {index : List ℕ} {i : ℕ} (e : EntryIn index i) where
   -- each list of a sound index is kept within the largest record
@@ -84,3 +85,8 @@ pub regions-list : {index : List ℕ} {i : ℕ} {r : Regions} → RegionsOf inde
     list_in (singles_in index r) (lower_in index r) (upper_in index r) ≡ list_of index i
 unfolding list_of
 regions-list g = rw (g.singles, g.lower, g.upper)
+
+-- and so is that of a kept list in memory
+pub kept-list : {index : List ℕ} {i : ℕ} {k : Kept} → KeptOf index i k → list_in k.singles.now k.lower.now k.upper.now ≡ list_of index i
+unfolding list_of
+kept-list g = rw (g.singles, g.lower, g.upper)

@@ -5,8 +5,7 @@ use native.Mathlib.Omega.{arith}
 use mathlib.Core.Bool.{Bool, true, false}
 use mathlib.Core.List.{List}
 use Rattle.laws.proofs.Tests.{true-false, by-test, leb-cases}
-use Rattle.refusal.specs.declared.Found.{Found}
-use Rattle.refusal.specs.declared.Found.TheVariants.{At, Nowhere}
+use Rattle.std.specs.Prelude.{Option, Some, None, Result, Ok, Err}
 use Rattle.refusal.specs.First.{first}
 use Rattle.refusal.proofs.FirstLaws.{first-is, first-none, first-none-is, first-at}
 use Rattle.word.specs.Word.{same, before}
@@ -16,8 +15,6 @@ use Rattle.list.specs.Ginix.{one}
 use Rattle.index.specs.Format.{word_count, word_of, list_of}
 use Rattle.index.specs.Sound.{Sound}
 use Rattle.index.proofs.SoundLaws.{words-ascend}
-use Rattle.directory.specs.declared.Standing.{Standing}
-use Rattle.directory.specs.declared.Standing.TheVariants.{Here, Absent}
 use Rattle.directory.specs.Has.{has}
 use Rattle.directory.specs.Standing.{below_within, word_place, standing_by, standing_of, Splits, Stands}
 use Rattle.directory.proofs.HasLaws.{word-others, has-entry, has-nowhere}
@@ -98,7 +95,7 @@ module _ (index : List ℕ) (s : Sound index) (word : List ℕ) where
         rest = λ j l u. rest_up i j (rw (← e) (before-irreflexive (word_of index i))) l u;
       })
 
-  pub standing_here : (i : ℕ) → i < word_count index → word_of index i ≡ word → standing_of index word ≡ Here i
+  pub standing_here : (i : ℕ) → i < word_count index → word_of index i ≡ word → standing_of index word ≡ Ok i
   unfolding standing_of
   standing_here i h e =
       let found = first-is (λ j. same (word_of index j) word) i (word_count index)
@@ -110,7 +107,7 @@ module _ (index : List ℕ) (s : Sound index) (word : List ℕ) where
       rw found
 
   -- what does not stand at its place stands nowhere
-  pub standing-absent : (p : ℕ) → p ≡ word_place index word → (p < word_count index → word_of index p ≡ word → ⊥) → standing_of index word ≡ Absent p
+  pub standing-absent : (p : ℕ) → p ≡ word_place index word → (p < word_count index → word_of index p ≡ word → ⊥) → standing_of index word ≡ Err p
   unfolding standing_of
   standing-absent p q n =
       let nowhere = first-none-is (λ j. same (word_of index j) word) (word_count index)
@@ -127,28 +124,28 @@ module _ (index : List ℕ) (s : Sound index) (word : List ℕ) where
   unfolding standing_of
   standing-stands = go (first (λ j. same (word_of index j) word) (word_count index)) refl
     where
-      go : (f : Found) → first (λ j. same (word_of index j) word) (word_count index) ≡ f → Stands index word (standing_by f (word_place index word))
-      go (At i) e =
+      go : (f : Option ℕ) → first (λ j. same (word_of index j) word) (word_count index) ≡ f → Stands index word (standing_by f (word_place index word))
+      go (Some i) e =
           let f = first-at (λ j. same (word_of index j) word) i (word_count index) e in
           let w = same-equal (word_of index i) word f.holds in
           (rw (entry_place_lem i f.below w) at place-splits, f.below, w)
-      go Nowhere e =
+      go None e =
           (place-splits, λ j h w. true-false (sym (equal-same (word_of index j) word w) ∙ first-none (λ j. same (word_of index j) word) (word_count index) e j h))
 
-  pub stands_at : (found : Standing) → standing_of index word ≡ found → Stands index word found
+  pub stands_at : (found : Result ℕ ℕ) → standing_of index word ≡ found → Stands index word found
   stands_at found e = rw e at standing-stands
 
   -- no other number would do: this pins the definition
-  pub stands-standing : (found : Standing) → Stands index word found → standing_of index word ≡ found
-  stands-standing (Here i) w = standing_here i w.1 w.2
-  stands-standing (Absent p) w = standing-absent p (sym (splits-place p w.0)) (λ h e. w.1 p h e)
+  pub stands-standing : (found : Result ℕ ℕ) → Stands index word found → standing_of index word ≡ found
+  stands-standing (Ok i) w = standing_here i w.1 w.2
+  stands-standing (Err p) w = standing-absent p (sym (splits-place p w.0)) (λ h e. w.1 p h e)
 
   -- ---- what the index has of a word, by where it stands
 
-  pub here-has : (i x : ℕ) → standing_of index word ≡ Here i → has index word x ≡ names (list_of index i) x
-  here-has i x e = let w = stands_at (Here i) e in has-entry index s word i x w.1 w.2
+  pub here-has : (i x : ℕ) → standing_of index word ≡ Ok i → has index word x ≡ names (list_of index i) x
+  here-has i x e = let w = stands_at (Ok i) e in has-entry index s word i x w.1 w.2
 
-  pub absent-has : (p x : ℕ) → standing_of index word ≡ Absent p → has index word x ≡ false
+  pub absent-has : (p x : ℕ) → standing_of index word ≡ Err p → has index word x ≡ false
   absent-has p x e =
-      let w = stands_at (Absent p) e in
+      let w = stands_at (Err p) e in
       has-nowhere index word x (λ j h. by-test (same (word_of index j) word) (λ t. absurd (w.1 j h (same-equal (word_of index j) word t))) (λ t. t))

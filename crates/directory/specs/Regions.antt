@@ -2,6 +2,7 @@
 use Rattle.std.specs.Prelude.{◌≡◌, ℕ, ◌-◌, ◌≤◌, ◌<◌, List, length}
 use Rattle.limits.specs.Limits.{record_max}
 use Rattle.list.specs.declared.Place.{Place}
+use Rattle.list.specs.declared.Kept.{Kept}
 use Rattle.list.specs.Cell.{numbers_in}
 use Rattle.list.specs.Seek.{Ascends}
 use Rattle.list.specs.Reading.{KeptIn, reading_place}
@@ -42,6 +43,16 @@ pub record RegionsOf (index : List ℕ) (i : ℕ) (r : Regions) : Type 0 where
 pub record Marked (index : List ℕ) (r : Regions) : Type 0 where
   pub entry : ℕ
   pub regions : RegionsOf index entry r
+
+-- a kept list in memory is that of entry i, and keeps the list rule
+pub record KeptOf (index : List ℕ) (i : ℕ) (k : Kept) : Type 0 where
+  pub singles : k.singles.now ≡ singles_of index i
+  pub lower : k.lower.now ≡ lower_of index i
+  pub upper : k.upper.now ≡ upper_of index i
+  pub paired : length k.lower.now ≡ length k.upper.now
+  pub kept : KeptIn record_max k.singles.now k.lower.now k.upper.now
+  pub singles-ascend : Ascends (numbers_in k.singles.now)
+  pub upper-ascend : Ascends (numbers_in k.upper.now)
 
 -- where the list of entry i is read on for x: behind all that ends before x
 abbrev pub list_place : List ℕ → ℕ → ℕ → Place

@@ -3,22 +3,18 @@ ghost use Rattle.std.specs.Prelude.{◌≡◌};
 ghost use Rattle.index.specs.Part.{slice_of};
 ghost use Rattle.directory.specs.Entry.{entry_check, entry_word};
 
-use index::Checked;
 use refusal::Refusal;
 
 // Whether the index has the entry, or the first refusal that holds.
-pub fn entry_refusal(index: &[u8], entry: u32) -> Checked
+#[tactic(auto, unfolding(crate::specs::Entry::entry_check))]
+pub fn entry_refusal(index: &[u8], entry: u32) -> Result<(), Refusal>
     ensures { result ≡ entry_check index.now entry }
 {
-    match index::check::check_index(index) {
-        Checked::Refused(refusal) => Checked::Refused(refusal),
-        Checked::Good => {
-            if (entry as usize) < index::trailer::word_count(index) {
-                Checked::Good
-            } else {
-                Checked::Refused(Refusal::EntryNumber(0))
-            }
-        }
+    index::check::check_index(index)?;
+    if (entry as usize) < index::trailer::word_count(index) {
+        Ok(())
+    } else {
+        Err(Refusal::EntryNumber(0))
     }
 }
 
@@ -27,7 +23,7 @@ pub fn entry_word<'a>(index: &'a [u8], entry: u32) -> &'a [u8]
     ensures { slice_of result ≡ entry_word (slice_of index.entry) entry }
 {
     match entry_refusal(index, entry) {
-        Checked::Good => crate::parts::word_of(index, entry as usize),
-        Checked::Refused(_) => &index[..0],
+        Ok(()) => crate::parts::word_of(index, entry as usize),
+        Err(_) => &index[..0],
     }
 }

@@ -7,14 +7,13 @@ ghost use Rattle.directory.specs.Standing.{word_place, standing_of};
 ghost use Rattle.directory.specs.Entry.{lookup_of};
 ghost use Rattle.directory.specs.Regions.{EntryIn};
 
-use crate::{Lookup, Standing};
-use index::Checked;
 use index::trailer::word_count;
 use refusal::Refusal;
-use word::Order;
+use std::cmp::Ordering;
 
 // How the word of entry i stands to a word.
-fn order_at(index: &[u8], i: usize, word: &[u8]) -> Order
+#[tactic(auto, unfolding(index::specs::Format::word_of))]
+fn order_at(index: &[u8], i: usize, word: &[u8]) -> Ordering
     requires { EntryIn index.now i }
     ensures { result ≡ order_of (word_of index.now i) word.now }
 {
@@ -25,11 +24,7 @@ fn stands_before(index: &[u8], i: usize, word: &[u8]) -> bool
     requires { EntryIn index.now i }
     ensures { result ≡ before (word_of index.now i) word.now }
 {
-    match order_at(index, i, word) {
-        Order::Before => true,
-        Order::Same => false,
-        Order::Behind => false,
-    }
+    order_at(index, i, word).is_lt()
 }
 
 // The entry number at which the word stands or would stand: the directory is halved.
@@ -39,6 +34,7 @@ pub fn find_place(index: &[u8], word: &[u8]) -> usize
 {
     let mut low = 0;
     let mut high = word_count(index);
+    // No `for` and no `binary_search`: the words stand in the index's bytes, so that no slice of words is there, and each turn halves what is left.
     while low < high {
         let middle = low + (high - low) / 2;
         if stands_before(index, middle, word) {
@@ -51,30 +47,26 @@ pub fn find_place(index: &[u8], word: &[u8]) -> usize
 }
 
 // Where the word stands, or would stand: a word of the index stands at its place, so that one comparison tells.
-pub fn find_word(index: &[u8], word: &[u8]) -> Standing
+pub fn find_word(index: &[u8], word: &[u8]) -> Result<usize, usize>
     requires { Sound index.now }
     ensures { result ≡ standing_of index.now word.now }
 {
     let place = find_place(index, word);
     if place >= word_count(index) {
-        return Standing::Absent(place);
+        return Err(place);
     }
     match order_at(index, place, word) {
-        Order::Same => Standing::Here(place),
-        Order::Before => Standing::Absent(place),
-        Order::Behind => Standing::Absent(place),
+        Ordering::Equal => Ok(place),
+        Ordering::Less => Err(place),
+        Ordering::Greater => Err(place),
     }
 }
 
 // Reference 8.2: the entry number of a word, which may be any bytes, or the first refusal that holds.
-pub fn look_up(index: &[u8], word: &[u8]) -> Lookup
+#[tactic(auto, unfolding(crate::specs::Entry::lookup_of))]
+pub fn look_up(index: &[u8], word: &[u8]) -> Result<usize, Refusal>
     ensures { result ≡ lookup_of index.now word.now }
 {
-    match index::check::check_index(index) {
-        Checked::Refused(refusal) => Lookup::NoEntry(refusal),
-        Checked::Good => match find_word(index, word) {
-            Standing::Here(i) => Lookup::Entry(i),
-            Standing::Absent(place) => Lookup::NoEntry(Refusal::NoWord(place)),
-        },
-    }
+    index::check::check_index(index)?;
+    find_word(index, word).map_err(Refusal::NoWord)
 }

@@ -7,19 +7,22 @@ use mathlib.Core.List.{List, [], ◌∷◌, ◌++◌}
 use lib.ListN.{length, take, replicate, length-replicate}
 use Rattle.window.specs.Window.{bit_at, Holds, Combined}
 use Rattle.window.proofs.HoldLaws.{bits-zeros, holds_agree, holds-combined}
-use Rattle.question.specs.declared.token.Op.{Op}
-use Rattle.question.specs.declared.token.Op.TheVariants.{And, Or, Not}
+use Rattle.word.specs.declared.Op.{Op}
+use Rattle.word.specs.declared.Op.TheVariants.{And, Or, Not}
 use Rattle.question.specs.Token.{Tok}
 use Rattle.question.specs.Grammar.{Tree, Out, word, pair, part, tree_words}
 use Rattle.question.specs.Meaning.{combine}
 use Rattle.fill.specs.Added.{Added}
 use Rattle.slots.specs.Slots.{slot_satisfies}
-use Rattle.slots.specs.Row.{slots_in, senses_in, entries_at, HintsMoved}
+use Rattle.list.specs.declared.sense.Sense.{Sense}
+use Rattle.slots.specs.declared.row.Row.{Row}
+use Rattle.slots.specs.Row.{entries_at, HintsMoved}
 use Rattle.slots.specs.Having.{entry_has, half_of, having}
 use Rattle.senses.specs.Senses.{Sensed}
 use Rattle.slots.proofs.RowLaws.{moved_none}
 use Rattle.slots.proofs.EntriesLaws.{lists_of, IsList, in_lists, lists-next, all-lists}
-use Rattle.codes.specs.Code.{word_code}
+use Rattle.codes.specs.declared.code.Code.{Code}
+use Rattle.codes.specs.declared.code.Code.TheVariants as kind
 use Rattle.codes.specs.Reads.{Reads, as_operand}
 use Rattle.codes.proofs.ReadsLaws.{Here, operand-word}
 use Rattle.evaluate.specs.Evaluated.{OutFor, Evaluated}
@@ -43,7 +46,7 @@ front-back (suc m) (v ∷ vs) r e = ap (λ (l : List ℕ). v ∷ l) (front-back 
 -- ---- what an evaluation comes to
 
 -- nothing could be read, and nothing is changed
-pub evaluated-none : {reading : ℕ → ℕ → List Tok → Out Tree} {codes : List ℕ} {at : Step} {v : ℕ → ℕ → Bool} {base : ℕ} {row ws : List ℕ} →
+pub evaluated-none : {reading : ℕ → ℕ → List Tok → Out Tree} {codes : List Code} {at : Step} {v : ℕ → ℕ → Bool} {base : ℕ} {row : Row} {ws : List ℕ} →
     at.code ≤ length codes →
     ((f : ℕ) → Reads (reading at.slot f) codes at.code at.code at.slot (λ t. Holds (slot_satisfies v t at.slot) base ws)) →
     HintsMoved row row × ((length ws ≡ length ws) × Evaluated reading codes at v base ws at)
@@ -69,49 +72,49 @@ module _ (v : ℕ → ℕ → Bool) (k : ℕ) {base : ℕ} where
 
 -- ---- a window with a blank one
 
-pub blank-and : (xs : List ℕ) → Combined (combine And) xs (replicate (length xs) 0) (replicate (length xs) 0)
-blank-and xs = record {
+pub blank_and : (xs : List ℕ) → Combined (combine And) xs (replicate (length xs) 0) (replicate (length xs) 0)
+blank_and xs = record {
   long = length-replicate {A = ℕ} (length xs) 0;
   bits = λ n h. rw (bits-zeros (length xs) n) (sym (and-false (bit_at xs n)));
 }
 
-pub blank-or : (xs : List ℕ) → Combined (combine Or) xs (replicate (length xs) 0) xs
-blank-or xs = record { long = refl; bits = λ n h. rw (bits-zeros (length xs) n) (sym (or-false (bit_at xs n))) }
+pub blank_or : (xs : List ℕ) → Combined (combine Or) xs (replicate (length xs) 0) xs
+blank_or xs = record { long = refl; bits = λ n h. rw (bits-zeros (length xs) n) (sym (or-false (bit_at xs n))) }
 
-pub blank-not : (xs : List ℕ) → Combined (combine Not) xs (replicate (length xs) 0) xs
-blank-not xs = record { long = refl; bits = λ n h. rw (bits-zeros (length xs) n) (sym (and-true (bit_at xs n))) }
+pub blank_not : (xs : List ℕ) → Combined (combine Not) xs (replicate (length xs) 0) xs
+blank_not xs = record { long = refl; bits = λ n h. rw (bits-zeros (length xs) n) (sym (and-true (bit_at xs n))) }
 
 -- ---- the lists of a slot, filled one after the other
 
-module _ (main arrivals row : List ℕ) (k : ℕ) {base : ℕ} where
+module _ (main arrivals : List ℕ) (row : Row) (k : ℕ) {base : ℕ} where
   -- list m of a half, under the names that it is read by
-  pub added-list : (n half m : ℕ) (row₁ : List ℕ) {index xs ys zs : List ℕ} → slots_in row₁ ≡ slots_in row → index ≡ half_of main arrivals half →
-      IsList (slots_in row) k n half m →
-      Added (in_lists main arrivals (slots_in row) k n) base xs ys → Added (entry_has index ((entries_at (slots_in row₁) (2 * k + half)).first + m)) base ys zs →
-      Added (in_lists main arrivals (slots_in row) k (n + 1)) base xs zs
+  pub added-list : (n half m : ℕ) (row₁ : Row) {index xs ys zs : List ℕ} → row₁.ranges ≡ row.ranges → index ≡ half_of main arrivals half →
+      IsList row.ranges k n half m →
+      Added (in_lists main arrivals row.ranges k n) base xs ys → Added (entry_has index ((entries_at row₁.ranges (2 * k + half)).first + m)) base ys zs →
+      Added (in_lists main arrivals row.ranges k (n + 1)) base xs zs
   added-list n half m row₁ {index} same e is a b =
-      added-agree (λ x. in_lists main arrivals (slots_in row) k n x || entry_has index ((entries_at (slots_in row₁) (2 * k + half)).first + m) x)
-      (in_lists main arrivals (slots_in row) k (n + 1)) _ _ _
-      (λ x. rw (e, same) (sym (lists-next main arrivals (slots_in row) k n half m is x))) (added-both a b)
+      added-agree (λ x. in_lists main arrivals row.ranges k n x || entry_has index ((entries_at row₁.ranges (2 * k + half)).first + m) x)
+      (in_lists main arrivals row.ranges k (n + 1)) _ _ _
+      (λ x. rw (e, same) (sym (lists-next main arrivals row.ranges k n half m is x))) (added-both a b)
 
-  pub added-lists : (n : ℕ) {xs ys : List ℕ} → n ≡ lists_of (slots_in row) k → Added (in_lists main arrivals (slots_in row) k n) base xs ys →
+  pub added-lists : (n : ℕ) {xs ys : List ℕ} → n ≡ lists_of row.ranges k → Added (in_lists main arrivals row.ranges k n) base xs ys →
       Added (having main arrivals row k) base xs ys
-  added-lists n e a = added-agree _ (having main arrivals row k) _ _ _ (all-lists main arrivals (slots_in row) k n e) a
+  added-lists n e a = added-agree _ (having main arrivals row k) _ _ _ (all-lists main arrivals row.ranges k n e) a
 
 -- ---- the senses of slots
 
 -- they stay where hints are moved
-pub sensed-moved : (main arrivals : List ℕ) {row row' : List ℕ} {x : ℕ} → Sensed (having main arrivals row) (senses_in row) x → HintsMoved row row' →
-    Sensed (having main arrivals row') (senses_in row') x
+pub sensed-moved : (main arrivals : List ℕ) {row row' : Row} {x : ℕ} → Sensed (having main arrivals row) row.senses x → HintsMoved row row' →
+    Sensed (having main arrivals row') row'.senses x
 sensed-moved main arrivals s m = rw (m.stay.slots, m.senses) s
 
 -- a slot that is out for a window adds nothing to it
-module _ (v : ℕ → ℕ → Bool) (k : ℕ) {senses : List ℕ} {base : ℕ} (s : Sensed v senses base) where
+module _ (v : ℕ → ℕ → Bool) (k : ℕ) {senses : List Sense} {base : ℕ} (s : Sensed v senses base) where
   pub added_out : {ws : List ℕ} → OutFor senses k base (length ws) → Added (v k) base ws ws
   added_out {ws} o = added-beyond (v k) base ws (λ n h. s.same k (base + n) (omega arith) (omega (arith, o.until)) ∙ o.out)
 
   -- so that a blank one holds the word, if one stands there
-  pub reads-out : (codes : List ℕ) (d i n : ℕ) → OutFor senses k base n → Here codes i word_code →
+  pub reads-out : (codes : List Code) (d i n : ℕ) → OutFor senses k base n → Here codes i kind.Word →
       (f : ℕ) → Reads (as_operand d k f) codes i (i + 1) (k + 1) (λ t. Holds (slot_satisfies v t k) base (replicate n 0))
   reads-out codes d i n o here f =
       let long = length-replicate {A = ℕ} n 0 in

@@ -1,43 +1,40 @@
-// Two windows combined by an operator's code, word by word.
+// Two windows combined by an operator, word by word.
 ghost use Rattle.std.specs.Prelude.{◌≡◌, length, replicate};
 ghost use Rattle.window.specs.Window.{CombinedWord, Combined};
 ghost use Rattle.question.specs.Meaning.{combine};
-ghost use Rattle.codes.specs.Code.{op_of};
 
-use codes::code::{AND_CODE, OR_CODE};
+use question::token::Op;
 use window::fill::clear;
 
 // A word with that of the right side; v ^ (v & w) is v & !w.
-fn combine_word(code: u8, v: u64, w: u64) -> u64
-    ensures { CombinedWord (combine (op_of code)) v w result }
+fn combine_word(op: Op, v: u64, w: u64) -> u64
+    ensures { CombinedWord (combine op) v w result }
 {
-    if code <= AND_CODE {
-        return v & w;
+    match op {
+        Op::And => v & w,
+        Op::Or => v | w,
+        Op::Not => v ^ (v & w),
     }
-    if code == OR_CODE {
-        return v | w;
-    }
-    v ^ (v & w)
 }
 
-// Combines a window with the window of its right side. The code stays as it is, so that the compiler makes of the one loop three on vectors.
-pub fn combine_into(code: u8, ws: &mut [u64], other: &[u64])
+// Combines a window with the window of its right side. The operator stays as it is, so that the compiler makes of the one loop three on vectors.
+pub fn combine_into(op: Op, ws: &mut [u64], other: &[u64])
     requires { length other.now ≡ length ws.old }
-    ensures { Combined (combine (op_of code)) ws.old other.now ws.new }
+    ensures { Combined (combine op) ws.old other.now ws.new }
 {
-    let mut i: usize = 0;
-    while i < other.len() {
-        ws[i] = combine_word(code, ws[i], other[i]);
-        i += 1;
+    for (i, w) in ws.iter_mut().enumerate() {
+        *w = combine_word(op, *w, other[i]);
     }
 }
 
 // Combines a window with a blank one: `and` leaves nothing of it, the others leave it as it is.
-pub fn combine_blank(code: u8, ws: &mut [u64])
-    ensures { Combined (combine (op_of code)) ws.old (replicate (length ws.old) 0) ws.new }
+#[tactic(auto, using(crate::proofs::EvalLaws::blank_and, crate::proofs::EvalLaws::blank_or, crate::proofs::EvalLaws::blank_not))]
+pub fn combine_blank(op: Op, ws: &mut [u64])
+    ensures { Combined (combine op) ws.old (replicate (length ws.old) 0) ws.new }
 {
-    if AND_CODE < code {
-        return;
+    match op {
+        Op::And => clear(ws),
+        Op::Or => {}
+        Op::Not => {}
     }
-    clear(ws);
 }

@@ -17,10 +17,6 @@ added-beyond p base ws e = record { long = refl; bits = λ n h. sym (rw (e n h) 
 pub added_none : (p : ℕ → Bool) (base : ℕ) (ws : List ℕ) → ((x : ℕ) → p x ≡ false) → Added p base ws ws
 added_none p base ws e = added-beyond p base ws (λ n h. e (base + n))
 
--- nothing can be added to no words
-pub added-empty : {p : ℕ → Bool} {base : ℕ} {ws : List ℕ} → length ws ≡ 0 → Added p base ws ws
-added-empty e = record { long = refl; bits = λ n h. absurd (omega arith) }
-
 pub added-agree : (p q : ℕ → Bool) (base : ℕ) (ws₀ ws : List ℕ) → ((x : ℕ) → p x ≡ q x) → Added p base ws₀ ws → Added q base ws₀ ws
 added-agree p q base ws₀ ws e a = record { long = a.long; bits = λ n h. a.bits n h ∙ ap (λ (t : Bool). bit_at ws₀ n || t) (e (base + n)) }
 

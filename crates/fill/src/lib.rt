@@ -1,7 +1,7 @@
 // A kept list filled into a window: the singles bit by bit, the pairs stretch by stretch, each side from what does not end before the window.
 #![tactic(auto)]
 
-ghost use Rattle.std.specs.Prelude.{◌≡◌, ◌+◌, ◌-◌, ◌≤◌, ◌<◌, length};
+ghost use Rattle.std.specs.Prelude.{◌≡◌, ◌+◌, ◌≤◌, length};
 ghost use Rattle.limits.specs.Limits.{record_max};
 ghost use Rattle.list.specs.Cell.{numbers_in};
 ghost use Rattle.list.specs.Among.{among};
@@ -12,7 +12,7 @@ ghost use Rattle.window.specs.Tuning.{window_most};
 ghost use Rattle.fill.specs.Added.{Added, pairs_in, Apart};
 
 use list::cell::number_at;
-use list::{PairAt, Place, SingleAt};
+use list::{Kept, PairAt, Place, SingleAt};
 
 // Sets the bits of the singles from place `from` on, before which all lie below base. The answer is the first single behind the window.
 fn fill_singles(singles: &[u8], from: SingleAt, base: u32, ws: &mut [u64]) -> SingleAt
@@ -24,23 +24,14 @@ fn fill_singles(singles: &[u8], from: SingleAt, base: u32, ws: &mut [u64]) -> Si
 {
     let end = base + 64 * ws.len() as u32;
     let count = singles.len() / 4;
-    let mut p = from;
-    while p.0 < count {
-        let s = number_at(singles, p.0);
+    for i in from.0..count {
+        let s = number_at(singles, i);
         if end <= s {
-            return p;
+            return SingleAt(i);
         }
         window::fill::set_bit(ws, s - base);
-        p = SingleAt(p.0 + 1);
     }
-    p
-}
-
-// How far l lies above base, and 0 where it does not.
-fn above(l: u32, base: u32) -> u32
-    ensures { result ≡ l - base }
-{
-    if l < base { 0 } else { l - base }
+    SingleAt(count)
 }
 
 // Sets the bits of the pairs from place `from` on, before which all end before base. The answer is the first pair that does not end in the window.
@@ -57,40 +48,31 @@ fn fill_pairs(lower: &[u8], upper: &[u8], from: PairAt, base: u32, ws: &mut [u64
     }
     let end = base + size;
     let count = lower.len() / 4;
-    let mut q = from;
-    while q.0 < count {
-        let l = number_at(lower, q.0);
+    for q in from.0..count {
+        let l = number_at(lower, q);
         if end <= l {
-            return q;
+            return PairAt(q);
         }
-        let u = number_at(upper, q.0);
-        let a = above(l, base);
+        let u = number_at(upper, q);
+        let a = l.saturating_sub(base);
         if end <= u {
             window::fill::fill_range(ws, a, size - 1);
-            return q;
+            return PairAt(q);
         }
         window::fill::fill_range(ws, a, u - base);
-        q = PairAt(q.0 + 1);
     }
-    q
+    PairAt(count)
 }
 
 // Sets the bits of a list's records, from the place of base on. The answer is where the next window reads on.
-pub fn fill_list(
-    singles: &[u8],
-    lower: &[u8],
-    upper: &[u8],
-    at: Place,
-    base: u32,
-    ws: &mut [u64],
-) -> Place
-    requires kept { KeptIn record_max singles.now lower.now upper.now }
-    requires begins { at ≡ reading_place base (numbers_in singles.now) (numbers_in upper.now) }
+pub fn fill_list(kept: Kept<'_>, at: Place, base: u32, ws: &mut [u64]) -> Place
+    requires kept { KeptIn record_max kept.singles.now kept.lower.now kept.upper.now }
+    requires begins { at ≡ reading_place base (numbers_in kept.singles.now) (numbers_in kept.upper.now) }
     requires size { length ws.old ≤ window_most }
     requires near { base ≤ record_max + 1 }
-    ensures { Added (names (list_in singles.now lower.now upper.now)) base ws.old ws.new }
+    ensures { Added (names (list_in kept.entry.singles.now kept.entry.lower.now kept.entry.upper.now)) base ws.old ws.new }
 {
-    let p = fill_singles(singles, at.p, base, ws);
-    let q = fill_pairs(lower, upper, at.q, base, ws);
+    let p = fill_singles(kept.singles, at.p, base, ws);
+    let q = fill_pairs(kept.lower, kept.upper, at.q, base, ws);
     Place { p, q }
 }

@@ -48,33 +48,6 @@ set-rising n i v xs h apart above below j g k = go (ℕ_discrete j i)
     go (yes e) = rw (e, get_or-set_same xs i v 0 h, get_or-set_other xs i ((i - 1) / 2) v 0 (λ (m : (i - 1) / 2 ≡ i). omega arith)) (above (omega arith))
     go (no ne) = under ne (ℕ_discrete ((j - 1) / 2) i)
 
--- ---- the lesser number below a cell
-
--- the cells below cell i
-two-below : {A : Type 0} {i j : ℕ} → 0 < j → (j - 1) / 2 ≡ i → (j ≡ 2 * i + 1 → A) → (j ≡ 2 * i + 1 + 1 → A) → A
-two-below {A = A} {i} {j} h e f g = go (ℕ_discrete j (2 * i + 1))
-  where
-    go : Dec (j ≡ 2 * i + 1) → A
-    go (yes k) = f k
-    go (no k) = g (omega arith)
-
-module _ {size i : ℕ} {xs : List ℕ} where
-  pub lesser-left : 2 * i + 1 < size → (2 * i + 1 + 1 < size → get_or xs (2 * i + 1) 0 ≤ get_or xs (2 * i + 1 + 1) 0) → Lesser size i xs (2 * i + 1)
-  lesser-left h g = record {
-    within = h;
-    after = omega arith;
-    under = omega arith;
-    least = λ j k m e. two-below k e (λ w. rw w (omega arith)) (λ w. rw w (g (omega arith)));
-  }
-
-  pub lesser-right : 2 * i + 1 + 1 < size → get_or xs (2 * i + 1 + 1) 0 ≤ get_or xs (2 * i + 1) 0 → Lesser size i xs (2 * i + 1 + 1)
-  lesser-right h g = record {
-    within = h;
-    after = omega arith;
-    under = omega arith;
-    least = λ j k m e. two-below k e (λ w. rw w g) (λ w. rw w (omega arith));
-  }
-
 -- ---- up: the free cell moves to the front
 
 pub record GoingUp (size x : ℕ) (old xs : List ℕ) (i : ℕ) : Type 0 where

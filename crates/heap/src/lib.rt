@@ -1,4 +1,5 @@
-// A heap of numbers in the first `size` cells of a lent slice: the least is cell 0, and below cell i stand the cells 2i + 1 and 2i + 2.
+// A heap of numbers in the first `size` cells of a lent slice: the least is cell 0, and below cell i stand the cells 2i + 1 and 2i + 2. It is no
+// BinaryHeap, since nothing here allocates; and `size` stands beside the slice, since `push` needs the cell behind the heap.
 #![tactic(auto)]
 
 ghost use Rattle.std.specs.Prelude.{◌+◌, ◌*◌, ◌≤◌, ◌<◌, length, take};
@@ -11,6 +12,7 @@ pub fn push(heap: &mut [u32], size: usize, x: u32)
     ensures { Pushed size x heap.old heap.new }
 {
     let mut i = size;
+    // no `for`: the place goes up the heap, and halves with each turn
     while 0 < i {
         let above = (i - 1) / 2;
         let moved = heap[above];
@@ -48,6 +50,7 @@ pub fn replace_least(heap: &mut [u32], size: usize, x: u32)
     ensures { Replaced size x heap.old heap.new }
 {
     let mut i = 0;
+    // no `for`: the place goes down the heap, to the lesser of two cells
     while 2 * i + 1 < size {
         let below = lesser_below(heap, size, i);
         let moved = heap[below];

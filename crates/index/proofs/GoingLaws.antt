@@ -8,7 +8,7 @@ use mathlib.Core.List.{List}
 use lib.Dec.{eqb}
 use lib.ListN.{take, drop}
 use borrow.Author.Tests.{eq-eqb, ne_eqb}
-use Rattle.refusal.specs.declared.Found.TheVariants.{At, Nowhere}
+use Rattle.std.specs.Prelude.{Some, None}
 use Rattle.refusal.specs.First.{first, first_from}
 use Rattle.refusal.proofs.FirstLaws.{first-start, first-hit, first-miss, first-end}
 use Rattle.word.specs.Word.{is_word, before}
@@ -70,7 +70,7 @@ module _ (index : List ℕ) (i : ℕ) where
   next-within e = rw (← words_end-next index i) (directory-facts index i e).3
 
 module _ {index : List ℕ} {prior words lists i : ℕ} (g : Going index prior words lists i) (h : i < word_count index) where
-  pub going-hit : bad_entry index i ≡ true → first (bad_entry index) (word_count index) ≡ At i
+  pub going-hit : bad_entry index i ≡ true → first (bad_entry index) (word_count index) ≡ Some i
   going-hit b = g.left ∙ first-hit (bad_entry index) i (word_count index) h b
 
   -- what the code asks of the two parts is the word rule
@@ -103,23 +103,23 @@ module _ {index : List ℕ} {prior words lists i : ℕ} (g : Going index prior w
       }
 
 module _ {index : List ℕ} {prior words lists i : ℕ} (g : Going index prior words lists i) (h : word_count index ≤ i) where
-  going-none : first (bad_entry index) (word_count index) ≡ Nowhere
+  going-none : first (bad_entry index) (word_count index) ≡ None
   going-none = g.left ∙ first-end (bad_entry index) i (word_count index) h
 
   ends : bad_entry_of index
-      ≡ cond (not (eqb lists (words_start index)) || not (eqb words (directory_start index))) (At i) Nowhere
+      ≡ cond (not (eqb lists (words_start index)) || not (eqb words (directory_start index))) (Some (word_count index)) None
   unfolding bad_end
   ends =
       let n : i ≡ word_count index = omega arith in
       rw (going-none, g.words-sum, g.lists-sum, n)
 
-  pub going-lists-short : (lists ≡ words_start index → ⊥) → bad_entry_of index ≡ At i
+  pub going-lists-short : (lists ≡ words_start index → ⊥) → bad_entry_of index ≡ Some (word_count index)
   going-lists-short d = ends ∙ rw (ne_eqb lists (words_start index) d)
 
   pub going-words-short : lists ≡ words_start index → (words ≡ directory_start index → ⊥) →
-      bad_entry_of index ≡ At i
+      bad_entry_of index ≡ Some (word_count index)
   going-words-short e d = ends ∙ rw (eq-eqb lists (words_start index) e, ne_eqb words (directory_start index) d)
 
   pub going-whole : lists ≡ words_start index → words ≡ directory_start index →
-      bad_entry_of index ≡ Nowhere
+      bad_entry_of index ≡ None
   going-whole e f = ends ∙ rw (eq-eqb lists (words_start index) e, eq-eqb words (directory_start index) f)

@@ -8,7 +8,9 @@ use lib.Dec.{eqb, leb, ltb}
 use lib.ListN.{length, take, drop}
 use borrow.Author.Tests.{le-leb, lt-leb, lt-ltb, le-ltb}
 use Rattle.laws.proofs.Tests.{or-neither, leb-cases}
-use Rattle.word.specs.Word.{before, is_word}
+use Rattle.std.specs.Ordering.{is_lt}
+use Rattle.word.specs.Word.{before, is_word, order_of}
+use Rattle.word.proofs.WordLaws.{before-less}
 use Rattle.list.specs.Cell.{numbers_in}
 use Rattle.list.specs.Kept.{is_kept}
 use Rattle.index.specs.declared.trailer.Trailer.{Trailer}
@@ -66,6 +68,10 @@ word-rule index i = go (is_word false (word_of index i)) (before (word_before in
     go : (a b : Bool) → not a || not b ≡ not (a && b)
     go true b = refl
     go false b = refl
+
+-- of a word, the comparison with the word before it decides
+pub word_told : (every : Bool) (prior word : List ℕ) → is_word every word ≡ true → is_word every word && before prior word ≡ is_lt (order_of prior word)
+word_told every prior word h = rw (h, before-less prior word)
 
 -- the three parts that are handed on are the regions of entry i's list
 pub list-rule : (index : List ℕ) (i : ℕ) (e : Entry) (limit : ℕ) → EntryCells index i e → limit ≡ highest index →

@@ -4,9 +4,9 @@ use Prim.Native.Nat.{ℕ, zero, suc, ◌+◌, ◌-◌, ◌*◌, ◌≤◌, ◌<�
 use native.Mathlib.Omega.{arith}
 use native.Mathlib.Numerals.{add-one}
 use mathlib.Core.Bool.{true, false, not, ◌||◌}
-use mathlib.Core.List.{List, []}
+use mathlib.Core.List.{List}
 use lib.Dec.{eqb, ltb}
-use lib.ListN.{length, take, drop, length-drop, length-take}
+use lib.ListN.{length, length-drop, length-take}
 use borrow.Author.Tests.{ltb-false, eqb-true, eqb-false, not-false}
 use Rattle.laws.proofs.Tests.{true-false, or-neither, leb-cases}
 use Rattle.limits.specs.Limits.{index_max, index_min, record_max, words_max}
@@ -14,7 +14,6 @@ use Rattle.word.specs.Word.{before, is_word}
 use Rattle.word.proofs.WordLaws.{before-irreflexive, before-transitive}
 use Rattle.list.specs.Kept.{is_kept}
 use Rattle.index.specs.Format.{words_start, directory_start, word_count, highest, edition, entry_place, word_start, word_length, list_start, single_count, pair_count, list_length, words_end, lists_end, part, word_of, singles_of, lower_of, upper_of, entry_singles, entry_lowers, entry_uppers}
-use Rattle.index.specs.Part.{Slice, part_of}
 use Rattle.index.specs.Sound.{bad_length, bad_edition, bad_trailer, bad_directory, bad_word, bad_entry, bad_end, bad_list, word_before, Sound}
 
 -- ---- the trailer
@@ -129,19 +128,6 @@ sound-entry index s i h =
 
 pub part_length : (start size : ℕ) (bytes : List ℕ) → start + size ≤ length bytes → length (part start size bytes) ≡ size
 part_length start size bytes h = simp (length-take, length-drop) (omega arith)
-
--- the code's form of a part: from start to its end
-pub part-is : (bytes : List ℕ) (a n start size : ℕ) → a ≡ start → n ≡ size → take (a + n - a) (drop a bytes) ≡ part start size bytes
-part-is bytes a n start size e f = let g : a + n - a ≡ n = omega arith in rw (g, e, f)
-
--- and where it stands
-pub slice-part : (s : Slice) (place a n start size : ℕ) → place ≡ s.place + a → a ≡ start → n ≡ size →
-    record { memory = s.memory; place = place; bytes = take (a + n - a) (drop a s.bytes) } ≡ part_of start size s
-slice-part s place a n start size p e f = rw (p, part-is s.bytes a n start size e f, e)
-
--- the empty part at the start
-pub slice-none : (s : Slice) → record { memory = s.memory; place = s.place; bytes = [] } ≡ part_of 0 0 s
-slice-none s = let z : s.place + 0 ≡ s.place = omega arith in rw z
 
 -- the word and the list stand below the directory, and so in the index
 pub sound-word-room : (index : List ℕ) → Sound index → (i : ℕ) → i < word_count index → word_start index i + word_length index i ≤ length index

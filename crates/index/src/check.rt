@@ -8,11 +8,14 @@ ghost use Rattle.index.specs.Sound.{bad_trailer, bad_entry};
 ghost use Rattle.index.specs.Told.{DirectoryTold, ListTold};
 ghost use Rattle.index.specs.Check.{bad_entry_of, bad_list_of, contents_of, check_of};
 
-use crate::Checked;
 use crate::entry::{Entry, entry_place, read_entry};
 use crate::trailer::{Trailer, read_trailer};
 use limits::{INDEX_MAX, INDEX_MIN, RECORD_MAX, WORDS_MAX};
-use refusal::{Found, Refusal};
+use list::Kept;
+use refusal::Refusal;
+
+// Reference 4.2: the edition of the format that is read.
+const EDITION: u32 = 1;
 
 // Whether N and n are within their limits, W is not past D, and the parts add up to the index's length.
 fn trailer_good(index: &[u8], trailer: Trailer) -> bool
@@ -54,49 +57,41 @@ fn directory_good(trailer: Trailer, entry: Entry, words: usize, lists: usize) ->
 }
 
 // Reference 5.3: whether a word keeps the word rule behind the word before it, where `every` spelling of the operators is barred or the small letters' alone.
+#[tactic(auto, using(crate::proofs::RuleLaws::word_told))]
 pub fn word_good(prior: &[u8], word: &[u8], every: bool) -> bool
     ensures { result ≡ (is_word every word.now && before prior.now word.now) }
 {
-    if !word::is_word(word, every) {
-        return false;
-    }
-    match word::compare(prior, word) {
-        word::Order::Before => true,
-        word::Order::Same => false,
-        word::Order::Behind => false,
-    }
+    word::is_word(word, every) && word::compare(prior, word).is_lt()
 }
 
 // Reference 9.1, row 4: the first bad entry, or n, in one pass that sums up the lengths.
-fn first_bad_entry(index: &[u8], trailer: Trailer) -> Found
+fn first_bad_entry(index: &[u8], trailer: Trailer) -> Option<usize>
     requires { Framed index.now trailer }
     ensures { result ≡ bad_entry_of index.now }
 {
     let mut prior = trailer.words;
     let mut words = trailer.words;
     let mut lists: usize = 0;
-    let mut i = 0;
-    while i < trailer.count {
+    for i in 0..trailer.count {
         let entry = read_entry(index, trailer, i);
         if !directory_good(trailer, entry, words, lists) {
-            return Found::At(i);
+            return Some(i);
         }
         let next = words + entry.word_length;
         if !word_good(&index[prior..words], &index[words..next], false) {
-            return Found::At(i);
+            return Some(i);
         }
         prior = words;
         words = next;
         lists += list_length(entry);
-        i += 1;
     }
     if lists != trailer.words {
-        return Found::At(i);
+        return Some(trailer.count);
     }
     if words != trailer.directory {
-        return Found::At(i);
+        return Some(trailer.count);
     }
-    Found::Nowhere
+    None
 }
 
 // Reference 3.4: whether an entry's list keeps the list rule; its regions are slices of the index.
@@ -110,62 +105,62 @@ fn list_good(index: &[u8], entry: Entry, limit: u32) -> bool
     let lower = start + 4 * entry.singles;
     let upper = lower + 4 * entry.pairs;
     let end = upper + 4 * entry.pairs;
-    list::kept::is_kept(
-        &index[start..lower],
-        &index[lower..upper],
-        &index[upper..end],
-        limit,
-    )
+    let kept = Kept {
+        singles: &index[start..lower],
+        lower: &index[lower..upper],
+        upper: &index[upper..end],
+    };
+    kept.is_kept(limit)
 }
 
 // The first bad list, where every entry is good.
-fn first_bad_list(index: &[u8], trailer: Trailer) -> Found
+fn first_bad_list(index: &[u8], trailer: Trailer) -> Option<usize>
     requires framed { Framed index.now trailer }
     requires entries { (i : ℕ) → i < word_count index.now → bad_entry index.now i ≡ false }
     ensures { result ≡ bad_list_of index.now }
 {
-    let mut k = 0;
-    while k < trailer.count {
+    for k in 0..trailer.count {
         let entry = read_entry(index, trailer, k);
         if !list_good(index, entry, trailer.highest) {
-            return Found::At(k);
+            return Some(k);
         }
-        k += 1;
     }
-    Found::Nowhere
+    None
 }
 
 // What is left to refuse once the trailer is good.
-fn check_entries(index: &[u8], trailer: Trailer) -> Checked
+#[tactic(auto, using(crate::proofs::CheckLaws::entries_good), unfolding(crate::specs::Check::contents_of))]
+fn check_entries(index: &[u8], trailer: Trailer) -> Result<(), Refusal>
     requires { Framed index.now trailer }
     ensures { result ≡ contents_of index.now }
 {
-    match first_bad_entry(index, trailer) {
-        Found::At(i) => Checked::Refused(Refusal::IndexEntry(i)),
-        Found::Nowhere => match first_bad_list(index, trailer) {
-            Found::At(i) => Checked::Refused(Refusal::IndexList(i)),
-            Found::Nowhere => Checked::Good,
-        },
+    if let Some(i) = first_bad_entry(index, trailer) {
+        return Err(Refusal::IndexEntry(i));
     }
+    if let Some(i) = first_bad_list(index, trailer) {
+        return Err(Refusal::IndexList(i));
+    }
+    Ok(())
 }
 
 // Reference 8.1: whether an index is sound, or the first refusal that holds.
-pub fn check_index(index: &[u8]) -> Checked
+#[tactic(auto, unfolding(crate::specs::Check::check_of, crate::specs::Sound::bad_length, crate::specs::Sound::bad_edition))]
+pub fn check_index(index: &[u8]) -> Result<(), Refusal>
     ensures { result ≡ check_of index.now }
 {
     let length = index.len();
     if length < INDEX_MIN {
-        return Checked::Refused(Refusal::IndexLength(length));
+        return Err(Refusal::IndexLength(length));
     }
     if length > INDEX_MAX {
-        return Checked::Refused(Refusal::IndexLength(length));
+        return Err(Refusal::IndexLength(length));
     }
     let trailer = read_trailer(index);
-    if trailer.edition != 1 {
-        return Checked::Refused(Refusal::IndexEdition(trailer.edition));
+    if trailer.edition != EDITION {
+        return Err(Refusal::IndexEdition(trailer.edition));
     }
     if !trailer_good(index, trailer) {
-        return Checked::Refused(Refusal::IndexTrailer);
+        return Err(Refusal::IndexTrailer);
     }
     check_entries(index, trailer)
 }

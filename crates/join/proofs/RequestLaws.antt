@@ -1,5 +1,5 @@
 -- The rules of a request, test by test, and what a request that keeps them is known to be.
-use mathlib.Core.Path.{◌≡◌, refl, ◌∙◌}
+use mathlib.Core.Path.{◌≡◌, refl, sym, ◌∙◌}
 use Prim.Native.Nat.{ℕ, ◌≤◌, ◌<◌}
 use native.Mathlib.Omega.{arith}
 use mathlib.Core.Bool.{true, false}
@@ -7,15 +7,12 @@ use mathlib.Core.List.{List}
 use lib.Dec.{eqb, ltb}
 use lib.ListN.{length, get_or}
 use borrow.Author.Tests.{eq-eqb, ne_eqb, eqb-false, le-leb, lt-leb, leb-false, lt-ltb, le-ltb, ltb-false}
+use Rattle.std.specs.Prelude.{Option, Some, None, Result, Ok, Err, MatchOption}
 use Rattle.laws.proofs.Tests.{or-neither, leb-cases}
-use Rattle.refusal.specs.declared.Found.{Found}
-use Rattle.refusal.specs.declared.Found.TheVariants.{At, Nowhere}
 use Rattle.refusal.specs.declared.Refusal.{Refusal}
 use Rattle.refusal.specs.declared.Refusal.TheVariants.{Lists, EntryNumber}
 use Rattle.refusal.specs.First.{first}
-use Rattle.refusal.proofs.FirstLaws.{first-none}
-use Rattle.index.specs.declared.Checked.{Checked}
-use Rattle.index.specs.declared.Checked.TheVariants.{Good, Refused}
+use Rattle.refusal.proofs.FirstLaws.{first-none, first-none-is, first-is}
 use Rattle.index.specs.Format.{word_count}
 use Rattle.index.specs.Check.{check_of}
 use Rattle.index.proofs.CheckLaws.{not_good, cond-good, good-sound}
@@ -34,11 +31,11 @@ module _ (index entries : List ℕ) (i : ℕ) where
   number-good h = lt-leb (word_count index) (get_or entries i 0) h
 
 module _ (index entries : List ℕ) where
-  pub entries_none : length entries ≡ 0 → entries_of index entries ≡ Refused (Lists (length entries))
+  pub entries_none : length entries ≡ 0 → entries_of index entries ≡ Err (Lists (length entries))
   unfolding entries_of bad_list_count
   entries_none e = rw (eq-eqb (length entries) 0 e)
 
-  pub entries-many : 16 < length entries → entries_of index entries ≡ Refused (Lists (length entries))
+  pub entries-many : 16 < length entries → entries_of index entries ≡ Err (Lists (length entries))
   unfolding entries_of bad_list_count
   entries-many h = rw (ne_eqb (length entries) 0 (λ (e : length entries ≡ 0). omega arith), lt-ltb 16 (length entries) h)
 
@@ -47,33 +44,44 @@ module _ (index entries : List ℕ) where
   unfolding entries_of bad_list_count
   entries-counted g h = rw (ne_eqb (length entries) 0 g, le-ltb 16 (length entries) h)
 
-  pub entries-bad : (i : ℕ) → (length entries ≡ 0 → ⊥) → length entries ≤ 16 → first (bad_entry_number index entries) (length entries) ≡ At i →
-      entries_of index entries ≡ Refused (EntryNumber i)
+  pub entries-bad : (i : ℕ) → (length entries ≡ 0 → ⊥) → length entries ≤ 16 → first (bad_entry_number index entries) (length entries) ≡ Some i →
+      entries_of index entries ≡ Err (EntryNumber i)
   entries-bad i g h e = entries-counted g h ∙ rw e
 
-  pub entries-good : (length entries ≡ 0 → ⊥) → length entries ≤ 16 → first (bad_entry_number index entries) (length entries) ≡ Nowhere →
-      entries_of index entries ≡ Good
+  pub entries-good : (length entries ≡ 0 → ⊥) → length entries ≤ 16 → first (bad_entry_number index entries) (length entries) ≡ None →
+      entries_of index entries ≡ Ok tt
   entries-good g h e = entries-counted g h ∙ rw e
 
-  pub request-refused : (r : Refusal) → check_of index ≡ Refused r → request_of index entries ≡ Refused r
+  pub request-refused : (r : Refusal) → check_of index ≡ Err r → request_of index entries ≡ Err r
   unfolding request_of
   request-refused r e = rw e
 
-  pub request-sound : check_of index ≡ Good → request_of index entries ≡ entries_of index entries
+  pub request-sound : check_of index ≡ Ok tt → request_of index entries ≡ entries_of index entries
   unfolding request_of
   request-sound e = rw e
 
+-- ---- where the first bad number is
+
+pub first-found : (index entries : List ℕ) (r : Option ℕ) →
+    MatchOption r ((j : ℕ) → j < length entries → get_or entries j 0 < word_count index)
+    (λ i. (i < length entries) × (word_count index ≤ get_or entries i 0) × ((j : ℕ) → j < i → get_or entries j 0 < word_count index)) →
+    r ≡ first (bad_entry_number index entries) (length entries)
+first-found index entries None h = sym (first-none-is (bad_entry_number index entries) (length entries) (λ j g. number-good index entries j (h j g)))
+first-found index entries (Some i) h =
+    sym (first-is (bad_entry_number index entries) i (length entries)
+    (record { below = h.0; holds = number-bad index entries i h.1; before = λ j g. number-good index entries j (h.2 j g) }))
+
 -- ---- what is known of a request that is not refused
 
-checked-good : (c next : Checked) → request_after c next ≡ Good → (c ≡ Good) × (next ≡ Good)
-checked-good (Refused r) next e = not_good r e
-checked-good Good next e = (refl, e)
+checked-good : (c next : Result Unit Refusal) → request_after c next ≡ Ok tt → (c ≡ Ok tt) × (next ≡ Ok tt)
+checked-good (Err r) next e = not_good r e
+checked-good (Ok _) next e = (refl, e)
 
-numbers-good : (f : Found) → entries_after f ≡ Good → f ≡ Nowhere
-numbers-good (At i) e = not_good (EntryNumber i) e
-numbers-good Nowhere e = refl
+numbers-good : (f : Option ℕ) → entries_after f ≡ Ok tt → f ≡ None
+numbers-good (Some i) e = not_good (EntryNumber i) e
+numbers-good None e = refl
 
-pub request-asked : (index entries : List ℕ) → request_of index entries ≡ Good → SoundRequest index entries
+pub request-asked : (index entries : List ℕ) → request_of index entries ≡ Ok tt → SoundRequest index entries
 unfolding request_of entries_of bad_list_count bad_entry_number
 request-asked index entries e =
     let a = checked-good (check_of index) (entries_of index entries) e in

@@ -3,12 +3,3 @@
 
 pub mod join;
 pub mod request;
-
-// How a join goes about it.
-#[derive(Clone, Copy)]
-pub enum Method {
-    ScanLine,
-    ActiveInterval,
-    TwinHeap,
-    Probing,
-}

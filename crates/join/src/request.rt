@@ -7,52 +7,42 @@ ghost use Rattle.join.specs.Join.{bad_entry_number, entries_of, request_of};
 ghost use Rattle.join.specs.Bound.{interval_sum};
 
 use directory::parts::interval_count;
-use index::Checked;
 use limits::JOIN_MAX;
-use refusal::{Found, Refusal};
+use refusal::Refusal;
 
 // The first place in the request whose entry number is not below n.
-fn first_bad_number(index: &[u8], entries: &[u32]) -> Found
+fn first_bad_number(index: &[u8], entries: &[u32]) -> Option<usize>
     requires { Sound index.now }
     ensures { result ≡ first (bad_entry_number index.now entries.now) (length entries.now) }
 {
     let count = index::trailer::word_count(index);
-    let mut i = 0;
-    while i < entries.len() {
-        if count <= entries[i] as usize {
-            return Found::At(i);
-        }
-        i += 1;
-    }
-    Found::Nowhere
+    entries.iter().position(|&entry| count <= entry as usize)
 }
 
 // Reference 9.2: refusal 13, then 14.
-fn check_entries(index: &[u8], entries: &[u32]) -> Checked
+fn check_entries(index: &[u8], entries: &[u32]) -> Result<(), Refusal>
     requires { Sound index.now }
     ensures { result ≡ entries_of index.now entries.now }
 {
     let count = entries.len();
     if count == 0 {
-        return Checked::Refused(Refusal::Lists(count));
+        return Err(Refusal::Lists(count));
     }
     if JOIN_MAX < count {
-        return Checked::Refused(Refusal::Lists(count));
+        return Err(Refusal::Lists(count));
     }
     match first_bad_number(index, entries) {
-        Found::At(i) => Checked::Refused(Refusal::EntryNumber(i)),
-        Found::Nowhere => Checked::Good,
+        Some(i) => Err(Refusal::EntryNumber(i)),
+        None => Ok(()),
     }
 }
 
 // Whether a request may be answered: the index's own refusals first.
-pub fn check_request(index: &[u8], entries: &[u32]) -> Checked
+pub fn check_request(index: &[u8], entries: &[u32]) -> Result<(), Refusal>
     ensures { result ≡ request_of index.now entries.now }
 {
-    match index::check::check_index(index) {
-        Checked::Refused(refusal) => Checked::Refused(refusal),
-        Checked::Good => check_entries(index, entries),
-    }
+    index::check::check_index(index)?;
+    check_entries(index, entries)
 }
 
 // How many intervals the lists of a request have together.
@@ -62,10 +52,8 @@ pub fn interval_sum(index: &[u8], entries: &[u32]) -> usize
     ensures few { result ≤ 67108864 }
 {
     let mut sum = 0;
-    let mut j = 0;
-    while j < entries.len() {
-        sum += interval_count(index, entries[j] as usize);
-        j += 1;
+    for &entry in entries {
+        sum += interval_count(index, entry as usize);
     }
     sum
 }

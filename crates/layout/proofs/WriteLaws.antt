@@ -2,12 +2,11 @@
 use mathlib.Core.Path.{◌≡◌, refl, sym, ap, ◌∙◌}
 use Prim.Native.Nat.{ℕ, suc, ◌+◌, ◌-◌, ◌*◌, ◌≤◌, ◌<◌}
 use native.Mathlib.Omega.{arith}
-use native.Mathlib.Numerals.{add-one, add-two, add-three}
 use mathlib.Core.Bool.{Bool, true, false, cond}
-use mathlib.Core.List.{List, [], ◌∷◌, ◌++◌}
+use mathlib.Core.List.{List, [], ◌∷◌, ◌++◌, append_assoc}
 use lib.Dec.{eqb, ltb}
-use lib.ListN.{length, get_or, set, drop, length-append}
-use lib.Seq.{sets, sets-eq, set_comm, length-sets}
+use lib.ListN.{length, get_or, set, take, drop, length-append}
+use lib.Seq.{sets, sets-eq, drop-drop, set_comm, length-sets}
 use borrow.Rule.Slice.PartMut.{put_mid, mid_of}
 use borrow.Author.Tests.{eqb-true, eq-eqb, ne_eqb}
 use Rattle.laws.proofs.Lists.{drop-next, drop-none, sets-append, sets-front}
@@ -22,11 +21,13 @@ use Rattle.layout.specs.Laid.{laid, laid_to, LaidWithin, entered, entered_to}
 use Rattle.layout.proofs.BytesLaws.{cells-length}
 use Rattle.layout.proofs.KeptBytesLaws.{kept-length}
 
--- ---- cells
+-- what was copied into a lent part, said of the whole
+pub part-sets : (a k : ℕ) (xs vs : List ℕ) {ys : List ℕ} → k ≡ length vs → a + length vs ≤ length xs → ys ≡ vs → put_mid a k xs ys ≡ sets xs a vs
+part-sets a k xs vs e h is =
+    rw (is, e, drop-drop (length vs) a xs)
+    (sym (append_assoc (take a xs) vs (drop (a + length vs) xs)) ∙ sym (sets-eq vs xs a h))
 
-pub four_bytes : (out : List ℕ) (at a b c d : ℕ) →
-    sets out at (a ∷ b ∷ c ∷ d ∷ []) ≡ set (set (set (set out at a) (at + 1) b) (at + 2) c) (at + 3) d
-four_bytes out at a b c d = rw (add-one at, add-two at, add-three at)
+-- ---- cells
 
 one_cell : (out : List ℕ) (at x : ℕ) (xs : List ℕ) → sets out at (cells_bytes (x ∷ xs)) ≡ sets (sets out at (cell_bytes x)) (at + 4) (cells_bytes xs)
 unfolding cells_bytes

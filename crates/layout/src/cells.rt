@@ -1,24 +1,14 @@
 // Cells as bytes. Reference 4.1.
-ghost use Rattle.std.specs.Prelude.{◌≡◌, [], ◌∷◌, ◌+◌, ◌%◌, ◌≤◌, length};
+ghost use Rattle.std.specs.Prelude.{◌≡◌, [], ◌∷◌, ◌+◌, ◌≤◌, length};
 ghost use Rattle.std.proofs.lemmas.List.Edits.{sets};
 ghost use Rattle.layout.specs.Layout.{cell_bytes, cells_bytes};
-
-// The lowest byte of x.
-fn low(x: u32) -> u8
-    ensures { result ≡ x % 256 }
-{
-    (x % 256) as u8
-}
 
 // Writes a cell from byte `at` on.
 pub fn put_cell(out: &mut [u8], at: usize, x: u32)
     requires { at + 4 ≤ length out.old }
     ensures { out.new ≡ sets out.old at (cell_bytes x) }
 {
-    out[at] = low(x);
-    out[at + 1] = low(x / 256);
-    out[at + 2] = low(x / 65536);
-    out[at + 3] = low(x / 16777216);
+    out[at..at + 4].copy_from_slice(&x.to_le_bytes());
 }
 
 // Writes five cells: an entry, or the trailer.

@@ -1,13 +1,11 @@
 // Writing one word: its list, its bytes and its entry in the directory.
 ghost use Rattle.std.specs.Prelude.{◌≡◌, ◌≤◌, length};
 ghost use Rattle.convert.specs.Convert.{bad_number_of, intervals_of};
-ghost use Rattle.list.specs.Front.{in_front};
 ghost use Rattle.layout.specs.Laid.{entered, entered_to, EnteredWithin};
 
 use crate::cells::put_five;
 use crate::kept::write_list;
 use crate::size::{count_kept, list_size};
-use refusal::Found;
 
 // Where the next list, the next word's bytes and the next entry belong.
 #[derive(Clone, Copy)]
@@ -17,21 +15,9 @@ pub struct Spots {
     pub entry: usize,
 }
 
-// Writes bytes from byte 0; those behind them stay.
-fn write_bytes(out: &mut [u8], bytes: &[u8])
-    requires { length bytes.now ≤ length out.old }
-    ensures { out.new ≡ in_front bytes.now out.old }
-{
-    let mut i = 0;
-    while i < bytes.len() {
-        out[i] = bytes[i];
-        i += 1;
-    }
-}
-
 // Writes a word's list into the tail of the output that begins with it, then the word's bytes and its entry; answers where those of the next word belong.
 pub fn write_word(out: &mut [u8], at: Spots, word: &[u8], numbers: &[u32]) -> Spots
-    requires good { bad_number_of numbers.now ≡ Found.Nowhere }
+    requires good { bad_number_of numbers.now ≡ None }
     requires within { EnteredWithin at word.now (intervals_of numbers.now) (length out.old) }
     ensures enters { out.new ≡ entered out.old at word.now (intervals_of numbers.now) }
     ensures moves { result ≡ entered_to at word.now (intervals_of numbers.now) }
@@ -40,7 +26,7 @@ pub fn write_word(out: &mut [u8], at: Spots, word: &[u8], numbers: &[u32]) -> Sp
     let list = at.list;
     let bytes = at.word;
     write_list(&mut out[list..], numbers, kept);
-    write_bytes(&mut out[bytes..], word);
+    out[bytes..bytes + word.len()].copy_from_slice(word);
     put_five(
         out,
         at.entry,

@@ -8,7 +8,6 @@ ghost use Rattle.layout.specs.Laid.{ListCountsOf, laid, laid_to, LaidWithin};
 use crate::cells::put_cell;
 use crate::size::ListCounts;
 use convert::runs::next_run;
-use refusal::Found;
 
 // Where the next single, the next lower and the next upper bound of a list belong.
 #[derive(Clone, Copy)]
@@ -28,23 +27,22 @@ fn put_interval(out: &mut [u8], at: Places, l: u32, u: u32) -> Places
         put_cell(out, at.single, l);
         Places {
             single: at.single + 4,
-            lower: at.lower,
-            upper: at.upper,
+            ..at
         }
     } else {
         put_cell(out, at.lower, l);
         put_cell(out, at.upper, u);
         Places {
-            single: at.single,
             lower: at.lower + 4,
             upper: at.upper + 4,
+            ..at
         }
     }
 }
 
 // Writes the list of ascending numbers from byte 0, as it is kept, in one pass; the bytes behind it stay.
 pub fn write_list(out: &mut [u8], numbers: &[u32], kept: ListCounts)
-    requires good { bad_number_of numbers.now ≡ Found.Nowhere }
+    requires good { bad_number_of numbers.now ≡ None }
     requires counted { ListCountsOf numbers.now kept }
     requires room { length (kept_bytes (intervals_of numbers.now)) ≤ length out.old }
     ensures { out.new ≡ in_front (kept_bytes (intervals_of numbers.now)) out.old }
@@ -55,6 +53,7 @@ pub fn write_list(out: &mut [u8], numbers: &[u32], kept: ListCounts)
         upper: 4 * (kept.singles + kept.pairs),
     };
     let mut i = 0;
+    // no `for`: the place moves by the run found, not by one
     while i < numbers.len() {
         let run = next_run(numbers, i);
         at = put_interval(out, at, run.lower, run.upper);

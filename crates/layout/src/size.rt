@@ -5,7 +5,6 @@ ghost use Rattle.convert.specs.Convert.{bad_number_of};
 ghost use Rattle.layout.specs.Laid.{ListCountsOf};
 
 use convert::runs::gap;
-use refusal::Found;
 
 // How many singles and how many pairs a list has.
 #[derive(Clone, Copy)]
@@ -27,32 +26,29 @@ fn goes_on(begins: usize, apart: usize) -> usize
 
 // How many singles and pairs ascending numbers make. No branch hangs on a number, since where runs end cannot be foretold.
 pub fn count_kept(numbers: &[u32]) -> ListCounts
-    requires { bad_number_of numbers.now ≡ Found.Nowhere }
+    requires { bad_number_of numbers.now ≡ None }
     ensures { ListCountsOf numbers.now result }
 {
-    if numbers.len() == 0 {
+    let [first, rest @ ..] = numbers else {
         return ListCounts {
             singles: 0,
             pairs: 0,
         };
-    }
-    let mut upper = numbers[0];
+    };
+    let mut upper = *first;
     let mut begins: usize = 1;
     let mut n: usize = 1;
     let mut pairs: usize = 0;
-    let mut i = 1;
-    while i < numbers.len() {
-        let x = numbers[i];
+    for &x in rest {
         let apart = gap(upper, x);
         n += apart;
         pairs += goes_on(begins, apart);
         begins = apart;
         upper = x;
-        i += 1;
     }
     ListCounts {
         singles: n - pairs,
-        pairs: pairs,
+        pairs,
     }
 }
 

@@ -1,10 +1,12 @@
 -- Laws of texts put one behind the other.
 use mathlib.Core.Path.{◌≡◌, refl, sym, ap, ◌∙◌}
-use mathlib.Core.List.{List, [], ◌∷◌, ◌++◌}
-use Prim.Native.Nat.{ℕ, ◌+◌, ◌≤◌}
+use mathlib.Core.List.{List, [], ◌∷◌, ◌++◌, append_assoc}
+use Prim.Native.Nat.{ℕ, ◌+◌, ◌-◌, ◌≤◌}
 use native.Mathlib.Omega.{arith}
-use lib.ListN.{length, set, length-append}
-use lib.Seq.{sets, length-sets}
+use lib.ListN.{length, set, take, drop, length-append}
+use lib.Seq.{sets, drop-drop}
+use Rattle.std.proofs.lemmas.List.Edits.{sets-eq}
+use borrow.Rule.Slice.PartMut.{put_mid}
 use Rattle.laws.proofs.Lists.{sets-append, sets-front}
 use Rattle.lines.specs.Line.{PutText, PutFirst}
 
@@ -16,8 +18,12 @@ puts_then {out} {mid} {out'} {at} {k} {r} {a} {b} p q =
 pub puts-byte : (out : List ℕ) (at x : ℕ) → PutText out at (x ∷ []) (set out at x) (at + 1)
 puts-byte out at x = record { end = refl; bytes = refl }
 
-pub puts-length : {out mid : List ℕ} {at k : ℕ} {a : List ℕ} → PutText out at a mid k → length mid ≡ length out
-puts-length {out} {mid} {at} {k} {a} p = ap length p.bytes ∙ length-sets out at a
+-- a text copied into the part of its length
+pub puts-part : (out : List ℕ) (at : ℕ) (text ys : List ℕ) → at + length text ≤ length out → ys ≡ text →
+    PutText out at text (put_mid at (at + length text - at) out ys) (at + length text)
+puts-part out at text ys h e =
+    let k : at + length text - at ≡ length text = omega arith in
+    record { end = refl; bytes = rw (k, e, drop-drop (length text) at out, ← append_assoc (take at out) text (drop (at + length text) out)) (sym (sets-eq text out at h)) }
 
 -- what is to be put from `at` on is what is left to put from `k` on
 pub record ToPut (out : List ℕ) (at : ℕ) (text now : List ℕ) (k : ℕ) (rest : List ℕ) : Type 0 where

@@ -6,13 +6,11 @@ use Prim.Native.Nat.{ℕ, zero, suc, ◌+◌, ◌*◌, ◌-◌, ◌/◌, ◌%◌
 use native.Mathlib.Nat.{pow-suc, pow-succ', one-le-pow, mod-lt, mod-eq_of_lt, div-lt_iff_lt-mul, le-div_iff_mul-le}
 use native.Mathlib.Omega.{arith}
 use lib.Dec.{ltb}
-use lib.ListN.{length, get_or, take, drop, length-append, length-take, length-drop}
+use lib.ListN.{length, get_or, take, length-append, length-take}
 use borrow.Author.Tests.{lt-ltb, le-ltb}
-use Rattle.laws.proofs.Lists.{drop-two}
 use Rattle.io.specs.Digits.{last_digits, IsDigitCount}
 use Rattle.list.specs.declared.answer.Tally.{Tally}
-use Rattle.list.specs.declared.answer.Answer.{Answer}
-use Rattle.list.specs.declared.answer.Answer.TheVariants.{Listed, Refused}
+use Rattle.std.proofs.Common.{Result, Ok, Err}
 use Rattle.refusal.specs.declared.Refusal.{Refusal}
 use Rattle.refusal.specs.Refusal.{number_of, value_of}
 use Rattle.lines.specs.Room.{answer_cells, line_room}
@@ -51,20 +49,20 @@ pub digits_are : (k n : ℕ) → n < 18446744073709551616 → IsDigitCount 10 1 
 unfolding numeral
 digits_are k n h w = digits-numeral 19 k n (omega arith) w
 
--- the intervals from cell i on: one and the rest, or none
-pub intervals-next : (cells : List ℕ) (i : ℕ) → i + 1 < length cells →
-    intervals_text (drop i cells) ≡ interval_text (get_or cells i 0) (get_or cells (i + 1) 0) ++ intervals_text (drop (i + 2) cells)
+-- the first interval, and those behind it
+pub intervals-next : {cells : List ℕ} (pair rest : List ℕ) → cells ≡ pair ++ rest → length pair ≡ 2 →
+    intervals_text cells ≡ interval_text (get_or pair 0 0) (get_or pair 1 0) ++ intervals_text rest
 unfolding intervals_text
-intervals-next cells i h = rw (drop-two cells i h)
+intervals-next (l ∷ u ∷ []) rest e h = rw e
+intervals-next [] rest e h = absurd (omega (arith, h))
+intervals-next (l ∷ []) rest e h = absurd (omega (arith, h))
+intervals-next (l ∷ u ∷ m ∷ r) rest e h = absurd (omega (arith, h))
 
-intervals-none : (cells : List ℕ) → length cells ≤ 1 → intervals_text cells ≡ []
+pub intervals-end : (cells : List ℕ) → length cells < 2 → intervals_text cells ≡ []
 unfolding intervals_text
-intervals-none [] h = refl
-intervals-none (l ∷ []) h = refl
-intervals-none (l ∷ u ∷ r) h = absurd (omega (arith, h))
-
-pub intervals-end : (cells : List ℕ) (i : ℕ) → length cells ≤ i + 1 → intervals_text (drop i cells) ≡ []
-intervals-end cells i h = intervals-none (drop i cells) (omega (arith, length-drop i cells))
+intervals-end [] h = refl
+intervals-end (l ∷ []) h = refl
+intervals-end (l ∷ u ∷ r) h = absurd (omega (arith, h))
 
 length-step : (k n : ℕ) (t : Bool) → length (numeral_in k (n / 10)) ≤ k → length (cond t ((48 + n) ∷ []) (numeral_in k (n / 10) ++ ((48 + n % 10) ∷ []))) ≤ suc k
 length-step k n true h = omega arith
@@ -86,17 +84,17 @@ intervals-short (l ∷ []) = omega arith
 intervals-short (l ∷ u ∷ r) = simp length-append (omega (arith, intervals-short r, numeral-short l, numeral-short u))
 
 -- the line by the answer's case
-pub listed-line : (number : ℕ) (answer : Answer) (cells : List ℕ) (tally : Tally) → answer ≡ Listed tally →
+pub listed-line : (number : ℕ) (answer : Result Tally Refusal) (cells : List ℕ) (tally : Tally) → answer ≡ Ok tally →
     line_of number answer cells ≡ head_text number 0 0 ++ tally_text tally cells ++ (10 ∷ [])
 listed-line number answer cells tally e = rw e
 
-pub refused-line : (number : ℕ) (answer : Answer) (cells : List ℕ) (refusal : Refusal) (a b : ℕ) →
-    answer ≡ Refused refusal → a ≡ number_of refusal → b ≡ value_of refusal → line_of number answer cells ≡ head_text number a b ++ (10 ∷ [])
+pub refused-line : (number : ℕ) (answer : Result Tally Refusal) (cells : List ℕ) (refusal : Refusal) (a b : ℕ) →
+    answer ≡ Err refusal → a ≡ number_of refusal → b ≡ value_of refusal → line_of number answer cells ≡ head_text number a b ++ (10 ∷ [])
 refused-line number answer cells refusal a b e f g = rw (e, f, g)
 
 -- the line of an answer in the cells that are lent
-pub line-short : (number : ℕ) (answer : Answer) (cells : List ℕ) → length cells ≤ answer_cells → length (line_of number answer cells) ≤ line_room
-line-short number (Listed tally) cells h =
+pub line-short : (number : ℕ) (answer : Result Tally Refusal) (cells : List ℕ) → length cells ≤ answer_cells → length (line_of number answer cells) ≤ line_room
+line-short number (Ok tally) cells h =
     simp length-append
     (omega (
       arith,
@@ -107,5 +105,5 @@ line-short number (Listed tally) cells h =
       intervals-short (take (2 * tally.intervals) cells),
       length-take (2 * tally.intervals) cells,
     ))
-line-short number (Refused refusal) cells h =
+line-short number (Err refusal) cells h =
     simp length-append (omega (arith, numeral-short number, numeral-short (number_of refusal), numeral-short (value_of refusal)))

@@ -1,9 +1,10 @@
 // The line of an answer. Reference 10.
-ghost use Rattle.std.specs.Prelude.{◌+◌, ◌≤◌, length};
+ghost use Rattle.std.specs.Prelude.{◌+◌, ◌≤◌, Ok, length};
 ghost use Rattle.lines.specs.Line.{head_text, tally_text, shown, line_of, PutText, PutFirst};
 
 use crate::put::{put_field, put_intervals, put_number};
-use list::answer::{Answer, Tally};
+use list::answer::Tally;
+use refusal::Refusal;
 
 // The cells that are lent for each answer.
 pub const ANSWER_CELLS: usize = 16_384;
@@ -23,7 +24,7 @@ fn put_head(out: &mut [u8], number: u64, refusal: u64, value: u64) -> usize
 
 // The fields of an answer.
 fn put_tally(out: &mut [u8], at: usize, tally: Tally, cells: &[u32]) -> usize
-    requires within { shown (Answer.Listed tally) ≤ length cells.now }
+    requires within { shown (Ok tally) ≤ length cells.now }
     requires room { at + length (tally_text tally cells.now) ≤ length out.old }
     ensures { PutText out.old at (tally_text tally cells.now) out.new result }
 {
@@ -33,19 +34,24 @@ fn put_tally(out: &mut [u8], at: usize, tally: Tally, cells: &[u32]) -> usize
 }
 
 // Writes the line of the answer to line `number`, whose intervals stand in the cells, and answers how long it is.
-pub fn write_line(number: usize, answer: Answer, cells: &[u32], out: &mut [u8]) -> usize
+pub fn write_line(
+    number: usize,
+    answer: Result<Tally, Refusal>,
+    cells: &[u32],
+    out: &mut [u8],
+) -> usize
     requires within { shown answer ≤ length cells.now }
     requires room { length (line_of number answer cells.now) ≤ length out.old }
     ensures { PutFirst out.old (line_of number answer cells.now) out.new result }
 {
     match answer {
-        Answer::Listed(tally) => {
+        Ok(tally) => {
             let behind_head = put_head(out, number as u64, 0, 0);
             let end = put_tally(out, behind_head, tally, cells);
             out[end] = b'\n';
             end + 1
         }
-        Answer::Refused(refusal) => {
+        Err(refusal) => {
             let end = put_head(
                 out,
                 number as u64,

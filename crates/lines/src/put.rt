@@ -6,15 +6,12 @@ fn put_bytes(out: &mut [u8], at: usize, text: &[u8]) -> usize
     requires { at + length text.now ≤ length out.old }
     ensures { PutText out.old at text.now out.new result }
 {
-    let mut i = 0;
-    while i < text.len() {
-        out[at + i] = text[i];
-        i += 1;
-    }
-    at + i
+    let end = at + text.len();
+    out[at..end].copy_from_slice(text);
+    end
 }
 
-// The number in the fewest decimal digits.
+// The number in the fewest decimal digits, by `io::decimal` and not by Display, which writes into a String: nothing here allocates.
 pub fn put_number(out: &mut [u8], at: usize, n: u64) -> usize
     requires { at + length (numeral n) ≤ length out.old }
     ensures { PutText out.old at (numeral n) out.new result }
@@ -48,10 +45,8 @@ pub fn put_intervals(out: &mut [u8], at: usize, cells: &[u32]) -> usize
     ensures { PutText out.old at (intervals_text cells.now) out.new result }
 {
     let mut k = at;
-    let mut i = 0;
-    while 1 < cells.len() - i {
-        k = put_interval(out, k, cells[i], cells[i + 1]);
-        i += 2;
+    for pair in cells.chunks_exact(2) {
+        k = put_interval(out, k, pair[0], pair[1]);
     }
     k
 }

@@ -11,14 +11,10 @@ fn whole_end(input: &[u8], most: usize) -> usize
     ensures place { result ≡ whole_end most input.now }
     ensures within { result ≤ most }
 {
-    let mut end = most;
-    while end > 0 {
-        if input[end - 1] == b'\n' {
-            return end;
-        }
-        end -= 1;
+    match input[..most].iter().rposition(|&b| b == b'\n') {
+        Some(last) => last + 1,
+        None => 0,
     }
-    0
 }
 
 // Whether the input goes past what is answered.

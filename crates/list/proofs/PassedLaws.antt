@@ -12,7 +12,7 @@ use borrow.Author.Tests.{lt-ltb, le-ltb, le-leb, lt-leb, eq-eqb, ne_eqb}
 use Rattle.laws.proofs.Tests.{and_both, by-test, leb-cases}
 use Rattle.laws.proofs.Lists.{drop-next, drop-none}
 use Rattle.limits.specs.Limits.{record_max}
-use Rattle.list.specs.declared.kept.Pass.{Pass}
+use Rattle.list.specs.declared.rule.Pass.{Pass}
 use Rattle.list.specs.Interval.{proper_from, is_proper}
 use Rattle.list.specs.Kept.{walk_from, walked, are_longer, is_kept}
 use Rattle.list.specs.Passed.{passed}

@@ -12,4 +12,3 @@ pub mod Seek
 pub mod Passed
 pub mod Reading
 pub mod Sense
-pub mod Hints

@@ -1,8 +1,6 @@
 -- What comes of a call that is lent cells or bytes to write.
-use Rattle.std.specs.Prelude.{ℕ, List}
+use Rattle.std.specs.Prelude.{ℕ, List, Result, Ok, Err}
 use Rattle.refusal.specs.declared.Refusal.{Refusal}
-use Rattle.list.specs.declared.Written.{Written}
-use Rattle.list.specs.declared.Written.TheVariants.{Wrote, Refused}
 use Rattle.list.specs.Front.{in_front}
 
 -- Reference 7: what the call writes, or the first refusal that holds
@@ -16,6 +14,6 @@ left_by (writes c) out = in_front c out
 left_by (refused r) out = out
 
 -- Reference 7: what a conversion and a build answer, n where they write
-abbrev pub written_of : ℕ → Outcome → Written
-written_of n (writes c) = Wrote n
-written_of n (refused r) = Refused r
+abbrev pub written_of : ℕ → Outcome → Result ℕ Refusal
+written_of n (writes c) = Ok n
+written_of n (refused r) = Err r

@@ -1,14 +1,8 @@
-// What a call that writes an interval list answers.
+// What is reported of a list that was written.
 
 // Reference 7: what a join and a question report.
-#[derive(Clone, Copy)]
+#[derive(Clone, Copy, Default)]
 pub struct Tally {
     pub intervals: usize,
     pub records: usize,
-}
-
-#[derive(Clone, Copy)]
-pub enum Answer {
-    Listed(Tally),
-    Refused(refusal::Refusal),
 }

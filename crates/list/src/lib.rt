@@ -5,11 +5,10 @@ use limits::RECORD_MAX;
 
 pub mod answer;
 pub mod cell;
-pub mod hints;
-pub mod kept;
 pub mod probe;
 pub mod put;
 pub mod reading;
+pub mod rule;
 pub mod seek;
 pub mod sense;
 
@@ -30,9 +29,18 @@ pub struct Place {
     pub q: PairAt,
 }
 
-// What a call that writes answers: how much it wrote, or why it did not.
+impl Place {
+    pub const START: Place = Place {
+        p: SingleAt(0),
+        q: PairAt(0),
+    };
+}
+
+// Reference 3.4: the regions S, L and U of a kept list. That they keep the list rule is a clause of the methods that need it and no invariant: `is_kept` is
+// asked of any three regions.
 #[derive(Clone, Copy)]
-pub enum Written {
-    Wrote(usize),
-    Refused(refusal::Refusal),
+pub struct Kept<'a> {
+    pub singles: &'a [u8],
+    pub lower: &'a [u8],
+    pub upper: &'a [u8],
 }

@@ -16,6 +16,7 @@ fn halve(region: &[u8], lo0: usize, hi0: usize, x: u32) -> usize
 {
     let mut lo = lo0;
     let mut hi = hi0;
+    // No `for`: what is left is halved, and not passed one by one.
     while lo < hi {
         let mid = lo + (hi - lo) / 2;
         if number_at(region, mid) < x {
@@ -38,6 +39,7 @@ pub fn count_below(region: &[u8], from: usize, x: u32) -> usize
     let mut lo = from;
     let mut hi = from;
     let mut step: usize = 1;
+    // No `for`: the place moves by steps that double.
     while hi < n {
         if x <= number_at(region, hi) {
             return halve(region, lo, hi, x);

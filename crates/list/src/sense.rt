@@ -1,5 +1,5 @@
 // Whether a number is in a kept list, and up to which number that stays so.
-ghost use Rattle.std.specs.Prelude.{◌≡◌, ◌≤◌, min};
+ghost use Rattle.std.specs.Prelude.{◌≡◌, ◌≤◌};
 ghost use Rattle.limits.specs.Limits.{record_max};
 ghost use Rattle.list.specs.Interval.{names};
 ghost use Rattle.list.specs.Cell.{numbers_in};
@@ -7,7 +7,7 @@ ghost use Rattle.list.specs.Reading.{KeptIn, list_in, reading_place};
 ghost use Rattle.list.specs.Sense.{Steady, number_or_end};
 
 use crate::cell::number_at;
-use crate::{END, Place};
+use crate::{END, Kept, Place};
 
 #[derive(Clone, Copy)]
 pub struct Sense {
@@ -26,38 +26,33 @@ fn number_or_end(region: &[u8], i: usize) -> u32
     }
 }
 
-// The smaller of two numbers, as of two places up to which something stays so.
-pub fn smaller(a: u32, b: u32) -> u32
-    ensures { result ≡ min a b }
-{
-    if a < b { a } else { b }
-}
-
-// What the list says of x, at the place of x, and how long it says so.
-pub fn sense_at(singles: &[u8], lower: &[u8], upper: &[u8], at: Place, x: u32) -> Sense
-    requires kept { KeptIn record_max singles.now lower.now upper.now }
-    requires place { at ≡ reading_place x (numbers_in singles.now) (numbers_in upper.now) }
-    requires within { x ≤ record_max }
-    ensures { Steady (names (list_in singles.now lower.now upper.now)) x result.inside result.until }
-{
-    let p = at.p;
-    let q = at.q;
-    let s = number_or_end(singles, p.0);
-    if s <= x {
-        return Sense {
-            inside: true,
-            until: x + 1,
-        };
-    }
-    let l = number_or_end(lower, q.0);
-    if l <= x {
-        return Sense {
-            inside: true,
-            until: number_at(upper, q.0) + 1,
-        };
-    }
-    Sense {
-        inside: false,
-        until: smaller(s, l),
+impl Kept<'_> {
+    // What the list says of x, at the place of x, and how long it says so.
+    pub fn sense_at(self, at: Place, x: u32) -> Sense
+        requires kept { KeptIn record_max self.singles.now self.lower.now self.upper.now }
+        requires place { at ≡ reading_place x (numbers_in self.singles.now) (numbers_in self.upper.now) }
+        requires within { x ≤ record_max }
+        ensures { Steady (names (list_in self.entry.singles.now self.entry.lower.now self.entry.upper.now)) x result.inside result.until }
+    {
+        let p = at.p;
+        let q = at.q;
+        let s = number_or_end(self.singles, p.0);
+        if s <= x {
+            return Sense {
+                inside: true,
+                until: x + 1,
+            };
+        }
+        let l = number_or_end(self.lower, q.0);
+        if l <= x {
+            return Sense {
+                inside: true,
+                until: number_at(self.upper, q.0) + 1,
+            };
+        }
+        Sense {
+            inside: false,
+            until: s.min(l),
+        }
     }
 }

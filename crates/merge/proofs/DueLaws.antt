@@ -11,6 +11,7 @@ use borrow.Author.Tests.{leb-true, leb-false, lt-leb}
 use Rattle.laws.proofs.Tests.{by-test}
 use Rattle.limits.specs.Limits.{record_max}
 use Rattle.list.specs.declared.Place.{Place}
+use Rattle.list.specs.declared.reading.Interval.{Interval}
 use Rattle.list.specs.Interval.{names}
 use Rattle.list.specs.Kept.{start, single_next}
 use Rattle.list.proofs.WalkLaws.{single-next-left, pair-next-left}
@@ -20,7 +21,7 @@ use Rattle.index.specs.Format.{highest, list_of, entry_singles, entry_lowers, en
 use Rattle.index.proofs.SoundLaws.{sound-trailer}
 use Rattle.directory.specs.Regions.{EntryIn}
 use Rattle.merge.specs.Request.{SoundRequest}
-use Rattle.merge.specs.Places.{PlaceIn, GoesIn, next_lower_in, next_upper_in, place_behind, used_up}
+use Rattle.merge.specs.Places.{PlaceIn, GoesIn, AllGo, next_at, next_lower_in, next_upper_in, place_behind, used_up}
 use Rattle.merge.specs.Keys.{sum_of, lower_mark, lower_due, due_at}
 use Rattle.merge.proofs.ListsLaws.{entry_kept, entry-some, asked_entry}
 use Rattle.merge.proofs.KeysLaws.{sum-change}
@@ -47,7 +48,7 @@ pub used-up-not : {index : List ℕ} {i : ℕ} {at : Place} → PlaceIn index i 
 used-up-not {index} {i} {at} p e =
     record { single = p.single; pair = p.pair; more = leb-false (length (entry_singles index i) + length (entry_lowers index i)) (at.p.0 + at.q.0) e }
 
-due-goes : (index : List ℕ) (i : ℕ) (at : Place) → GoesIn index i at → lower_due index i at ≡ lower_mark (next_lower_in index i at) ∷ []
+pub due-goes : (index : List ℕ) (i : ℕ) (at : Place) → GoesIn index i at → lower_due index i at ≡ lower_mark (next_lower_in index i at) ∷ []
 due-goes index i at g = rw (lt-leb (length (entry_singles index i) + length (entry_lowers index i)) (at.p.0 + at.q.0) g.more)
 
 due-mark : (index : List ℕ) (i : ℕ) (at : Place) {m : ℕ} {ms : List ℕ} → lower_due index i at ≡ m ∷ ms → used_up index i at ≡ false
@@ -58,6 +59,9 @@ pub goes-start : {index : List ℕ} {i : ℕ} → EntryIn index i → GoesIn ind
 goes-start e = record { single = omega arith; pair = omega arith; more = entry-some e }
 
 -- ---- the lists of a request, each at its own place
+
+pub interval-is : {l u : ℕ} {r : Interval} → r.lower ≡ l → r.upper ≡ u → record { lower = l; upper = u } ≡ r
+interval-is e f = rw (← e, ← f)
 
 -- list j is read up to a place: what is left there begins at `from` or later, and the numbers from `most` - 1 on that it names are all left
 pub record ReadAt (index entries : List ℕ) (j : ℕ) (at : Place) (most : ℕ) : Type 0 where
@@ -95,11 +99,13 @@ abbrev pub places_on : List ℕ → List ℕ → List Place → ℕ → List Pla
 places_on index entries places j = set places j (place_behind index (get_or entries j 0) (get_or places j start))
 
 module _ {index entries : List ℕ} (asked : SoundRequest index entries) where
-  pub due-start : (j : ℕ) → j < length entries → due_at index entries (replicate 16 start) j ≡ lower_mark (next_lower_in index (get_or entries j 0) start) ∷ []
-  due-start j h =
-      let few = asked.few in
-      ap (lower_due index (get_or entries j 0)) (get_or-replicate 16 j start start (omega arith))
-      ∙ due-goes index (get_or entries j 0) start (goes-start (asked_entry asked j h))
+  pub go-start : AllGo index entries (replicate 16 start)
+  go-start j h = let few = asked.few in rw (get_or-replicate 16 j start start (omega arith)) (goes-start (asked_entry asked j h))
+
+  -- the first interval of list j
+  pub first_high : (j : ℕ) → j < length entries →
+      ((next_at index entries (replicate 16 start) j).lower ≤ record_max) × ((next_at index entries (replicate 16 start) j).upper ≤ record_max)
+  first_high j h = bounds-high (asked_entry asked j h) (go-start j h)
 
   pub read-at-start : (j : ℕ) → j < length entries → ReadAt index entries j start 1
   read-at-start j h = record {

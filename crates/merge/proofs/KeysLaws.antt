@@ -1,24 +1,21 @@
 -- Laws of sums over the lists, and of the heap of their keys: the front is the least mark, and says whose it is.
-use mathlib.Core.Path.{◌≡◌, refl, sym, ap, ◌∙◌}
+use mathlib.Core.Path.{◌≡◌, refl, sym, ap, subst, ◌∙◌}
 use Prim.Native.Nat.{ℕ, zero, suc, ◌+◌, ◌-◌, ◌*◌, ◌/◌, ◌%◌, ◌≤◌, ◌<◌}
 use native.Mathlib.Omega.{arith}
 use native.Mathlib.Numerals.{add-one}
 use native.Mathlib.Decide.{ℕ_discrete}
-use mathlib.Core.List.{List, [], ◌∷◌}
+use mathlib.Core.List.{List, [], ◌∷◌, ◌++◌}
 use lib.Dec.{eqb, leb}
-use lib.ListN.{length, get_or, take}
+use lib.ListN.{length, get_or, take, length-append, get_or-append}
+use lib.Seq.{get_or-append_seam, take_all}
 use borrow.Author.Tests.{eqb-true, eq-eqb, leb-true, leb-false}
 use Rattle.laws.proofs.Tests.{by-test}
 use Rattle.list.specs.Ginix.{one}
 use Rattle.heap.specs.Heap.{count_of, Pushed, Replaced, Dropped}
-use Rattle.heap.proofs.HeapLaws.{count_none, heap-none, least-front, front-counted}
-use Rattle.merge.specs.Keys.{sum_of, is_key, Keys, Refilled}
+use Rattle.heap.proofs.HeapLaws.{count_none, count-append, count-more, heap-none, least-front, front-counted}
+use Rattle.merge.specs.Keys.{sum_of, is_key, Heaped, Keys, Refilled}
 
 -- ---- sums
-
-sum-none : (f : ℕ → ℕ) → sum_of f 0 ≡ 0
-unfolding sum_of
-sum-none f = refl
 
 sum_more : (f : ℕ → ℕ) (n : ℕ) → sum_of f (n + 1) ≡ f n + sum_of f n
 unfolding sum_of
@@ -124,22 +121,50 @@ module _ {n size : ℕ} {cells : List ℕ} {due : ℕ → List ℕ} (few : n ≤
 
 -- ---- filling
 
-pub fill_start : {cells : List ℕ} {due : ℕ → List ℕ} → Keys 0 0 cells due
-fill_start {cells} {due} = record { heap = heap-none cells; bag = λ y. count_none y cells ∙ sym (sum-none (λ j. one (is_key y j (due j)))) }
+module _ {P : ℕ → ℕ → Type 0} {n : ℕ} {cells : List ℕ} (f : Heaped P n cells) where
+  -- one list more
+  module _ {x : ℕ} (own : P n x) where
+    more-number : (j : ℕ) → j < n + 1 → P j (get_or (f.numbers ++ x ∷ []) j 0)
+    more-number j h = go (ℕ_discrete j n)
+      where
+        go : Dec (j ≡ n) → P j (get_or (f.numbers ++ x ∷ []) j 0)
+        go (yes e) =
+            let z : j ≡ length f.numbers = let l = f.long in omega arith in
+            let v : get_or (f.numbers ++ x ∷ []) j 0 ≡ x = ap (λ (k : ℕ). get_or (f.numbers ++ x ∷ []) k 0) z ∙ get_or-append_seam f.numbers x [] 0 in
+            let Q : ℕ → Type 0 = λ y. P j y in
+            let R : ℕ → Type 0 = λ i. P i x in
+            subst Q (sym v) (subst R (sym e) own)
+        go (no ne) =
+            let l = f.long in
+            let v = get_or-append f.numbers (x ∷ []) 0 j (omega arith) in
+            let Q : ℕ → Type 0 = λ y. P j y in
+            subst Q (sym v) (f.number j (omega arith))
 
-pub fill_step : {n x m : ℕ} {cells cells' ms : List ℕ} {due : ℕ → List ℕ} → Keys n n cells due → due n ≡ m ∷ ms → x ≡ m * 16 + n
-    → Pushed n x cells cells' → Keys (n + 1) (n + 1) cells' due
-fill_step {n} {x} {due = due} k e ex p = record {
-  heap = p.heap;
-  bag = λ y.
-      let own : one (is_key y n (due n)) ≡ one (eqb y x) = ap (λ (q : List ℕ). one (is_key y n q)) e ∙ ap (λ (z : ℕ). one (eqb y z)) (sym ex) in
-      omega (arith, p.bag y, k.bag y, sum_more (λ j. one (is_key y j (due j))) n);
-}
+    pub heaped-more : {cells' : List ℕ} → Pushed n x cells cells' → Heaped P (n + 1) cells'
+    unfolding count_of
+    heaped-more p = record {
+      heap = p.heap;
+      numbers = f.numbers ++ x ∷ [];
+      long = let l = f.long in omega (arith, length-append f.numbers (x ∷ []));
+      number = more-number;
+      bag = λ y. omega (arith, p.bag y, f.bag y, count-append y f.numbers (x ∷ []));
+    }
 
--- ---- one key for another
+  -- the numbers are keys of what is due
+  module _ {due : ℕ → List ℕ} (is : (j x : ℕ) → j < n → P j x → (m : ℕ) × (due j ≡ m ∷ []) × (x ≡ m * 16 + j)) where
+    counted-so : (y k : ℕ) → k ≤ n → count_of y (take k f.numbers) ≡ sum_of (λ j. one (is_key y j (due j))) k
+    unfolding sum_of
+    counted-so y zero h = count_none y f.numbers
+    counted-so y (suc k) h =
+        let l = f.long in
+        let s = add-one k in
+        let w = is k (get_or f.numbers k 0) (omega arith) (f.number k (omega arith)) in
+        let own : one (is_key y k (due k)) ≡ one (eqb y (get_or f.numbers k 0)) =
+        ap (λ (q : List ℕ). one (is_key y k q)) w.1 ∙ ap (λ (z : ℕ). one (eqb y z)) (sym w.2) in
+        rw (← s) (omega (arith, count-more y f.numbers k (omega arith), counted-so y k (omega arith), sum_more (λ j. one (is_key y j (due j))) k))
 
-pub refilled_by : {j m x size : ℕ} {ms old new : List ℕ} → x ≡ m * 16 + j → Replaced size x old new → Refilled j (m ∷ ms) size old size new
-refilled_by e r = record { room = r.room; fewer = omega arith; heap = r.heap; bag = λ y. rw (← e) (r.bag y) }
-
-pub refilled-none : {j size : ℕ} {old new : List ℕ} → Dropped size old new → Refilled j [] size old (size - 1) new
-refilled-none r = record { room = r.room; fewer = omega arith; heap = r.heap; bag = λ y. omega (arith, r.bag y) }
+    pub keys-filled : Keys n n cells due
+    keys-filled = record {
+      heap = f.heap;
+      bag = λ y. let c = counted-so y n (omega arith) in let e = take_all n f.numbers (omega (arith, f.long)) in f.bag y ∙ rw e at c;
+    }

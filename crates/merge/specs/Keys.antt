@@ -1,5 +1,5 @@
 -- Which list's next bound is the least: a heap holds a key for each list that is not used up.
-use Rattle.std.specs.Prelude.{◌≡◌, ℕ, zero, suc, ◌+◌, ◌*◌, ◌≤◌, Bool, false, cond, List, [], ◌∷◌, eqb, length, get_or, take, replicate}
+use Rattle.std.specs.Prelude.{◌≡◌, ℕ, zero, suc, ◌+◌, ◌*◌, ◌≤◌, ◌<◌, Bool, false, cond, List, [], ◌∷◌, eqb, length, get_or, take, replicate}
 use Rattle.limits.specs.Limits.{join_max}
 use Rattle.list.specs.declared.Place.{Place}
 use Rattle.list.specs.Ginix.{one}
@@ -24,6 +24,14 @@ upper_mark u = (u + 1) * 2 + 1
 abbrev pub is_key : ℕ → ℕ → List ℕ → Bool
 is_key y j [] = false
 is_key y j (m ∷ ms) = eqb y (m * join_max + j)
+
+-- the first n cells are a heap of n numbers, each of which is one for its list
+pub record Heaped (IsFor : ℕ → ℕ → Type 0) (n : ℕ) (cells : List ℕ) : Type 0 where
+  pub heap : IsHeap (take n cells)
+  pub numbers : List ℕ
+  pub long : length numbers ≡ n
+  pub number : (j : ℕ) → j < n → IsFor j (get_or numbers j 0)
+  pub bag : (y : ℕ) → count_of y (take n cells) ≡ count_of y numbers
 
 -- the first `size` cells are a heap of the keys of n lists; list j's next mark is the first of `due j`
 pub record Keys (n size : ℕ) (cells : List ℕ) (due : ℕ → List ℕ) : Type 0 where

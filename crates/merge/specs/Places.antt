@@ -1,6 +1,7 @@
 -- The lists of a join by their regions, and when one is used up at its reading place.
 use Rattle.std.specs.Prelude.{ℕ, ◌+◌, ◌≤◌, ◌<◌, Bool, List, leb, length, get_or, set}
 use Rattle.list.specs.declared.Place.{Place}
+use Rattle.list.specs.declared.reading.Interval.{Interval}
 use Rattle.list.specs.Kept.{start, next_place, lower_at, upper_at}
 use Rattle.list.specs.Reading.{Goes}
 use Rattle.index.specs.Format.{entry_singles, entry_lowers, entry_uppers}
@@ -22,6 +23,16 @@ next_upper_in index i at = upper_at (entry_singles index i) (entry_lowers index 
 
 abbrev pub place_behind : List ℕ → ℕ → Place → Place
 place_behind index i at = next_place (entry_singles index i) (entry_lowers index i) at
+
+-- in every list of a request an interval is next at its place, and this one in list j
+abbrev pub AllGo : List ℕ → List ℕ → List Place → Type 0
+AllGo index entries places = (j : ℕ) → j < length entries → GoesIn index (get_or entries j 0) (get_or places j start)
+
+abbrev pub next_at : List ℕ → List ℕ → List Place → ℕ → Interval
+next_at index entries places j = record {
+  lower = next_lower_in index (get_or entries j 0) (get_or places j start);
+  upper = next_upper_in index (get_or entries j 0) (get_or places j start);
+}
 
 -- the list of entry i is used up at a place
 abbrev pub used_up : List ℕ → ℕ → Place → Bool

@@ -1,17 +1,18 @@
 // The keys of the lists that are not used up: a bound, its side and its list in one number, so that the least key is the least bound.
 // List j has 16 · 2l + j for a lower bound l, and 16 · (2(u + 1) + 1) + j for an upper bound u.
-ghost use Rattle.std.specs.Prelude.{◌≡◌, [], ◌∷◌, ◌+◌, ◌*◌, ◌≤◌, ◌<◌, length, take};
-ghost use Rattle.limits.specs.Limits.{join_max};
+ghost use Rattle.std.specs.Prelude.{◌≡◌, ℕ, [], ◌∷◌, ◌+◌, ◌*◌, ◌≤◌, ◌<◌, length, take};
+ghost use Rattle.limits.specs.Limits.{join_max, record_max};
 ghost use Rattle.directory.specs.Regions.{EntryIn};
 ghost use Rattle.heap.specs.Heap.{IsHeap};
 ghost use Rattle.merge.specs.Request.{SoundRequest};
-ghost use Rattle.merge.specs.Keys.{lower_mark, upper_mark, Refilled, lower_due, FirstKeys};
-ghost use Rattle.merge.specs.Places.{PlaceIn, GoesIn, next_lower_in, next_upper_in};
+ghost use Rattle.merge.specs.Keys.{lower_mark, upper_mark, Heaped, Refilled, lower_due, FirstKeys};
+ghost use Rattle.merge.specs.Places.{PlaceIn, GoesIn, AllGo, next_lower_in, next_upper_in, next_at};
 
-use crate::places::{next_interval, used_up};
+use crate::places::{all_at_start, next_interval, used_up};
 use heap::{drop_least, push, replace_least};
 use limits::JOIN_MAX;
-use list::{PairAt, Place, SingleAt};
+use list::Place;
+use list::reading::Interval;
 
 // The last digit of a key is its list.
 pub const LISTS: u32 = JOIN_MAX as u32;
@@ -19,15 +20,34 @@ pub const LISTS: u32 = JOIN_MAX as u32;
 // What 1 of a bound is worth in a key.
 pub const BOUND: u32 = 2 * LISTS;
 
-// The key of the lower bound that is next in list j.
-fn lower_key(index: &[u8], entry: usize, at: Place, j: usize) -> u32
-    requires entry { EntryIn index.now entry }
-    requires goes { GoesIn index.now entry at }
+// The key of the lower bound of list j's next interval.
+fn lower_key(j: usize, next: Interval) -> u32
+    requires high { next.lower ≤ record_max }
     requires list { j < join_max }
-    ensures { result ≡ lower_mark (next_lower_in index.now entry at) * join_max + j }
+    ensures { result ≡ lower_mark next.lower * join_max + j }
 {
-    let next = next_interval(index, entry, at);
     next.lower * BOUND + j as u32
+}
+
+// Pushes a number of each list of a request, which is that of its place in the request and of the interval that is next in it.
+pub fn push_each<F: Fn(usize, Interval) -> u32>(
+    index: &[u8],
+    entries: &[u32],
+    places: &[Place; JOIN_MAX],
+    heap: &mut [u32],
+    number: F,
+)
+    requires sound { SoundRequest index.now entries.now }
+    requires goes { AllGo index.now entries.now places.now }
+    requires room { join_max ≤ length heap.old }
+    requires may { (j : ℕ) → j < length entries.now → F.pre number j (next_at index.now entries.now places.now j) }
+    ensures keeps { length heap.new ≡ length heap.old }
+    ensures pushes { Heaped (λ j x. F.post number j (next_at index.now entries.now places.now j) x) (length entries.now) heap.new }
+{
+    for (j, &entry) in entries.iter().enumerate() {
+        let next = next_interval(index, entry as usize, places[j]);
+        push(heap, j, number(j, next));
+    }
 }
 
 // The keys of all lists of a request, each at its start.
@@ -37,16 +57,7 @@ pub fn fill(index: &[u8], entries: &[u32], keys: &mut [u32])
     ensures keeps { length keys.new ≡ join_max }
     ensures fills { FirstKeys index.now entries.now keys.new }
 {
-    let mut j = 0;
-    while j < entries.len() {
-        let at = Place {
-            p: SingleAt(0),
-            q: PairAt(0),
-        };
-        let key = lower_key(index, entries[j] as usize, at, j);
-        push(keys, j, key);
-        j += 1;
-    }
+    push_each(index, entries, &all_at_start(), keys, lower_key);
 }
 
 // The next lower bound of list j comes in the place of the least key, which goes where the list is used up: how many keys there are then.
@@ -70,7 +81,7 @@ pub fn refill(
         drop_least(keys, size);
         return size - 1;
     }
-    let key = lower_key(index, entry, at, j);
+    let key = lower_key(j, next_interval(index, entry, at));
     replace_least(keys, size, key);
     size
 }

@@ -1,12 +1,11 @@
 -- The two calls for an entry's word agree, whatever the index and the number.
+use Rattle.std.specs.Prelude.{Result, Ok, Err}
 use Prim.Native.Nat.{ℕ, ◌<◌}
 use mathlib.Core.Path.{◌≡◌, refl}
 use native.Mathlib.Omega.{arith}
 use Rattle.refusal.specs.declared.Refusal.{Refusal}
 use Rattle.refusal.specs.declared.Refusal.TheVariants as refusal
 use Rattle.refusal.specs.Refusal.{number_of}
-use Rattle.index.specs.declared.Checked.{Checked}
-use Rattle.index.specs.declared.Checked.TheVariants.{Good, Refused}
 use Rattle.index.specs.Format.{word_start, word_length, word_of}
 use Rattle.index.specs.Part.{Slice}
 use Rattle.directory.specs.Entry.{entry_check, entry_word}
@@ -42,10 +41,10 @@ number-above-zero (refusal.NoWord i) = omega arith
 number-above-zero (refusal.RuleNumber i) = omega arith
 
 -- by what the index and the number are refused by, if anything
-agree_at : (index : Slice) (i : ℕ) (k : Checked) → entry_check index.bytes i ≡ k →
+agree_at : (index : Slice) (i : ℕ) (k : Result Unit Refusal) → entry_check index.bytes i ≡ k →
     Reported index i (entry_word index i) (word_result k (word_start index.bytes i) (word_length index.bytes i))
 unfolding word_of
-agree_at index i Good e =
+agree_at index i (Ok tt) e =
     let g = entry-good index.bytes i e in
     let room = sound-word-room index.bytes g.sound i g.below in
     record {
@@ -55,7 +54,7 @@ agree_at index i Good e =
       word = λ z. rw e;
       empty = λ z. absurd (z refl);
     }
-agree_at index i (Refused x) e =
+agree_at index i (Err x) e =
     let above = number-above-zero x in
     record {
       part = rw e;

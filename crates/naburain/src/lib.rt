@@ -8,11 +8,9 @@ ghost use Rattle.naburain.specs.Result.{check_result, lookup_result, part_result
 ghost use Rattle.list.specs.Ginix.{union_of, intersection_of};
 ghost use Rattle.naburain.specs.Exported.{IntervalsExported, NumbersExported, JoinExported, AskExported, BuildExported};
 
-use directory::{Lookup, Probed};
-use index::Checked;
-use list::Written;
-use list::answer::Answer;
-use refusal::{number_of, value_of};
+use list::answer::Tally;
+use list::probe::Probe;
+use refusal::{Refusal, number_of, value_of};
 
 #[repr(C)]
 #[derive(Clone, Copy)]
@@ -64,90 +62,100 @@ pub struct AnsweredResult {
     pub records: u64,
 }
 
-fn check_result(answer: Checked) -> CheckedResult
-    ensures { result ≡ check_result answer }
-{
-    match answer {
-        Checked::Good => CheckedResult {
-            refusal: 0,
-            value: 0,
-        },
-        Checked::Refused(refusal) => CheckedResult {
-            refusal: number_of(refusal),
-            value: value_of(refusal),
-        },
+impl From<Result<(), Refusal>> for CheckedResult {
+    ghost from_gives = { λ answer e. e ≡ check_result answer };
+
+    fn from(answer: Result<(), Refusal>) -> CheckedResult {
+        match answer {
+            Ok(()) => CheckedResult {
+                refusal: 0,
+                value: 0,
+            },
+            Err(refusal) => CheckedResult {
+                refusal: number_of(refusal),
+                value: value_of(refusal),
+            },
+        }
     }
 }
 
-fn lookup_result(answer: Lookup) -> FoundResult
-    ensures { result ≡ lookup_result answer }
-{
-    match answer {
-        Lookup::Entry(i) => FoundResult {
-            refusal: 0,
-            value: 0,
-            entry: i as u64,
-        },
-        Lookup::NoEntry(refusal) => FoundResult {
-            refusal: number_of(refusal),
-            value: value_of(refusal),
-            entry: 0,
-        },
+impl From<Result<usize, Refusal>> for FoundResult {
+    ghost from_gives = { λ answer e. e ≡ lookup_result answer };
+
+    fn from(answer: Result<usize, Refusal>) -> FoundResult {
+        match answer {
+            Ok(i) => FoundResult {
+                refusal: 0,
+                value: 0,
+                entry: i as u64,
+            },
+            Err(refusal) => FoundResult {
+                refusal: number_of(refusal),
+                value: value_of(refusal),
+                entry: 0,
+            },
+        }
     }
 }
 
-fn probe_result(answer: Probed) -> ProbedResult
-    ensures { result ≡ probe_result answer }
-{
-    match answer {
-        Probed::Counted(counts) => ProbedResult {
-            refusal: 0,
-            value: 0,
-            below: counts.below as u64,
-            overlapping: counts.overlapping as u64,
-        },
-        Probed::NoCount(refusal) => ProbedResult {
-            refusal: number_of(refusal),
-            value: value_of(refusal),
-            below: 0,
-            overlapping: 0,
-        },
+impl From<Result<Probe, Refusal>> for ProbedResult {
+    ghost from_gives = { λ answer e. e ≡ probe_result answer };
+
+    fn from(answer: Result<Probe, Refusal>) -> ProbedResult {
+        match answer {
+            Ok(counts) => ProbedResult {
+                refusal: 0,
+                value: 0,
+                below: counts.below as u64,
+                overlapping: counts.overlapping as u64,
+            },
+            Err(refusal) => ProbedResult {
+                refusal: number_of(refusal),
+                value: value_of(refusal),
+                below: 0,
+                overlapping: 0,
+            },
+        }
     }
 }
 
-fn write_result(answer: Written) -> WrittenResult
-    ensures { result ≡ write_result answer }
-{
-    match answer {
-        Written::Wrote(n) => WrittenResult {
-            refusal: 0,
-            value: 0,
-            written: n as u64,
-        },
-        Written::Refused(refusal) => WrittenResult {
-            refusal: number_of(refusal),
-            value: value_of(refusal),
-            written: 0,
-        },
+impl From<Result<usize, Refusal>> for WrittenResult {
+    ghost from_gives = { λ answer e. e ≡ write_result answer };
+
+    fn from(answer: Result<usize, Refusal>) -> WrittenResult {
+        match answer {
+            Ok(n) => WrittenResult {
+                refusal: 0,
+                value: 0,
+                written: n as u64,
+            },
+            Err(refusal) => WrittenResult {
+                refusal: number_of(refusal),
+                value: value_of(refusal),
+                written: 0,
+            },
+        }
     }
 }
 
-fn answer_result(answer: Answer) -> AnsweredResult
-    ensures { result ≡ answer_result answer }
-{
-    match answer {
-        Answer::Listed(tally) => AnsweredResult {
-            refusal: 0,
-            value: 0,
-            intervals: tally.intervals as u64,
-            records: tally.records as u64,
-        },
-        Answer::Refused(refusal) => AnsweredResult {
-            refusal: number_of(refusal),
-            value: value_of(refusal),
-            intervals: 0,
-            records: 0,
-        },
+impl From<Result<Tally, Refusal>> for AnsweredResult {
+    ghost from_gives = { λ answer e. e ≡ answer_result answer };
+
+    fn from(answer: Result<Tally, Refusal>) -> AnsweredResult {
+        match answer {
+            Ok(tally) => AnsweredResult {
+                refusal: 0,
+                value: 0,
+                intervals: tally.intervals as u64,
+                records: tally.records as u64,
+            },
+            Err(refusal) => AnsweredResult {
+                refusal: number_of(refusal),
+                value: value_of(refusal),
+                intervals: 0,
+                records: 0,
+            },
+        }
     }
 }
 
@@ -155,14 +163,14 @@ fn answer_result(answer: Answer) -> AnsweredResult
 pub fn naburain_check(index: &[u8]) -> CheckedResult
     ensures { result ≡ check_result (check_of index.now) }
 {
-    check_result(index::check::check_index(index))
+    CheckedResult::from(index::check::check_index(index))
 }
 
 // Reference 8.2: refusals 1 to 5, 21.
 pub fn naburain_lookup(index: &[u8], word: &[u8]) -> FoundResult
     ensures { result ≡ lookup_result (lookup_of index.now word.now) }
 {
-    lookup_result(directory::find::look_up(index, word))
+    FoundResult::from(directory::find::look_up(index, word))
 }
 
 // Reference 8.3: where the word of an entry stands in the index; refusals 1 to 5, 14.
@@ -170,7 +178,7 @@ pub fn naburain_word(index: &[u8], entry: u32) -> PartResult
     ensures { result ≡ part_result index.now entry }
 {
     match directory::entry::entry_refusal(index, entry) {
-        Checked::Good => {
+        Ok(()) => {
             let found = directory::parts::sound_entry(index, entry as usize);
             PartResult {
                 refusal: 0,
@@ -179,7 +187,7 @@ pub fn naburain_word(index: &[u8], entry: u32) -> PartResult
                 length: found.word_length as u64,
             }
         }
-        Checked::Refused(refusal) => PartResult {
+        Err(refusal) => PartResult {
             refusal: number_of(refusal),
             value: value_of(refusal),
             start: 0,
@@ -192,28 +200,28 @@ pub fn naburain_word(index: &[u8], entry: u32) -> PartResult
 pub fn naburain_probe(index: &[u8], entry: u32, a: u32, b: u32) -> ProbedResult
     ensures { result ≡ probe_result (probe_of index.now entry a b) }
 {
-    probe_result(directory::probe::probe_entry(index, entry, a, b))
+    ProbedResult::from(directory::probe::probe_entry(index, entry, a, b))
 }
 
 // Reference 8.7: refusals 15, 12.
 pub fn naburain_to_intervals(numbers: &[u32], cells: &mut [u32]) -> WrittenResult
     ensures { IntervalsExported numbers.now cells.old cells.new result }
 {
-    write_result(convert::to_intervals::to_intervals(numbers, cells))
+    WrittenResult::from(convert::to_intervals::to_intervals(numbers, cells))
 }
 
 // Reference 8.8: refusals 16, 12.
 pub fn naburain_to_numbers(cells: &[u32], numbers: &mut [u32]) -> WrittenResult
     ensures { NumbersExported cells.now numbers.old numbers.new result }
 {
-    write_result(convert::to_numbers::to_numbers(cells, numbers))
+    WrittenResult::from(convert::to_numbers::to_numbers(cells, numbers))
 }
 
 // Reference 8.5: refusals 1 to 5, 13, 14, 12.
 pub fn naburain_union_scan_line(index: &[u8], entries: &[u32], cells: &mut [u32]) -> AnsweredResult
     ensures { JoinExported union_of index.now entries.now cells.old cells.new result }
 {
-    answer_result(join::join::union_scan_line(index, entries, cells))
+    AnsweredResult::from(join::join::union_scan_line(index, entries, cells))
 }
 
 // Reference 8.5: refusals 1 to 5, 13, 14, 12.
@@ -224,7 +232,7 @@ pub fn naburain_union_active_interval(
 ) -> AnsweredResult
     ensures { JoinExported union_of index.now entries.now cells.old cells.new result }
 {
-    answer_result(join::join::union_active_interval(index, entries, cells))
+    AnsweredResult::from(join::join::union_active_interval(index, entries, cells))
 }
 
 // Reference 8.5: refusals 1 to 5, 13, 14, 12.
@@ -235,7 +243,7 @@ pub fn naburain_intersection_twin_heap(
 ) -> AnsweredResult
     ensures { JoinExported intersection_of index.now entries.now cells.old cells.new result }
 {
-    answer_result(join::join::intersection_twin_heap(index, entries, cells))
+    AnsweredResult::from(join::join::intersection_twin_heap(index, entries, cells))
 }
 
 // Reference 8.5: refusals 1 to 5, 13, 14, 12.
@@ -246,14 +254,14 @@ pub fn naburain_intersection_probing(
 ) -> AnsweredResult
     ensures { JoinExported intersection_of index.now entries.now cells.old cells.new result }
 {
-    answer_result(join::join::intersection_probing(index, entries, cells))
+    AnsweredResult::from(join::join::intersection_probing(index, entries, cells))
 }
 
 // Reference 8.6: refusals 1 to 5, 22, 6, 7, 8, 9 to 11, 12.
 pub fn naburain_ask(index: &[u8], rule: u32, question: &[u8], cells: &mut [u32]) -> AnsweredResult
     ensures { AskExported rule index.now question.now cells.old cells.new result }
 {
-    answer_result(query::ask::ask(index, rule, question, cells))
+    AnsweredResult::from(query::ask::ask(index, rule, question, cells))
 }
 
 // Reference 8.9: refusals 19 with 0, 17, 18, 15, 19 with 1, 12.
@@ -266,5 +274,5 @@ pub fn naburain_build(
 ) -> WrittenResult
     ensures { BuildExported n words.now counts.now numbers.now bytes.old bytes.new result }
 {
-    write_result(build::build::build_index(n, words, counts, numbers, bytes))
+    WrittenResult::from(build::build::build_index(n, words, counts, numbers, bytes))
 }

@@ -10,12 +10,10 @@ pub fn part_end(s: &[u8], from: usize, b: u8) -> usize
     ensures onward { from ≤ result }
     ensures within { result ≤ max from (length s.now) }
 {
-    let mut i = from;
-    while i < s.len() {
+    for i in from..s.len() {
         if s[i] == b {
             return i;
         }
-        i += 1;
     }
-    i
+    s.len().max(from)
 }

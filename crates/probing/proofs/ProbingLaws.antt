@@ -2,7 +2,8 @@
 use mathlib.Core.Path.{◌≡◌, refl, sym, ap, ◌∙◌}
 use Prim.Native.Nat.{ℕ, min, ◌+◌, ◌-◌, ◌*◌, ◌≤◌, ◌<◌}
 use native.Mathlib.Omega.{arith}
-use mathlib.Core.Logic.{◌⊎◌, ⊎_elim}
+use Rattle.std.proofs.Common.{Option, Some, None, is_some, unwrap_or}
+use Rattle.std.specs.Bool.{then_some}
 use mathlib.Core.Bool.{Bool, true, false, not, cond}
 use mathlib.Core.List.{List, [], ◌∷◌}
 use lib.ListN.{length, get_or, drop, set}
@@ -101,10 +102,6 @@ record Left (writing : Bool) (out₀ : List ℕ) (t₀ : Tally) (c₀ out : List
   records-left : t₀.records + records c₀ ≡ t.records + records c
   cells_left : cond writing (sets out₀ (2 * t₀.intervals) c₀) out₀ ≡ cond writing (sets out (2 * t.intervals) c) out
 
-pub cells-put-long : (writing : Bool) (out out' : List ℕ) (t : Tally) (c : List ℕ) (r : Tally) → PiecesPut writing out out' t c r → length out' ≡ length out
-cells-put-long true out out' t c r q = ap length q.cells ∙ length-sets out (2 * t.intervals) c
-cells-put-long false out out' t c r q = ap length q.cells
-
 module _ {writing : Bool} {out₀ : List ℕ} {t₀ : Tally} {c₀ out : List ℕ} {t : Tally} where
   -- the first interval of what is left fits, where all does
   left-fits : {l u : ℕ} {c : List ℕ} → l ≤ u → u ≤ record_max → Left writing out₀ t₀ c₀ out t (l ∷ u ∷ c) → PiecesFit writing out₀ t₀ c₀ →
@@ -156,42 +153,39 @@ module _ {writing : Bool} {out₀ : List ℕ} {t₀ : Tally} {c₀ out : List �
 
 -- ---- the pieces of one interval: what is still to be put from x on, where a piece may be open
 
-pub closes-not : (o v : Bool) → (o ≡ false) ⊎ (v ≡ true) → closes o v ≡ false
-closes-not false v h = refl
-closes-not true true h = refl
-closes-not true false h = ⊎_elim (λ e. true-false e) (λ e. true-false (sym e)) h
-
-pub closes-so : (o v : Bool) → o ≡ true → v ≡ false → closes o v ≡ true
-closes-so o v e f = rw (e, f)
-
-abbrev pending : (ℕ → Bool) → ℕ → Bool → ℕ → ℕ → List ℕ
-pending p b o l x = cons_if o l (stretches p o x (b + 1 - x))
+abbrev pending : (ℕ → Bool) → ℕ → Option ℕ → ℕ → List ℕ
+pending p b piece x = cons_if (is_some piece) (unwrap_or piece x) (stretches p (is_some piece) x (b + 1 - x))
 
 -- the piece that closes before x comes first
 abbrev closed : Bool → ℕ → ℕ → List ℕ → List ℕ
 closed test l x c = cond test (l ∷ (x - 1) ∷ c) c
 
-pending-turn : (o v : Bool) (l x : ℕ) (r : List ℕ) → cons_if o l (turned o v x r) ≡ closed (closes o v) l x (cons_if v (cond o l x) r)
-pending-turn false false l x r = refl
-pending-turn false true l x r = refl
-pending-turn true false l x r = refl
-pending-turn true true l x r = refl
+pending-turn : (piece : Option ℕ) (v : Bool) (x u : ℕ) (r : List ℕ) → cons_if (is_some piece) (unwrap_or piece x) (turned (is_some piece) v x r) ≡
+    closed (closes piece v) (unwrap_or piece x) x (cons_if v (unwrap_or (then_some v (unwrap_or piece x)) u) r)
+pending-turn None false x u r = refl
+pending-turn None true x u r = refl
+pending-turn (Some l) false x u r = refl
+pending-turn (Some l) true x u r = refl
 
-pending_next : (p : ℕ → Bool) (b : ℕ) (o v : Bool) (l x u : ℕ) → Steady p x v u → u ≤ b + 1 →
-    pending p b o l x ≡ closed (closes o v) l x (pending p b v (cond o l x) u)
-pending_next p b o v l x u s h =
-    rw (stretches-on p o v b x u s.later h s.same) (pending-turn o v l x (stretches p v u (b + 1 - u)))
+some-then : (v : Bool) (l : ℕ) → is_some (then_some v l) ≡ v
+some-then true l = refl
+some-then false l = refl
 
-pending-end : (p : ℕ → Bool) (b : ℕ) (o : Bool) (l x : ℕ) → b < x → pending p b o l x ≡ closed (closes o false) l x []
-pending-end p b o l x h = rw (stretches-end p o b x h) (pending-turn o false l x [])
+pending_next : (p : ℕ → Bool) (b : ℕ) (piece : Option ℕ) (v : Bool) (x u : ℕ) → Steady p x v u → u ≤ b + 1 →
+    pending p b piece x ≡ closed (closes piece v) (unwrap_or piece x) x (pending p b (then_some v (unwrap_or piece x)) u)
+pending_next p b piece v x u s h =
+    rw (stretches-on p (is_some piece) v b x u s.later h s.same, some-then v (unwrap_or piece x)) (pending-turn piece v x u (stretches p v u (b + 1 - u)))
+
+pending-end : (p : ℕ → Bool) (b : ℕ) (piece : Option ℕ) (x : ℕ) → b < x → pending p b piece x ≡ closed (closes piece false) (unwrap_or piece x) x []
+pending-end p b piece x h = rw (stretches-end p (is_some piece) b x h) (pending-turn piece false x x [])
 
 -- the pieces below x are put, and the rest is pending
-pub record Cut (p : ℕ → Bool) (a b : ℕ) (writing : Bool) (out₀ : List ℕ) (t₀ : Tally) (out : List ℕ) (t : Tally) (o : Bool) (l x : ℕ) : Type 0 where
+pub record Cut (p : ℕ → Bool) (a b : ℕ) (writing : Bool) (out₀ : List ℕ) (t₀ : Tally) (out : List ℕ) (t : Tally) (piece : Option ℕ) (x : ℕ) : Type 0 where
   pub near : (a ≤ x) × (x ≤ b + 1)
-  pub begun : o ≡ true → l < x
-  left : Left writing out₀ t₀ (cells_between p a b) out t (pending p b o l x)
+  pub begun : is_some piece ≡ true → unwrap_or piece x < x
+  left : Left writing out₀ t₀ (cells_between p a b) out t (pending p b piece x)
 
-pub cut-start : {p : ℕ → Bool} {a b : ℕ} {writing : Bool} {out : List ℕ} {t : Tally} {l : ℕ} → a ≤ b → Cut p a b writing out t out t false l a
+pub cut-start : {p : ℕ → Bool} {a b : ℕ} {writing : Bool} {out : List ℕ} {t : Tally} → a ≤ b → Cut p a b writing out t out t None a
 unfolding cells_between
 cut-start h = record {
   near = (omega arith, omega arith);
@@ -199,46 +193,48 @@ cut-start h = record {
   left = record { intervals-left = refl; records-left = refl; cells_left = refl };
 }
 
-module _ {p : ℕ → Bool} {a b : ℕ} {writing : Bool} {out₀ : List ℕ} {t₀ : Tally} {out : List ℕ} {t : Tally} {o : Bool} {l x : ℕ}
-    (c : Cut p a b writing out₀ t₀ out t o l x) where
-  part-fits : (v : Bool) (r : List ℕ) → b ≤ record_max → PiecesFit writing out₀ t₀ (cells_between p a b) → pending p b o l x ≡ closed (closes o v) l x r →
-      closes o v ≡ true →
-      Fitting writing out t (up_to l x)
+module _ {p : ℕ → Bool} {a b : ℕ} {writing : Bool} {out₀ : List ℕ} {t₀ : Tally} {out : List ℕ} {t : Tally} {piece : Option ℕ} {x : ℕ}
+    (c : Cut p a b writing out₀ t₀ out t piece x) where
+  part-fits : (v : Bool) (r : List ℕ) → b ≤ record_max → PiecesFit writing out₀ t₀ (cells_between p a b) → pending p b piece x ≡ closed (closes piece v) (unwrap_or piece x) x r →
+      closes piece v ≡ true →
+      Fitting writing out t (up_to (unwrap_or piece x) x)
   part-fits v r m f e k =
       let n = c.near in
-      let g = c.begun (and_both o (not v) k).0 in
+      let g = c.begun (and_both (is_some piece) (not v) k).0 in
       left-fits (omega arith) (omega arith) (rw (e, k) at c.left) f
 
-  pub cut_fits : {v : Bool} {u : ℕ} → b ≤ record_max → PiecesFit writing out₀ t₀ (cells_between p a b) → Steady p x v u → u ≤ b + 1 → closes o v ≡ true →
-      Fitting writing out t (up_to l x)
-  cut_fits {v} {u} m f s h = part-fits v (pending p b v (cond o l x) u) m f (pending_next p b o v l x u s h)
+  pub cut_fits : {v : Bool} {u : ℕ} → b ≤ record_max → PiecesFit writing out₀ t₀ (cells_between p a b) → Steady p x v u → u ≤ b + 1 → closes piece v ≡ true →
+      Fitting writing out t (up_to (unwrap_or piece x) x)
+  cut_fits {v} {u} m f s h = part-fits v (pending p b (then_some v (unwrap_or piece x)) u) m f (pending_next p b piece v x u s h)
 
-  pub cut-end-fits : b ≤ record_max → PiecesFit writing out₀ t₀ (cells_between p a b) → b < x → closes o false ≡ true → Fitting writing out t (up_to l x)
-  cut-end-fits m f h = part-fits false [] m f (pending-end p b o l x h)
+  pub cut-end-fits : b ≤ record_max → PiecesFit writing out₀ t₀ (cells_between p a b) → b < x → closes piece false ≡ true → Fitting writing out t (up_to (unwrap_or piece x) x)
+  cut-end-fits m f h = part-fits false [] m f (pending-end p b piece x h)
 
-  begun-next : (o v : Bool) (u : ℕ) → (o ≡ true → l < x) → x < u → v ≡ true → cond o l x < u
-  begun-next true v u f h e = let g = f refl in omega arith
-  begun-next false v u f h e = h
+  begun-next : (piece : Option ℕ) (v : Bool) (u : ℕ) → (is_some piece ≡ true → unwrap_or piece x < x) → x < u →
+      is_some (then_some v (unwrap_or piece x)) ≡ true → unwrap_or (then_some v (unwrap_or piece x)) u < u
+  begun-next (Some l) true u f h e = let g = f refl in omega arith
+  begun-next None true u f h e = h
+  begun-next piece false u f h e = true-false (sym e)
 
-  left-next : (v : Bool) (r out' : List ℕ) (t' : Tally) → pending p b o l x ≡ closed (closes o v) l x r →
-      PutWhere (closes o v) writing out out' t (up_to l x) t' →
+  left-next : (v : Bool) (r out' : List ℕ) (t' : Tally) → pending p b piece x ≡ closed (closes piece v) (unwrap_or piece x) x r →
+      PutWhere (closes piece v) writing out out' t (up_to (unwrap_or piece x) x) t' →
       Left writing out₀ t₀ (cells_between p a b) out' t' r
   left-next v r out' t' e q =
-      by-test (closes o v)
+      by-test (closes piece v)
       (λ k. left-put (rw (e, k) at c.left) (q.0 k))
       (λ k. rw ((q.1 k).0, (q.1 k).1) (rw (e, k) at c.left))
 
-  pub cut-next : {v : Bool} {u : ℕ} {out' : List ℕ} {t' : Tally} → Steady p x v u → u ≤ b + 1 → PutWhere (closes o v) writing out out' t (up_to l x) t' →
-      Cut p a b writing out₀ t₀ out' t' v (cond o l x) u
+  pub cut-next : {v : Bool} {u : ℕ} {out' : List ℕ} {t' : Tally} → Steady p x v u → u ≤ b + 1 → PutWhere (closes piece v) writing out out' t (up_to (unwrap_or piece x) x) t' →
+      Cut p a b writing out₀ t₀ out' t' (then_some v (unwrap_or piece x)) u
   cut-next {v} {u} {out'} {t'} s h q =
       let n = c.near in
       let m = s.later in
       record {
         near = (omega arith, h);
-        begun = begun-next o v u c.begun m;
-        left = left-next v (pending p b v (cond o l x) u) out' t' (pending_next p b o v l x u s h) q;
+        begun = begun-next piece v u c.begun m;
+        left = left-next v (pending p b (then_some v (unwrap_or piece x)) u) out' t' (pending_next p b piece v x u s h) q;
       }
 
-  pub cut-end : {out' : List ℕ} {t' : Tally} → b < x → PutWhere (closes o false) writing out out' t (up_to l x) t' →
+  pub cut-end : {out' : List ℕ} {t' : Tally} → b < x → PutWhere (closes piece false) writing out out' t (up_to (unwrap_or piece x) x) t' →
       PiecesPut writing out₀ out' t₀ (cells_between p a b) t'
-  cut-end {out'} {t'} h q = left_end (left-next false [] out' t' (pending-end p b o l x h) q)
+  cut-end {out'} {t'} h q = left_end (left-next false [] out' t' (pending-end p b piece x h) q)

@@ -1,5 +1,5 @@
 -- Reference 3.3: the method of probing, by which each interval of the shortest list is cut down to the numbers that stand in every list.
-use Rattle.std.specs.Prelude.{ℕ, ◌+◌, ◌-◌, ◌*◌, ◌≤◌, ◌<◌, ◌≡◌, Bool, true, false, not, cond, ◌&&◌, List, length, get_or}
+use Rattle.std.specs.Prelude.{ℕ, ◌+◌, ◌-◌, ◌*◌, ◌≤◌, ◌<◌, ◌≡◌, Bool, true, false, not, cond, ◌&&◌, Option, is_some, List, length, get_or}
 use Rattle.std.proofs.lemmas.List.Edits.{sets}
 use Rattle.limits.specs.Limits.{record_max}
 use Rattle.list.specs.declared.answer.Tally.{Tally}
@@ -42,6 +42,6 @@ pub record StandsIn (index entries : List ℕ) (j a b : ℕ) : Type 0 where
   pub high : b ≤ record_max
   pub covers : (y : ℕ) → a ≤ y → y ≤ b → names (list_of index (get_or entries j 0)) y ≡ true
 
--- a piece that is open where x comes ends before x, unless x is in
-abbrev pub closes : Bool → Bool → Bool
-closes opened inside = opened && not inside
+-- a piece of the intersection that is open where x comes is known by its lower bound, and ends before x, unless x is in
+abbrev pub closes : Option ℕ → Bool → Bool
+closes piece inside = is_some piece && not inside

@@ -1,7 +1,8 @@
 // Reference 3.3: the method of probing; each interval of the shortest list is cut down to what stands in every other list.
 #![tactic(auto)]
 
-ghost use Rattle.std.specs.Prelude.{◌≡◌, true, cond, ◌+◌, ◌*◌, ◌≤◌, ◌<◌, length, get_or};
+ghost use Rattle.std.specs.Prelude.{◌≡◌, true, ◌+◌, ◌*◌, ◌≤◌, ◌<◌, is_some, length, get_or};
+ghost use Rattle.std.specs.Option.{unwrap_or};
 ghost use Rattle.limits.specs.Limits.{record_max};
 ghost use Rattle.list.specs.Ginix.{intersection_of};
 ghost use Rattle.list.specs.Interval.{names};
@@ -13,14 +14,14 @@ ghost use Rattle.list.specs.Sweeps.{HasRoom, Sweeps};
 ghost use Rattle.merge.specs.Every.{in_all};
 ghost use Rattle.probing.specs.Probing.{Shortest, PiecesFit, PiecesPut, pieces_in, StandsIn, closes};
 
-use directory::parts::{Regions, interval_count, regions_of};
+use directory::parts::{interval_count, kept_of};
 use directory::sense::sense_in;
+use limits::JOIN_MAX;
+use list::Place;
 use list::answer::Tally;
-use list::hints::HINTS;
-use list::reading::{Interval, interval_at, next_place};
-use list::sense::{Sense, smaller};
-use list::{PairAt, Place, SingleAt};
-use merge::put::put;
+use list::reading::Interval;
+use list::sense::Sense;
+use merge::put::put_where;
 
 // The place in the request of a list with the fewest intervals.
 fn shortest(index: &[u8], entries: &[u32]) -> usize
@@ -29,14 +30,12 @@ fn shortest(index: &[u8], entries: &[u32]) -> usize
 {
     let mut best = 0;
     let mut fewest = interval_count(index, entries[0] as usize);
-    let mut j = 1;
-    while j < entries.len() {
+    for j in 1..entries.len() {
         let count = interval_count(index, entries[j] as usize);
         if count < fewest {
             best = j;
             fewest = count;
         }
-        j += 1;
     }
     best
 }
@@ -49,14 +48,12 @@ fn sense_of(
     k: usize,
     x: u32,
     b: u32,
-    hints: &mut [usize],
+    hint: &mut Place,
 ) -> Sense
     requires within { StandsIn index.now entries.now j x b }
     requires order { x ≤ b }
     requires list { k < length entries.now }
-    requires hints { 2 * length entries.now ≤ length hints.old }
-    ensures keeps { length hints.new ≡ length hints.old }
-    ensures steady { Steady (names (list_of index.now (get_or entries.now k 0))) x result.inside result.until }
+    ensures { Steady (names (list_of index.now (get_or entries.now k 0))) x result.inside result.until }
 {
     if k == j {
         return Sense {
@@ -64,31 +61,34 @@ fn sense_of(
             until: b + 1,
         };
     }
-    sense_in(index, entries[k] as usize, x, k, hints)
+    sense_in(index, entries[k] as usize, x, hint)
 }
 
 // Probes [x, b], which stands in list j, in every list: whether x is in all of them, and up to where that stays so, within the probe.
 // The first list that x is not in decides.
-fn probe(index: &[u8], entries: &[u32], j: usize, x: u32, b: u32, hints: &mut [usize]) -> Sense
+fn probe(
+    index: &[u8],
+    entries: &[u32],
+    j: usize,
+    x: u32,
+    b: u32,
+    hints: &mut [Place; JOIN_MAX],
+) -> Sense
     requires within { StandsIn index.now entries.now j x b }
     requires order { x ≤ b }
-    requires hints { 2 * length entries.now ≤ length hints.old }
-    ensures keeps { length hints.new ≡ length hints.old }
     ensures steady { Steady (in_all index.now entries.now) x result.inside result.until }
     ensures near { result.until ≤ b + 1 }
 {
     let mut until = b + 1;
-    let mut k = 0;
-    while k < entries.len() {
-        let sense = sense_of(index, entries, j, k, x, b, hints);
+    for k in 0..entries.len() {
+        let sense = sense_of(index, entries, j, k, x, b, &mut hints[k]);
         if !sense.inside {
             return Sense {
                 inside: false,
-                until: smaller(sense.until, b + 1),
+                until: sense.until.min(b + 1),
             };
         }
-        until = smaller(until, sense.until);
-        k += 1;
+        until = until.min(sense.until);
     }
     Sense {
         inside: true,
@@ -96,55 +96,27 @@ fn probe(index: &[u8], entries: &[u32], j: usize, x: u32, b: u32, hints: &mut [u
     }
 }
 
-// A piece of the intersection, and whether it is open: then the numbers from `lower` on are in.
-#[derive(Clone, Copy)]
-pub struct Piece {
-    pub open: bool,
-    pub lower: u32,
-}
-
-// The piece behind x, by whether x is in; it begins at x, where none is open.
-fn next_piece(piece: Piece, x: u32, inside: bool) -> Piece
-    ensures state { result.open ≡ inside }
-    ensures lower { result.lower ≡ cond piece.open piece.lower x }
-{
-    if piece.open {
-        Piece {
-            open: inside,
-            lower: piece.lower,
-        }
-    } else {
-        Piece {
-            open: inside,
-            lower: x,
-        }
-    }
-}
-
-// Puts a piece that is open and ends before x.
+// Puts a piece that is open, which has its lower bound, and ends before x.
 fn close_piece(
     out: &mut [u32],
     writing: bool,
     tally: Tally,
-    piece: Piece,
+    piece: Option<u32>,
     x: u32,
     inside: bool,
 ) -> Tally
-    requires begun { piece.open ≡ true → piece.lower < x }
-    requires fits { closes piece.open inside ≡ true → Fitting writing out.old tally (up_to piece.lower x) }
-    ensures { PutWhere (closes piece.open inside) writing out.old out.new tally (up_to piece.lower x) result }
+    requires begun { is_some piece ≡ true → unwrap_or piece x < x }
+    requires fits { closes piece inside ≡ true → Fitting writing out.old tally (up_to (unwrap_or piece x) x) }
+    ensures { PutWhere (closes piece inside) writing out.old out.new tally (up_to (unwrap_or piece x) x) result }
 {
-    if inside {
+    let Some(lower) = piece else {
         return tally;
-    }
-    if !piece.open {
-        return tally;
-    }
+    };
     let closed = Interval {
-        lower: piece.lower,
+        lower,
         upper: x - 1,
     };
-    put(out, writing, tally, closed)
+    put_where(!inside, out, writing, tally, closed)
 }
 
 // Counts, and writes, what of an interval of list j stands in every list.
@@ -153,29 +125,26 @@ fn put_within(
     entries: &[u32],
     j: usize,
     within: Interval,
-    hints: &mut [usize],
+    hints: &mut [Place; JOIN_MAX],
     writing: bool,
     out: &mut [u32],
     before: Tally,
 ) -> Tally
     requires within { StandsIn index.now entries.now j within.lower within.upper }
     requires order { within.lower ≤ within.upper }
-    requires hints { 2 * length entries.now ≤ length hints.old }
     requires fits { PiecesFit writing out.old before (pieces_in index.now entries.now within) }
-    ensures keeps { length hints.new ≡ length hints.old }
-    ensures puts { PiecesPut writing out.old out.new before (pieces_in index.now entries.now within) result }
+    ensures { PiecesPut writing out.old out.new before (pieces_in index.now entries.now within) result }
 {
     let b = within.upper;
     let mut x = within.lower;
     let mut tally = before;
-    let mut piece = Piece {
-        open: false,
-        lower: x,
-    };
+    // the lower bound of the piece that is open; it begins at x, where none is
+    let mut piece = None;
+    // no `for`: x moves on by what a probe says, and not by one
     while x <= b {
         let sense = probe(index, entries, j, x, b, hints);
         tally = close_piece(out, writing, tally, piece, x, sense.inside);
-        piece = next_piece(piece, x, sense.inside);
+        piece = sense.inside.then_some(piece.unwrap_or(x));
         x = sense.until;
     }
     close_piece(out, writing, tally, piece, x, false)
@@ -189,27 +158,15 @@ pub fn sweep_probing(index: &[u8], entries: &[u32], writing: bool, out: &mut [u3
     ensures { Sweeps (intersection_of (lists_of index.now entries.now)) writing out.old out.new result }
 {
     let j = shortest(index, entries);
-    let entry = entries[j] as usize;
-    let Regions { s, l, u, end } = regions_of(index, entry);
-    let singles = &index[s..l];
-    let lower = &index[l..u];
-    let upper = &index[u..end];
-    let count = singles.len() / 4 + lower.len() / 4;
-    let mut hints: [usize; HINTS] = [0; HINTS];
-    let mut at = Place {
-        p: SingleAt(0),
-        q: PairAt(0),
-    };
-    let mut tally = Tally {
-        intervals: 0,
-        records: 0,
-    };
-    let mut i = 0;
-    while i < count {
-        let within = interval_at(singles, lower, upper, at);
+    let kept = kept_of(index, entries[j] as usize);
+    let count = kept.singles.len() / 4 + kept.lower.len() / 4;
+    let mut hints = [Place::START; JOIN_MAX];
+    let mut at = Place::START;
+    let mut tally = Tally::default();
+    for _ in 0..count {
+        let within = kept.interval_at(at);
         tally = put_within(index, entries, j, within, &mut hints, writing, out, tally);
-        at = next_place(singles, lower, at);
-        i += 1;
+        at = kept.next_place(at);
     }
     tally
 }

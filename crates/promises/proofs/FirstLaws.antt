@@ -7,7 +7,7 @@ use mathlib.Core.List.{List, [], ◌∷◌, ◌++◌, append-nil, append_assoc}
 use lib.ListN.{get_or, take}
 use Rattle.laws.proofs.Tests.{and_both}
 use Rattle.word.specs.Word.{is_word_byte, all_word_bytes, operator_of}
-use Rattle.word.specs.declared.Operator.TheVariants.{Neither}
+use Rattle.std.specs.Prelude.{None}
 use Rattle.question.specs.Token.{run_tok, flush, run, gather, tokens_at, tokens}
 use Rattle.question.specs.Limits.{token_words}
 use Rattle.question.proofs.OperatorLaws.{tokens-hold}
@@ -34,7 +34,7 @@ run-gathered n start acc (b ∷ bs) e =
     let both = and_both (is_word_byte b) (all_word_bytes bs) e in
     rw both.0 (run-gathered (n + 1) start (acc ++ b ∷ []) bs both.1 ∙ ap (λ l. flush start l []) (append_assoc acc (b ∷ []) bs))
 
-word-alone : (w : List ℕ) → all_word_bytes w ≡ true → operator_of w ≡ Neither → Alone w
+word-alone : (w : List ℕ) → all_word_bytes w ≡ true → operator_of w ≡ None → Alone w
 unfolding tokens tokens_at token_words
 word-alone [] e o = ap (λ ts. first_of (token_words ts)) (run-gathered 0 0 [] [] e)
 word-alone (a ∷ az) e o = ap (λ ts. first_of (token_words ts)) (run-gathered 0 0 [] (a ∷ az) e) ∙ ap (λ p. first_of (token_words (run_tok p (a ∷ az) 0 ∷ []))) o

@@ -1,23 +1,17 @@
 -- No kind is empty, and none is narrower than its words: whatever implementation is made wrong in a way is then of that kind.
+use Rattle.std.specs.Prelude.{Result, Ok, Err, Option, None, Some}
+use Rattle.list.specs.declared.answer.Tally.{Tally}
+use Rattle.list.specs.declared.probe.Probe.{Probe}
 use Prim.Native.Nat.{ℕ}
 use mathlib.Core.Path.{◌≡◌, refl, sym, ap, ◌∙◌}
 use mathlib.Core.Bool.{Bool, true, false}
 use mathlib.Core.List.{List}
-use mathlib.Core.Option.{Option, none, some}
 use lib.Dec.{eqb}
 use Rattle.laws.proofs.Tests.{true-false}
 use borrow.Author.Tests.{eq-eqb}
 use Rattle.refusal.specs.declared.Refusal.{Refusal}
 use Rattle.refusal.specs.declared.Refusal.TheVariants.{Room, NoWord}
 use Rattle.refusal.specs.Refusal.{number_of}
-use Rattle.list.specs.declared.Written.{Written}
-use Rattle.list.specs.declared.Written.TheVariants as written
-use Rattle.list.specs.declared.answer.Answer.{Answer}
-use Rattle.list.specs.declared.answer.Answer.TheVariants as answer
-use Rattle.directory.specs.declared.Lookup.{Lookup}
-use Rattle.directory.specs.declared.Lookup.TheVariants.{Entry, NoEntry}
-use Rattle.directory.specs.declared.Probed.{Probed}
-use Rattle.directory.specs.declared.Probed.TheVariants.{Counted, NoCount}
 use Rattle.promises.specs.Numbers.{carries, RowRight}
 use Rattle.promises.specs.Wrong.{Writer, Promise, Meets, Equals, Fails, FailsToBe, Accepts, Refusing, RefusingAll, Fixed, Silent, FirstOnly}
 use Rattle.promises.specs.Wrong.{Inventing, InventingAll, Misreporting, intervals_in, records_in, value_by, needed_in, written_in, needed_by}
@@ -63,7 +57,7 @@ module _ {A R : Type 0} (refused : R → Bool) (f : Writer A R) where
       leaving-accepted left a out p ∙ sym (ap (λ b. (f b out).1) (twice a)) ∙ sym (leaving-accepted left (first a) out q)
 
 pub inventing-kind : {A R : Type 0} (f : Writer A R) (number : R → Option ℕ) (change : ℕ → R → R) →
-    ((n : ℕ) (r : R) (m : ℕ) → number (change n r) ≡ some m → m ≡ n) →
+    ((n : ℕ) (r : R) (m : ℕ) → number (change n r) ≡ Some m → m ≡ n) →
     (n : List ℕ → ℕ) → Inventing number (returning (λ a out. change (n out)) f)
 inventing-kind f number change same n a b out i j p q = same (n out) (f a out).0 i p ∙ sym (same (n out) (f b out).0 j q)
 
@@ -78,68 +72,68 @@ pub refusing-all-kind : {A R : Type 0} (refused : R → Bool) (refusal : A → R
 refusing-all-kind refused refusal e = e
 
 pub inventing-all-kind : {A R : Type 0} (f : A → R) (number : R → Option ℕ) (change : ℕ → R → R) →
-    ((n : ℕ) (r : R) (m : ℕ) → number (change n r) ≡ some m → m ≡ n) →
+    ((n : ℕ) (r : R) (m : ℕ) → number (change n r) ≡ Some m → m ≡ n) →
     (n : ℕ) → InventingAll number (λ a. change n (f a))
 inventing-all-kind f number change same n a b i j p q = same n (f a) i p ∙ sym (same n (f b) j q)
 
 -- ---- one number, wherever it is reported
 
 abbrev told : Option ℕ → ℕ
-told none = 0
-told (some n) = n
+told None = 0
+told (Some n) = n
 
 abbrev is_told : Option ℕ → Bool
-is_told none = false
-is_told (some n) = true
+is_told None = false
+is_told (Some n) = true
 
-pub some_is : (m n : ℕ) → some m ≡ some n → m ≡ n
+pub some_is : (m n : ℕ) → Some m ≡ Some n → m ≡ n
 some_is m n e = ap told e
 
-untold : {A : Type 0} (m : ℕ) → none ≡ some m → A
+untold : {A : Type 0} (m : ℕ) → None ≡ Some m → A
 untold m e = true-false (sym (ap is_told e))
 
-one-intervals : (n : ℕ) (r : Answer) (m : ℕ) → intervals_in (with_intervals n r) ≡ some m → m ≡ n
-one-intervals n (answer.Listed t) m e = sym (some_is n m e)
-one-intervals n (answer.Refused r) m e = untold m e
+one-intervals : (n : ℕ) (r : Result Tally Refusal) (m : ℕ) → intervals_in (with_intervals n r) ≡ Some m → m ≡ n
+one-intervals n (Ok t) m e = sym (some_is n m e)
+one-intervals n (Err r) m e = untold m e
 
-one-records : (n : ℕ) (r : Answer) (m : ℕ) → records_in (with_records n r) ≡ some m → m ≡ n
-one-records n (answer.Listed t) m e = sym (some_is n m e)
-one-records n (answer.Refused r) m e = untold m e
+one-records : (n : ℕ) (r : Result Tally Refusal) (m : ℕ) → records_in (with_records n r) ≡ Some m → m ≡ n
+one-records n (Ok t) m e = sym (some_is n m e)
+one-records n (Err r) m e = untold m e
 
-one_value : (k : ℕ) (row : ℕ → Refusal) → RowRight (carries k row) → (n : ℕ) (r : Refusal) (m : ℕ) → value_by k (with_value k row n r) ≡ some m → m ≡ n
+one_value : (k : ℕ) (row : ℕ → Refusal) → RowRight (carries k row) → (n : ℕ) (r : Refusal) (m : ℕ) → value_by k (with_value k row n r) ≡ Some m → m ≡ n
 one_value k row right n r m = go (eqb (number_of r) k) refl
   where
-    go : (t : Bool) → eqb (number_of r) k ≡ t → value_by k (with_value k row n r) ≡ some m → m ≡ n
+    go : (t : Bool) → eqb (number_of r) k ≡ t → value_by k (with_value k row n r) ≡ Some m → m ≡ n
     go true e h =
-        let made : value_by k (row n) ≡ some m = rw e at h in
+        let made : value_by k (row n) ≡ Some m = rw e at h in
         sym (some_is n m (rw ((right n).0, (right n).1, eq-eqb k k refl) at made))
     go false e h =
-        let kept : value_by k r ≡ some m = rw e at h in
+        let kept : value_by k r ≡ Some m = rw e at h in
         untold m (rw e at kept)
 
-one-needed : (n : ℕ) (r : Answer) (m : ℕ) → needed_in (with_needed n r) ≡ some m → m ≡ n
-one-needed n (answer.Listed t) m e = untold m e
-one-needed n (answer.Refused r) m e = one_value 12 Room (λ v. (refl, refl)) n r m e
+one-needed : (n : ℕ) (r : Result Tally Refusal) (m : ℕ) → needed_in (with_needed n r) ≡ Some m → m ≡ n
+one-needed n (Ok t) m e = untold m e
+one-needed n (Err r) m e = one_value 12 Room (λ v. (refl, refl)) n r m e
 
-one_written : (n : ℕ) (r : Written) (m : ℕ) → written_in (with_written n r) ≡ some m → m ≡ n
-one_written n (written.Wrote k) m e = sym (some_is n m e)
-one_written n (written.Refused r) m e = untold m e
+one_written : (n : ℕ) (r : Result ℕ Refusal) (m : ℕ) → written_in (with_written n r) ≡ Some m → m ≡ n
+one_written n (Ok k) m e = sym (some_is n m e)
+one_written n (Err r) m e = untold m e
 
-one-needed-by : (n : ℕ) (r : Written) (m : ℕ) → needed_by (with_needed_by n r) ≡ some m → m ≡ n
-one-needed-by n (written.Wrote k) m e = untold m e
-one-needed-by n (written.Refused r) m e = one_value 12 Room (λ v. (refl, refl)) n r m e
+one-needed-by : (n : ℕ) (r : Result ℕ Refusal) (m : ℕ) → needed_by (with_needed_by n r) ≡ Some m → m ≡ n
+one-needed-by n (Ok k) m e = untold m e
+one-needed-by n (Err r) m e = one_value 12 Room (λ v. (refl, refl)) n r m e
 
-one_place : (n : ℕ) (r : Lookup) (m : ℕ) → place_in (with_place n r) ≡ some m → m ≡ n
-one_place n (Entry i) m e = untold m e
-one_place n (NoEntry r) m e = one_value 21 NoWord (λ v. (refl, refl)) n r m e
+one_place : (n : ℕ) (r : Result ℕ Refusal) (m : ℕ) → place_in (with_place n r) ≡ Some m → m ≡ n
+one_place n (Ok i) m e = untold m e
+one_place n (Err r) m e = one_value 21 NoWord (λ v. (refl, refl)) n r m e
 
-one_below : (n : ℕ) (r : Probed) (m : ℕ) → below_in (with_below n r) ≡ some m → m ≡ n
-one_below n (Counted p) m e = sym (some_is n m e)
-one_below n (NoCount r) m e = untold m e
+one_below : (n : ℕ) (r : Result Probe Refusal) (m : ℕ) → below_in (with_below n r) ≡ Some m → m ≡ n
+one_below n (Ok p) m e = sym (some_is n m e)
+one_below n (Err r) m e = untold m e
 
-one-overlapping : (n : ℕ) (r : Probed) (m : ℕ) → overlapping_in (with_overlapping n r) ≡ some m → m ≡ n
-one-overlapping n (Counted p) m e = sym (some_is n m e)
-one-overlapping n (NoCount r) m e = untold m e
+one-overlapping : (n : ℕ) (r : Result Probe Refusal) (m : ℕ) → overlapping_in (with_overlapping n r) ≡ Some m → m ≡ n
+one-overlapping n (Ok p) m e = sym (some_is n m e)
+one-overlapping n (Err r) m e = untold m e
 
 -- ---- what the theorems of a promise say of them
 
@@ -158,7 +152,7 @@ module _ {A R : Type 0} (promise : Promise A R) (refused : R → Bool) (f : Writ
   pub wrong_first : (first : A → A) → ((a : A) → first (first a) ≡ first a) → Fails promise (FirstOnly refused first) → WrongFirst promise refused first f
   wrong_first first twice fails = fails (leaving refused (λ a out. (f (first a) out).1) f) (first_kind refused f first twice)
 
-pub wrong-counts : {A : Type 0} {promise : Promise A Answer} (f : Writer A Answer) → Fails promise (Inventing intervals_in) →
+pub wrong-counts : {A : Type 0} {promise : Promise A (Result Tally Refusal)} (f : Writer A (Result Tally Refusal)) → Fails promise (Inventing intervals_in) →
     Fails promise (Inventing records_in) →
     Fails promise (Inventing needed_in) → WrongCounts promise f
 wrong-counts f intervals records room =
@@ -168,7 +162,7 @@ wrong-counts f intervals records room =
       room = λ n. room (returning (λ a out. with_needed (n out)) f) (inventing-kind f needed_in with_needed one-needed n);
     }
 
-pub wrong-written : {A : Type 0} {promise : Promise A Written} (f : Writer A Written) → Fails promise (Inventing written_in) →
+pub wrong-written : {A : Type 0} {promise : Promise A (Result ℕ Refusal)} (f : Writer A (Result ℕ Refusal)) → Fails promise (Inventing written_in) →
     Fails promise (Inventing needed_by) →
     WrongWritten promise f
 wrong-written f count room =
@@ -180,10 +174,10 @@ wrong-written f count room =
 pub wrong-refusal : {A R : Type 0} (value : A → R) (refused : R → Bool) → FailsToBe value (RefusingAll refused) → WrongRefusal value refused
 wrong-refusal value refused fails refusal e = fails refusal (refusing-all-kind refused refusal e)
 
-pub wrong-place : {A : Type 0} (value : A → Lookup) → FailsToBe value (InventingAll place_in) → WrongPlace value
+pub wrong-place : {A : Type 0} (value : A → Result ℕ Refusal) → FailsToBe value (InventingAll place_in) → WrongPlace value
 wrong-place value place n = place (λ a. with_place n (value a)) (inventing-all-kind value place_in with_place one_place n)
 
-pub wrong-probe : {A : Type 0} (value : A → Probed) → FailsToBe value (InventingAll below_in) → FailsToBe value (InventingAll overlapping_in) → WrongProbe value
+pub wrong-probe : {A : Type 0} (value : A → Result Probe Refusal) → FailsToBe value (InventingAll below_in) → FailsToBe value (InventingAll overlapping_in) → WrongProbe value
 wrong-probe value below overlapping =
     record {
       below = λ n. below (λ a. with_below n (value a)) (inventing-all-kind value below_in with_below one_below n);

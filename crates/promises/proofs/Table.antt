@@ -1,4 +1,7 @@
 -- P1 to P13, computed: the questions from the index's bytes on, the unions and intersections up to 9, above which none of their lists names anything.
+use Rattle.std.specs.Prelude.{Result}
+use Rattle.list.specs.declared.answer.Tally.{Tally}
+use Rattle.refusal.specs.declared.Refusal.{Refusal}
 use Prim.Native.Nat.{ℕ}
 use native.Mathlib.Omega.{arith}
 use mathlib.Core.Path.{◌≡◌, refl, sym, ◌∙◌}
@@ -11,7 +14,6 @@ use Rattle.list.specs.Stretches.{stretches, cells_of}
 use Rattle.list.specs.Ginix.{in_some, in_every, union_of, intersection_of, below_count, overlap_count}
 use Rattle.list.specs.Cell.{numbers_in}
 use Rattle.list.specs.Kept.{walk_from, walked}
-use Rattle.list.specs.declared.answer.Answer.{Answer}
 use Rattle.list.proofs.JoinLaws.{AllProper, union-limit, intersection-limit}
 use Rattle.index.specs.Format.{entry_place, word_start, word_length, list_start, single_count, pair_count, word_of, singles_of, lower_of, upper_of, list_of}
 use Rattle.directory.specs.Has.{has_within, has}
@@ -29,7 +31,7 @@ use Rattle.promises.proofs.Rows.{◌&◌}
 use Rattle.promises.proofs.ExampleLaws.{example-good}
 
 -- a question over the example's index: once that is good, what the question comes to
-pub asks-example : (rule : ℕ) (q out out' : List ℕ) (r : Answer) → Answers rule example q out out' r → Asks rule example q out out' r
+pub asks-example : (rule : ℕ) (q out out' : List ℕ) (r : Result Tally Refusal) → Answers rule example q out out' r → Asks rule example q out out' r
 asks-example rule q out out' r a = good-asks (asked rule q) (satisfying (of_index example)) example-good a
 
 pub union-is : (lists : List (List ℕ)) (c : List ℕ) → AllProper 9 lists → cells_of (in_some lists) 9 ≡ c → union_of lists ≡ c

@@ -1,4 +1,7 @@
 -- The rows of the table say something: none is right with two results, each is wrong with another, and a table with a wrong row is not right.
+use Rattle.std.specs.Prelude.{Result, Ok, Err}
+use Rattle.list.specs.declared.answer.Tally.{Tally}
+use Rattle.refusal.specs.declared.Refusal.{Refusal}
 use Prim.Native.Nat.{ℕ, zero, suc, ◌<◌}
 use native.Mathlib.Omega.{arith}
 use mathlib.Core.Path.{◌≡◌, refl, sym, ap, ◌∙◌}
@@ -7,8 +10,6 @@ use lib.ListN.{length, get_or}
 use Rattle.laws.proofs.Tests.{true-false}
 use Rattle.refusal.specs.declared.Refusal.TheVariants.{Grammar, NoWord}
 use Rattle.refusal.specs.Refusal.{value_of}
-use Rattle.list.specs.declared.answer.Answer.{Answer}
-use Rattle.list.specs.declared.answer.Answer.TheVariants.{Listed, Refused}
 use Rattle.list.specs.Outcome.{Outcome}
 use Rattle.list.specs.Answer.{Gives}
 use Rattle.list.proofs.ListingLaws.{gives-agree}
@@ -22,7 +23,7 @@ use Rattle.promises.proofs.Made.{some_is}
 
 -- ---- one result for each row
 
-pub line-one : (rule : ℕ) (question : List ℕ) (r s : Answer) (c d : List ℕ) → Right (line rule question r c) → Right (line rule question s d) →
+pub line-one : (rule : ℕ) (question : List ℕ) (r s : Result Tally Refusal) (c d : List ℕ) → Right (line rule question r c) → Right (line rule question s d) →
     (r ≡ s) × (c ≡ d)
 line-one rule question r s c d p q = asks-determined rule example question lent c d r s p q
 
@@ -52,10 +53,10 @@ wrong-among (b ∷ bs) after r wrong p = wrong-among bs after r wrong p.1
 -- ---- each row with what a slip would make of it
 
 -- a line with another answer, or with other cells
-not_answer : {o : Outcome} {out c d : List ℕ} {r s : Answer} → Gives o out c r → (r ≡ s → ⊥) → Gives o out d s → ⊥
+not_answer : {o : Outcome} {out c d : List ℕ} {r s : (Result Tally Refusal)} → Gives o out c r → (r ≡ s → ⊥) → Gives o out d s → ⊥
 not_answer right differ p = differ (gives-agree right p).0
 
-not-cells : {o : Outcome} {out c d : List ℕ} {r s : Answer} → Gives o out c r → (c ≡ d → ⊥) → Gives o out d s → ⊥
+not-cells : {o : Outcome} {out c d : List ℕ} {r s : (Result Tally Refusal)} → Gives o out c r → (c ≡ d → ⊥) → Gives o out d s → ⊥
 not-cells right differ p = differ (gives-agree right p).1
 
 other-records : {i j : ℕ} (k l : ℕ) → (k ≡ l → ⊥) → tallied i k ≡ tallied j l → ⊥
@@ -86,15 +87,15 @@ pub p5-flat : Right (line 1 (boats ++ or' ++ 40 ∷ (harbour ++ and' ++ maps ++ 
 p5-flat = not_answer (row-right table 4 (omega arith) table-right) (other-records 6 2 (λ e. omega arith))
 
 -- the place before the word that may not stand there
-pub p6-place : Right (line 1 (tide ++ 32 ∷ tables) (Refused (Grammar 4)) lent) → ⊥
+pub p6-place : Right (line 1 (tide ++ 32 ∷ tables) (Err (Grammar 4)) lent) → ⊥
 p6-place = not_answer (row-right table 5 (omega arith) table-right) (λ e. let z : ◌≡◌ {A = ℕ} 5 4 = ap value e in omega arith)
   where
-    value : Answer → ℕ
-    value (Listed t) = 0
-    value (Refused r) = value_of r
+    value : Result Tally Refusal → ℕ
+    value (Ok t) = 0
+    value (Err r) = value_of r
 
 -- a word that no record has, refused
-pub p7-refused : Right (line 1 pier (Refused (NoWord 3)) lent) → ⊥
+pub p7-refused : Right (line 1 pier (Err (NoWord 3)) lent) → ⊥
 p7-refused = not_answer (row-right table 6 (omega arith) table-right) (λ e. true-false (sym (ap answer_refused e)))
 
 -- intervals that touch left apart

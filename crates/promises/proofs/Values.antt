@@ -1,16 +1,10 @@
 -- What is a refusal, what is the first alone, and which number is which: each at values where one could be taken for another.
+use Rattle.std.specs.Prelude.{Ok, Err, None, Some}
 use mathlib.Core.Path.{◌≡◌, refl}
 use mathlib.Core.Bool.{true, false}
 use mathlib.Core.List.{[], ◌∷◌, ◌++◌}
-use mathlib.Core.Option.{none, some}
 use Rattle.refusal.specs.declared.Refusal.TheVariants.{Grammar, Room, Number, ProbeRange, NoWord}
 use Rattle.word.specs.Word.{is_word_byte, same, small_letter, small_operator_of, operator_of}
-use Rattle.list.specs.declared.Written.TheVariants as written
-use Rattle.list.specs.declared.answer.Answer.TheVariants as answer
-use Rattle.index.specs.declared.Checked.TheVariants as checked
-use Rattle.directory.specs.declared.Lookup.TheVariants.{Entry, NoEntry}
-use Rattle.directory.specs.declared.Probed.TheVariants.{NoCount}
-use Rattle.question.specs.declared.reader.Verdict.TheVariants as reading
 use Rattle.question.specs.Token.{run, gather, tokens_at, tokens}
 use Rattle.question.specs.Limits.{token_words}
 use Rattle.promises.specs.Example.{boats, tide, or'}
@@ -23,23 +17,23 @@ use Rattle.promises.proofs.WrongReturns.{counted}
 
 -- nothing written, listed or counted is an answer too, and so is entry 0
 pub answers-told :
-    (written_refused (written.Wrote 0) ≡ false)
+    (written_refused (Ok 0) ≡ false)
     × (answer_refused (tallied 0 0) ≡ false)
-    × (check_refused checked.Good ≡ false)
-    × (lookup_refused (Entry 0) ≡ false)
+    × (check_refused (Ok tt) ≡ false)
+    × (lookup_refused (Ok 0) ≡ false)
     × (word_refused boats ≡ false)
     × (probe_refused (counted 0 0) ≡ false)
-    × (verdict_refused (reading.Accepted 1) ≡ false)
+    × (verdict_refused (Ok 1) ≡ false)
 answers-told = (refl, refl, refl, refl, refl, refl, refl)
 
 pub refusals-told :
-    (written_refused (written.Refused (Room 0)) ≡ true)
-    × (answer_refused (answer.Refused (Room 0)) ≡ true)
-    × (check_refused (checked.Refused ProbeRange) ≡ true)
-    × (lookup_refused (NoEntry (NoWord 0)) ≡ true)
+    (written_refused (Err (Room 0)) ≡ true)
+    × (answer_refused (Err (Room 0)) ≡ true)
+    × (check_refused (Err ProbeRange) ≡ true)
+    × (lookup_refused (Err (NoWord 0)) ≡ true)
     × (word_refused [] ≡ true)
-    × (probe_refused (NoCount ProbeRange) ≡ true)
-    × (verdict_refused (reading.Refused (Grammar 0)) ≡ true)
+    × (probe_refused (Err ProbeRange) ≡ true)
+    × (verdict_refused (Err (Grammar 0)) ≡ true)
 refusals-told = (refl, refl, refl, refl, refl, refl, refl)
 
 -- `boats or tide`, ` boats`, `(boats) or tide`, `((boats or tide))`, `or boats`, and a question with no word
@@ -62,34 +56,34 @@ unfolding is_word_byte run
 first-builts = refl
 
 pub counts-told :
-    (intervals_in (tallied 2 5) ≡ some 2)
-    × (records_in (tallied 2 5) ≡ some 5)
-    × (needed_in (tallied 2 5) ≡ none)
-    × (intervals_in (answer.Refused (Room 7)) ≡ none)
-    × (records_in (answer.Refused (Room 7)) ≡ none)
-    × (needed_in (answer.Refused (Room 7)) ≡ some 7)
-    × (needed_in (answer.Refused (Grammar 7)) ≡ none)
+    (intervals_in (tallied 2 5) ≡ Some 2)
+    × (records_in (tallied 2 5) ≡ Some 5)
+    × (needed_in (tallied 2 5) ≡ None)
+    × (intervals_in (Err (Room 7)) ≡ None)
+    × (records_in (Err (Room 7)) ≡ None)
+    × (needed_in (Err (Room 7)) ≡ Some 7)
+    × (needed_in (Err (Grammar 7)) ≡ None)
 counts-told = (refl, refl, refl, refl, refl, refl, refl)
 
 pub written-told :
-    (written_in (written.Wrote 5) ≡ some 5)
-    × (needed_by (written.Wrote 5) ≡ none)
-    × (written_in (written.Refused (Room 7)) ≡ none)
-    × (needed_by (written.Refused (Room 7)) ≡ some 7)
-    × (needed_by (written.Refused (Number 7)) ≡ none)
+    (written_in (Ok 5) ≡ Some 5)
+    × (needed_by (Ok 5) ≡ None)
+    × (written_in (Err (Room 7)) ≡ None)
+    × (needed_by (Err (Room 7)) ≡ Some 7)
+    × (needed_by (Err (Number 7)) ≡ None)
 written-told = (refl, refl, refl, refl, refl)
 
 pub places-told :
-    (place_in (Entry 5) ≡ none)
-    × (place_in (NoEntry (NoWord 5)) ≡ some 5)
-    × (place_in (NoEntry (Room 5)) ≡ none)
+    (place_in (Ok 5) ≡ None)
+    × (place_in (Err (NoWord 5)) ≡ Some 5)
+    × (place_in (Err (Room 5)) ≡ None)
 places-told = (refl, refl, refl)
 
 pub probes-told :
-    (below_in (counted 1 2) ≡ some 1)
-    × (overlapping_in (counted 1 2) ≡ some 2)
-    × (below_in (NoCount ProbeRange) ≡ none)
-    × (overlapping_in (NoCount ProbeRange) ≡ none)
+    (below_in (counted 1 2) ≡ Some 1)
+    × (overlapping_in (counted 1 2) ≡ Some 2)
+    × (below_in (Err ProbeRange) ≡ None)
+    × (overlapping_in (Err ProbeRange) ≡ None)
 probes-told = (refl, refl, refl, refl)
 
 -- one number alone is another, and a refusal stays what it is, but for the room that 12 reports
@@ -97,29 +91,29 @@ pub others-kept :
     (with_intervals 7 (tallied 2 5) ≡ tallied 7 5)
     × (with_records 7 (tallied 2 5) ≡ tallied 2 7)
     × (with_needed 7 (tallied 2 5) ≡ tallied 2 5)
-    × (with_intervals 7 (answer.Refused (Room 2)) ≡ answer.Refused (Room 2))
-    × (with_records 7 (answer.Refused (Room 2)) ≡ answer.Refused (Room 2))
-    × (with_needed 7 (answer.Refused (Room 2)) ≡ answer.Refused (Room 7))
-    × (with_needed 7 (answer.Refused (Grammar 2)) ≡ answer.Refused (Grammar 2))
+    × (with_intervals 7 (Err (Room 2)) ≡ Err (Room 2))
+    × (with_records 7 (Err (Room 2)) ≡ Err (Room 2))
+    × (with_needed 7 (Err (Room 2)) ≡ Err (Room 7))
+    × (with_needed 7 (Err (Grammar 2)) ≡ Err (Grammar 2))
 others-kept = (refl, refl, refl, refl, refl, refl, refl)
 
 pub others-written :
-    (with_written 7 (written.Wrote 5) ≡ written.Wrote 7)
-    × (with_needed_by 7 (written.Wrote 5) ≡ written.Wrote 5)
-    × (with_written 7 (written.Refused (Room 2)) ≡ written.Refused (Room 2))
-    × (with_needed_by 7 (written.Refused (Room 2)) ≡ written.Refused (Room 7))
-    × (with_needed_by 7 (written.Refused (Number 2)) ≡ written.Refused (Number 2))
+    (with_written 7 (Ok 5) ≡ Ok 7)
+    × (with_needed_by 7 (Ok 5) ≡ Ok 5)
+    × (with_written 7 (Err (Room 2)) ≡ Err (Room 2))
+    × (with_needed_by 7 (Err (Room 2)) ≡ Err (Room 7))
+    × (with_needed_by 7 (Err (Number 2)) ≡ Err (Number 2))
 others-written = (refl, refl, refl, refl, refl)
 
 pub others-placed :
-    (with_place 7 (Entry 5) ≡ Entry 5)
-    × (with_place 7 (NoEntry (NoWord 5)) ≡ NoEntry (NoWord 7))
-    × (with_place 7 (NoEntry (Room 5)) ≡ NoEntry (Room 5))
+    (with_place 7 (Ok 5) ≡ Ok 5)
+    × (with_place 7 (Err (NoWord 5)) ≡ Err (NoWord 7))
+    × (with_place 7 (Err (Room 5)) ≡ Err (Room 5))
 others-placed = (refl, refl, refl)
 
 pub others-counted :
     (with_below 7 (counted 1 2) ≡ counted 7 2)
     × (with_overlapping 7 (counted 1 2) ≡ counted 1 7)
-    × (with_below 7 (NoCount ProbeRange) ≡ NoCount ProbeRange)
-    × (with_overlapping 7 (NoCount ProbeRange) ≡ NoCount ProbeRange)
+    × (with_below 7 (Err ProbeRange) ≡ Err ProbeRange)
+    × (with_overlapping 7 (Err ProbeRange) ≡ Err ProbeRange)
 others-counted = (refl, refl, refl, refl)

@@ -1,9 +1,11 @@
 -- The wrong ways to answer a question, by P1, P2, P4, P13 and `boats` over the example's index.
+use Rattle.std.specs.Prelude.{Result, Err, Option}
+use Rattle.list.specs.declared.answer.Tally.{Tally}
+use Rattle.refusal.specs.declared.Refusal.{Refusal}
 use Prim.Native.Nat.{ℕ}
 use native.Mathlib.Omega.{arith}
 use mathlib.Core.Path.{◌≡◌, refl, sym, ap, ◌∙◌}
 use mathlib.Core.List.{List, [], ◌∷◌, ◌++◌}
-use mathlib.Core.Option.{Option}
 use Rattle.refusal.specs.First.{first_from, first}
 use Rattle.refusal.specs.declared.Refusal.TheVariants.{Room}
 use Rattle.word.specs.Word.{is_word_byte, same, small_letter, small_operator_of, operator_of}
@@ -11,8 +13,6 @@ use Rattle.list.specs.Interval.{names, records}
 use Rattle.list.specs.Stretches.{stretches, cells_of}
 use Rattle.list.specs.Cell.{numbers_in}
 use Rattle.list.specs.Kept.{walk_from, walked}
-use Rattle.list.specs.declared.answer.Answer.{Answer}
-use Rattle.list.specs.declared.answer.Answer.TheVariants.{Refused}
 use Rattle.index.specs.Format.{entry_place, word_start, word_length, list_start, single_count, pair_count, word_of, singles_of, lower_of, upper_of, list_of}
 use Rattle.directory.specs.Has.{has_within, has}
 use Rattle.question.specs.Token.{run, gather, tokens_at, tokens}
@@ -45,8 +45,8 @@ Outcomes =
     Asks 1 example boats-or-tide lent (2 ∷ 4 ∷ 8 ∷ 9 ∷ []) (tallied 2 5)
     × Asks 1 example boats-or-maps lent (2 ∷ 9 ∷ 0 ∷ 0 ∷ []) (tallied 1 8)
     × Asks 1 example boats lent (2 ∷ 4 ∷ 8 ∷ 8 ∷ []) (tallied 2 4)
-    × Asks 1 example boats-or-tide [] [] (Refused (Room 2))
-    × Asks 1 example boats-or-maps [] [] (Refused (Room 1))
+    × Asks 1 example boats-or-tide [] [] (Err (Room 2))
+    × Asks 1 example boats-or-maps [] [] (Err (Room 1))
 
 outcomes : Outcomes
 unfolding first_from first is_word_byte same small_letter small_operator_of operator_of names records stretches cells_of numbers_in walk_from walked entry_place word_start word_length list_start single_count pair_count word_of singles_of lower_of upper_of list_of has_within has run gather tokens_at tokens from_left question operand links whole satisfies is_foreign refusal_of parsed asked satisfying
@@ -92,7 +92,7 @@ ask-inventing-records = inventing-fails one records_in tide-asked maps-asked len
 pub ask-inventing-room : Fails asks (Inventing needed_in)
 ask-inventing-room = inventing-fails one needed_in tide-asked maps-asked [] 2 1 outcomes.3 outcomes.4 refl refl (λ e. omega arith)
 
-pub ask-misreporting : (number : Answer → Option ℕ) → Fails asks (Misreporting asks number)
+pub ask-misreporting : (number : Result Tally Refusal → Option ℕ) → Fails asks (Misreporting asks number)
 ask-misreporting = misreporting-fails one
 
 -- P4 is answered otherwise by the second rule
@@ -103,6 +103,6 @@ ask-rule-blind f blind meets =
     (one (example, 1, question) lent _ _ _ _ (meets (example, 1, question) lent) (row-right table 3 (omega arith) table-right)).0 in
     let second : (f (example, 2, question) lent).0 ≡ tallied 2 6 =
     (one (example, 2, question) lent _ _ _ _ (meets (example, 2, question) lent) (row-right table 12 (omega arith) table-right)).0 in
-    let same : tallied 1 2 ≡ tallied 2 6 = sym first ∙ ap (λ (w : Answer × List ℕ). w.0) (blind example question lent) ∙ second in
+    let same : tallied 1 2 ≡ tallied 2 6 = sym first ∙ ap (λ (w : (Result Tally Refusal) × List ℕ). w.0) (blind example question lent) ∙ second in
     let records : ◌≡◌ {A = ℕ} 2 6 = some_is 2 6 (ap records_in same) in
     omega arith

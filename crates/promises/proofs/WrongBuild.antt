@@ -1,18 +1,17 @@
 -- The wrong builders, by the words `a` and `b` with one record each: 70 bytes, and 45 of the first word alone.
+use Rattle.std.specs.Prelude.{Result, Ok, Err, Option}
+use Rattle.refusal.specs.declared.Refusal.{Refusal}
 use Prim.Native.Nat.{ℕ}
 use native.Mathlib.Omega.{arith}
 use mathlib.Core.Path.{◌≡◌, refl, sym, ap, ◌∙◌}
 use mathlib.Core.Bool.{false}
 use mathlib.Core.List.{List, [], ◌∷◌}
-use mathlib.Core.Option.{Option}
 use lib.ListN.{length, get_or, replicate}
 use Rattle.refusal.specs.First.{first_from, first}
 use Rattle.word.specs.Word.{is_word_byte, all_word_bytes, same, before, small_letter, small_operator_of, operator_of, is_operator, is_word}
 use Rattle.list.specs.Stretches.{stretches, cells_of}
 use Rattle.list.specs.Among.{among}
 use Rattle.question.specs.Token.{run}
-use Rattle.list.specs.declared.Written.{Written}
-use Rattle.list.specs.declared.Written.TheVariants.{Wrote, Refused}
 use Rattle.list.specs.Outcome.{Outcome, left_by, written_of}
 use Rattle.refusal.specs.declared.Refusal.TheVariants.{Room}
 use Rattle.build.specs.Lent.{words_from, lent_words, rest_from, rest_of, word_total, bad_lent, sum_to, bad_count, bad_rest, begins_list, bad_listed, lists_from}
@@ -31,7 +30,7 @@ Args = ℕ × List ℕ × List ℕ × List ℕ
 abbrev outcome : Args → List ℕ → Outcome
 outcome a out = build_outcome a.0 a.1 a.2 a.3 (length out)
 
-abbrev answered : Args → List ℕ → Written
+abbrev answered : Args → List ℕ → Result ℕ Refusal
 answered a out = written_of (length (index_from a.0 a.1 a.2 a.3)) (outcome a out)
 
 abbrev after : Args → List ℕ → List ℕ
@@ -56,10 +55,10 @@ zeros = replicate 70 0
 -- what each comes to, with 70 bytes lent and with none, and a byte or two of it: the list of `a` begins with 1, and behind it stands that of `b`, or `a`
 abbrev Outcomes : Type 0
 Outcomes =
-    (answered two zeros ≡ Wrote 70)
-    × (answered one zeros ≡ Wrote 45)
-    × (answered two [] ≡ Refused (Room 70))
-    × (answered one [] ≡ Refused (Room 45))
+    (answered two zeros ≡ Ok 70)
+    × (answered one zeros ≡ Ok 45)
+    × (answered two [] ≡ Err (Room 70))
+    × (answered one [] ≡ Err (Room 45))
     × (get_or (after two zeros) 0 0 ≡ 1)
     × (get_or (after two zeros) 4 0 ≡ 2)
     × (get_or (after one zeros) 4 0 ≡ 97)
@@ -103,5 +102,5 @@ build-inventing-room =
     inventing-fails determined needed_by two one [] 70 45 (known two []) (known one []) (ap needed_by outcomes.2) (ap needed_by outcomes.3)
     (λ e. omega arith)
 
-pub build-misreporting : (number : Written → Option ℕ) → Fails builds (Misreporting builds number)
+pub build-misreporting : (number : Result ℕ Refusal → Option ℕ) → Fails builds (Misreporting builds number)
 build-misreporting = misreporting-fails determined

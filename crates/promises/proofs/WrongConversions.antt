@@ -1,17 +1,15 @@
 -- The wrong conversions, by the numbers 4, 5, and 4 with 6.
+use Rattle.std.specs.Prelude.{None, Result, Option}
+use Rattle.refusal.specs.declared.Refusal.{Refusal}
 use Prim.Native.Nat.{ℕ, ◌/◌}
 use native.Mathlib.Omega.{arith}
 use mathlib.Core.Path.{◌≡◌, refl, sym, ap, ◌∙◌}
 use mathlib.Core.Bool.{true}
 use mathlib.Core.List.{List, [], ◌∷◌}
-use mathlib.Core.Option.{Option}
 use lib.ListN.{length}
 use Rattle.limits.specs.Limits.{record_max}
-use Rattle.refusal.specs.declared.Found.{Found}
-use Rattle.refusal.specs.declared.Found.TheVariants.{Nowhere}
 use Rattle.refusal.specs.declared.Refusal.TheVariants.{Number, Interval}
 use Rattle.refusal.specs.First.{first_from, first}
-use Rattle.list.specs.declared.Written.{Written}
 use Rattle.list.specs.Outcome.{Outcome, left_by, written_of}
 use Rattle.list.specs.Interval.{proper_from, is_proper, intervals, records}
 use Rattle.list.specs.Stretches.{records_from}
@@ -23,32 +21,32 @@ use Rattle.promises.proofs.Determined.{intervals-determined, numbers-determined}
 use Rattle.promises.proofs.WrongLaws.{refusing-fails, fixed-fails, silent-fails, inventing-fails, misreporting-fails, differ-at}
 
 -- what comes of numbers, by their first bad one and the list c
-abbrev listed : Found → List ℕ → ℕ → Outcome
+abbrev listed : Option ℕ → List ℕ → ℕ → Outcome
 listed bad c room = conversion Number bad (intervals c) c room
 
-to-intervals-known : (xs out : List ℕ) → bad_number_of xs ≡ Nowhere →
-    ToIntervals xs out (left_by (listed Nowhere (runs xs) (length out / 2)) out) (written_of (intervals (runs xs)) (listed Nowhere (runs xs) (length out / 2)))
+to-intervals-known : (xs out : List ℕ) → bad_number_of xs ≡ None →
+    ToIntervals xs out (left_by (listed None (runs xs) (length out / 2)) out) (written_of (intervals (runs xs)) (listed None (runs xs) (length out / 2)))
 to-intervals-known xs out good =
     let room = length out / 2 in
     let c = intervals_of xs in
     let is = runs-cells record_max xs good in
     record {
-      answer = ap (λ l. written_of (intervals l) (listed Nowhere l room)) is ∙ ap (λ g. written_of (intervals c) (listed g c room)) (sym good);
-      cells = ap (λ l. left_by (listed Nowhere l room) out) is ∙ ap (λ g. left_by (listed g c room) out) (sym good);
+      answer = ap (λ l. written_of (intervals l) (listed None l room)) is ∙ ap (λ g. written_of (intervals c) (listed g c room)) (sym good);
+      cells = ap (λ l. left_by (listed None l room) out) is ∙ ap (λ g. left_by (listed g c room) out) (sym good);
     }
 
 -- and of the cells c, by their first bad interval and the numbers xs
-abbrev numbered : Found → List ℕ → List ℕ → ℕ → Outcome
+abbrev numbered : Option ℕ → List ℕ → List ℕ → ℕ → Outcome
 numbered bad c xs room = conversion Interval bad (records c) xs room
 
-to-numbers-known : (c out : List ℕ) → bad_interval_of c ≡ Nowhere → is_proper record_max c ≡ true →
-    ToNumbers c out (left_by (numbered Nowhere c (spans c) (length out)) out) (written_of (records c) (numbered Nowhere c (spans c) (length out)))
+to-numbers-known : (c out : List ℕ) → bad_interval_of c ≡ None → is_proper record_max c ≡ true →
+    ToNumbers c out (left_by (numbered None c (spans c) (length out)) out) (written_of (records c) (numbered None c (spans c) (length out)))
 to-numbers-known c out good proper =
     let room = length out in
     let is = spans-records record_max c proper in
     record {
-      answer = ap (λ l. written_of (records c) (numbered Nowhere c l room)) is ∙ ap (λ g. written_of (records c) (numbered g c (numbers_of c) room)) (sym good);
-      cells = ap (λ l. left_by (numbered Nowhere c l room) out) is ∙ ap (λ g. left_by (numbered g c (numbers_of c) room) out) (sym good);
+      answer = ap (λ l. written_of (records c) (numbered None c l room)) is ∙ ap (λ g. written_of (records c) (numbered g c (numbers_of c) room)) (sym good);
+      cells = ap (λ l. left_by (numbered None c l room) out) is ∙ ap (λ g. left_by (numbered g c (numbers_of c) room) out) (sym good);
     }
 
 -- ---- numbers to intervals
@@ -82,7 +80,7 @@ to-intervals-inventing-room =
     inventing-fails intervals-determined needed_by (4 ∷ []) (4 ∷ 6 ∷ []) [] 1 2 (to-intervals-known (4 ∷ []) [] refl) (to-intervals-known (4 ∷ 6 ∷ []) [] refl)
     refl refl (λ e. omega arith)
 
-pub to-intervals-misreporting : (number : Written → Option ℕ) → Fails to_intervals (Misreporting to_intervals number)
+pub to-intervals-misreporting : (number : Result ℕ Refusal → Option ℕ) → Fails to_intervals (Misreporting to_intervals number)
 to-intervals-misreporting = misreporting-fails intervals-determined
 
 -- ---- intervals to numbers
@@ -116,5 +114,5 @@ to-numbers-inventing-room =
     inventing-fails numbers-determined needed_by (4 ∷ 4 ∷ []) (4 ∷ 5 ∷ []) [] 1 2 (to-numbers-known (4 ∷ 4 ∷ []) [] refl refl)
     (to-numbers-known (4 ∷ 5 ∷ []) [] refl refl) refl refl (λ e. omega arith)
 
-pub to-numbers-misreporting : (number : Written → Option ℕ) → Fails to_numbers (Misreporting to_numbers number)
+pub to-numbers-misreporting : (number : Result ℕ Refusal → Option ℕ) → Fails to_numbers (Misreporting to_numbers number)
 to-numbers-misreporting = misreporting-fails numbers-determined

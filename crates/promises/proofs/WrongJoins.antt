@@ -1,9 +1,11 @@
 -- The wrong joins, by the entries 0 (boats), 1 (harbour), 2 (maps) and 3 (tide) of the example's index.
+use Rattle.std.specs.Prelude.{Result, Ok, Err, Option}
+use Rattle.list.specs.declared.answer.Tally.{Tally}
+use Rattle.refusal.specs.declared.Refusal.{Refusal}
 use Prim.Native.Nat.{ℕ}
 use native.Mathlib.Omega.{arith}
 use mathlib.Core.Path.{◌≡◌, refl, ap, ◌∙◌}
 use mathlib.Core.List.{List, [], ◌∷◌}
-use mathlib.Core.Option.{Option}
 use Rattle.refusal.specs.First.{first_from, first}
 use Rattle.refusal.specs.declared.Refusal.TheVariants.{Room}
 use Rattle.list.specs.Interval.{proper_from, is_proper, names, records}
@@ -12,9 +14,6 @@ use Rattle.list.specs.Ginix.{in_some, union_of, in_every, intersection_of}
 use Rattle.list.specs.Cell.{numbers_in}
 use Rattle.list.specs.Kept.{walk_from, walked}
 use Rattle.list.specs.Sweeps.{Listing}
-use Rattle.list.specs.declared.answer.Answer.{Answer}
-use Rattle.list.specs.declared.answer.Answer.TheVariants.{Refused}
-use Rattle.index.specs.declared.Checked.TheVariants.{Good}
 use Rattle.index.specs.Format.{entry_place, list_start, single_count, pair_count, singles_of, lower_of, upper_of, list_of}
 use Rattle.merge.specs.Request.{lists_of}
 use Rattle.join.specs.Join.{bad_list_count, bad_entry_number, entries_of, request_after, request_of, Joins}
@@ -30,11 +29,11 @@ use Rattle.promises.proofs.Table.{union-is, intersection-is}
 use Rattle.promises.proofs.WrongLaws.{refusing-fails, fixed-fails, silent-fails, first-fails, inventing-fails, misreporting-fails, differ-at}
 
 -- once the entries are good, the list that the method gives
-joins-example : (method : List (List ℕ) → List ℕ) (entries out c : List ℕ) → entries_of example entries ≡ Good → method (lists_of example entries) ≡ c →
-    (out' : List ℕ) (r : Answer) → Listing c out out' r → Joins method example entries out out' r
+joins-example : (method : List (List ℕ) → List ℕ) (entries out c : List ℕ) → entries_of example entries ≡ (Ok tt) → method (lists_of example entries) ≡ c →
+    (out' : List ℕ) (r : Result Tally Refusal) → Listing c out out' r → Joins method example entries out out' r
 unfolding request_of
 joins-example method entries out c good is out' r l =
-    let asked : request_of example entries ≡ Good = ap (λ g. request_after g (entries_of example entries)) example-good ∙ good in
+    let asked : request_of example entries ≡ (Ok tt) = ap (λ g. request_after g (entries_of example entries)) example-good ∙ good in
     let lists : Listing (method (lists_of example entries)) out out' r = rw is l in
     joins-asked method example entries asked lists
 
@@ -48,8 +47,8 @@ UnionOutcomes =
     Joins union_of example (0 ∷ 3 ∷ []) lent (2 ∷ 4 ∷ 8 ∷ 9 ∷ []) (tallied 2 5)
     × Joins union_of example (0 ∷ 2 ∷ []) lent (2 ∷ 9 ∷ 0 ∷ 0 ∷ []) (tallied 1 8)
     × Joins union_of example (0 ∷ []) lent (2 ∷ 4 ∷ 8 ∷ 8 ∷ []) (tallied 2 4)
-    × Joins union_of example (0 ∷ 3 ∷ []) [] [] (Refused (Room 2))
-    × Joins union_of example (0 ∷ 2 ∷ []) [] [] (Refused (Room 1))
+    × Joins union_of example (0 ∷ 3 ∷ []) [] [] (Err (Room 2))
+    × Joins union_of example (0 ∷ 2 ∷ []) [] [] (Err (Room 1))
 
 union-outcomes : UnionOutcomes
 unfolding first_from first proper_from is_proper names records stretches cells_of in_some numbers_in walk_from walked entry_place list_start single_count pair_count singles_of lower_of upper_of list_of bad_list_count bad_entry_number entries_of lists_of
@@ -61,9 +60,9 @@ union-outcomes = (
   joins-example union_of (0 ∷ []) lent (2 ∷ 4 ∷ 8 ∷ 8 ∷ []) refl (union-is (lists_of example (0 ∷ [])) (2 ∷ 4 ∷ 8 ∷ 8 ∷ []) (refl, tt) refl) (2 ∷ 4 ∷ 8 ∷ 8 ∷ [])
       (tallied 2 4) (record { answer = refl; cells = refl }),
   joins-example union_of (0 ∷ 3 ∷ []) [] (2 ∷ 4 ∷ 8 ∷ 9 ∷ []) refl (union-is (lists_of example (0 ∷ 3 ∷ [])) (2 ∷ 4 ∷ 8 ∷ 9 ∷ []) (refl, (refl, tt)) refl) []
-      (Refused (Room 2)) (record { answer = refl; cells = refl }),
+      (Err (Room 2)) (record { answer = refl; cells = refl }),
   joins-example union_of (0 ∷ 2 ∷ []) [] (2 ∷ 9 ∷ []) refl (union-is (lists_of example (0 ∷ 2 ∷ [])) (2 ∷ 9 ∷ []) (refl, (refl, tt)) refl) []
-      (Refused (Room 1)) (record { answer = refl; cells = refl }),
+      (Err (Room 1)) (record { answer = refl; cells = refl }),
 )
 
 pub union-refusing : Fails (joins union_of) (Refusing answer_refused)
@@ -102,8 +101,8 @@ IntersectionOutcomes =
     Joins intersection_of example (0 ∷ 3 ∷ []) lent (3 ∷ 3 ∷ 8 ∷ 8 ∷ []) (tallied 2 2)
     × Joins intersection_of example (1 ∷ 3 ∷ []) lent (3 ∷ 3 ∷ 0 ∷ 0 ∷ []) (tallied 1 1)
     × Joins intersection_of example (0 ∷ []) lent (2 ∷ 4 ∷ 8 ∷ 8 ∷ []) (tallied 2 4)
-    × Joins intersection_of example (0 ∷ 3 ∷ []) [] [] (Refused (Room 2))
-    × Joins intersection_of example (1 ∷ 3 ∷ []) [] [] (Refused (Room 1))
+    × Joins intersection_of example (0 ∷ 3 ∷ []) [] [] (Err (Room 2))
+    × Joins intersection_of example (1 ∷ 3 ∷ []) [] [] (Err (Room 1))
 
 intersection-outcomes : IntersectionOutcomes
 unfolding first_from first proper_from is_proper names records stretches cells_of in_every numbers_in walk_from walked entry_place list_start single_count pair_count singles_of lower_of upper_of list_of bad_list_count bad_entry_number entries_of lists_of
@@ -115,9 +114,9 @@ intersection-outcomes = (
   joins-example intersection_of (0 ∷ []) lent (2 ∷ 4 ∷ 8 ∷ 8 ∷ []) refl (intersection-is (list_of example 0) (lists_of example []) (2 ∷ 4 ∷ 8 ∷ 8 ∷ []) refl refl)
       (2 ∷ 4 ∷ 8 ∷ 8 ∷ []) (tallied 2 4) (record { answer = refl; cells = refl }),
   joins-example intersection_of (0 ∷ 3 ∷ []) [] (3 ∷ 3 ∷ 8 ∷ 8 ∷ []) refl
-      (intersection-is (list_of example 0) (lists_of example (3 ∷ [])) (3 ∷ 3 ∷ 8 ∷ 8 ∷ []) refl refl) [] (Refused (Room 2)) (record { answer = refl; cells = refl }),
+      (intersection-is (list_of example 0) (lists_of example (3 ∷ [])) (3 ∷ 3 ∷ 8 ∷ 8 ∷ []) refl refl) [] (Err (Room 2)) (record { answer = refl; cells = refl }),
   joins-example intersection_of (1 ∷ 3 ∷ []) [] (3 ∷ 3 ∷ []) refl (intersection-is (list_of example 1) (lists_of example (3 ∷ [])) (3 ∷ 3 ∷ []) refl refl) []
-      (Refused (Room 1)) (record { answer = refl; cells = refl }),
+      (Err (Room 1)) (record { answer = refl; cells = refl }),
 )
 
 pub intersection-refusing : Fails (joins intersection_of) (Refusing answer_refused)
@@ -152,5 +151,5 @@ intersection-inventing-room = inventing-fails (one intersection_of) needed_in (e
 
 -- ---- all joins
 
-pub join-misreporting : (method : List (List ℕ) → List ℕ) (number : Answer → Option ℕ) → Fails (joins method) (Misreporting (joins method) number)
+pub join-misreporting : (method : List (List ℕ) → List ℕ) (number : Result Tally Refusal → Option ℕ) → Fails (joins method) (Misreporting (joins method) number)
 join-misreporting method = misreporting-fails (one method)

@@ -1,9 +1,9 @@
 -- A promise that determines the outcome, and outcomes that it allows, refute each kind of wrong implementation.
+use Rattle.std.specs.Prelude.{Option, Some}
 use Prim.Native.Nat.{ℕ}
 use mathlib.Core.Path.{◌≡◌, sym, ap, ◌∙◌}
 use mathlib.Core.Bool.{Bool, false}
 use mathlib.Core.List.{List}
-use mathlib.Core.Option.{Option, some}
 use lib.ListN.{get_or}
 use Rattle.laws.proofs.Tests.{true-false}
 use Rattle.promises.specs.Outcome.{OneOutcome}
@@ -40,7 +40,7 @@ module _ {A R : Type 0} {promise : Promise A R} (one : (a : A) (out : List ℕ) 
         differ (sym (met-cells a out p f m) ∙ w a out (accepts a out p f m refused e) (accepts (first a) out q f m refused e') ∙ met-cells (first a) out q f m)
 
   pub inventing-fails : {c d : List ℕ} {r s : R} (number : R → Option ℕ) (a b : A) (out : List ℕ) (i j : ℕ) → promise a out c r → promise b out d s →
-      number r ≡ some i → number s ≡ some j → (i ≡ j → ⊥) → Fails promise (Inventing number)
+      number r ≡ Some i → number s ≡ Some j → (i ≡ j → ⊥) → Fails promise (Inventing number)
   inventing-fails number a b out i j p q e e' differ f w m =
       differ (w a b out i j (ap number (met-answer a out p f m) ∙ e) (ap number (met-answer b out q f m) ∙ e'))
 
@@ -53,7 +53,7 @@ module _ {A R : Type 0} (value : A → R) where
   pub refusing-all-fails : (refused : R → Bool) (a : A) → refused (value a) ≡ false → FailsToBe value (RefusingAll refused)
   refusing-all-fails refused a e f w m = true-false (sym (w a) ∙ ap refused (m a) ∙ e)
 
-  pub inventing-all-fails : (number : R → Option ℕ) (a b : A) (i j : ℕ) → number (value a) ≡ some i → number (value b) ≡ some j → (i ≡ j → ⊥) →
+  pub inventing-all-fails : (number : R → Option ℕ) (a b : A) (i j : ℕ) → number (value a) ≡ Some i → number (value b) ≡ Some j → (i ≡ j → ⊥) →
       FailsToBe value (InventingAll number)
   inventing-all-fails number a b i j e e' differ f w m = differ (w a b i j (ap number (m a) ∙ e) (ap number (m b) ∙ e'))
 

@@ -1,4 +1,7 @@
 -- The wrong ways of the calls that write nothing, by the example's index, which is good and has `boats` as its entry 0.
+use Rattle.std.specs.Prelude.{Result, Ok, Err}
+use Rattle.list.specs.declared.probe.Probe.{Probe}
+use Rattle.refusal.specs.declared.Refusal.{Refusal}
 use Prim.Native.Nat.{ℕ}
 use native.Mathlib.Omega.{arith}
 use mathlib.Core.Path.{◌≡◌, refl, ap}
@@ -14,11 +17,6 @@ use Rattle.index.specs.Format.{entry_place, word_start, word_length, list_start,
 use Rattle.index.specs.Check.{check_of}
 use Rattle.directory.specs.Standing.{below_within, word_place, standing_of}
 use Rattle.directory.specs.Entry.{lookup_after, lookup_of, entry_after, entry_check, number_after, bad_range, range_answer, probe_after, probe_of}
-use Rattle.index.specs.declared.Checked.TheVariants.{Good}
-use Rattle.directory.specs.declared.Standing.TheVariants.{Here, Absent}
-use Rattle.directory.specs.declared.Lookup.TheVariants.{NoEntry}
-use Rattle.directory.specs.declared.Probed.{Probed}
-use Rattle.directory.specs.declared.Probed.TheVariants.{Counted}
 use Rattle.question.specs.Token.{run, gather, tokens_at, tokens}
 use Rattle.question.specs.Grammar.{from_left, question, operand, links, whole}
 use Rattle.question.specs.Reading.{is_foreign, refusal_of, parsed, asked, verdict_of}
@@ -33,27 +31,27 @@ check-refusing = refusing-all-fails check_of check_refused example (ap check_ref
 
 pub lookup-refusing : FailsToBe lookup (RefusingAll lookup_refused)
 unfolding same first_from first entry_place word_start word_length word_of standing_of lookup_of
-lookup-refusing = refusing-all-fails lookup lookup_refused (example, boats) (ap (λ g. lookup_refused (lookup_after g (Here 0))) example-good)
+lookup-refusing = refusing-all-fails lookup lookup_refused (example, boats) (ap (λ g. lookup_refused (lookup_after g (Ok 0))) example-good)
 
 -- no bytes stand before all words, and `pier` behind `maps`
 abbrev Places : Type 0
-Places = (lookup (example, []) ≡ NoEntry (NoWord 0)) × (lookup (example, pier) ≡ NoEntry (NoWord 3))
+Places = (lookup (example, []) ≡ Err (NoWord 0)) × (lookup (example, pier) ≡ Err (NoWord 3))
 
 places : Places
 unfolding same before first_from first entry_place word_start word_length word_of below_within word_place standing_of lookup_of
 places = (
-  ap (λ g. lookup_after g (Absent 0)) example-good,
-  ap (λ g. lookup_after g (Absent 3)) example-good,
+  ap (λ g. lookup_after g (Err 0)) example-good,
+  ap (λ g. lookup_after g (Err 3)) example-good,
 )
 
 pub lookup-inventing-place : FailsToBe lookup (InventingAll place_in)
 lookup-inventing-place =
     inventing-all-fails lookup place_in (example, []) (example, pier) 0 3 (ap place_in places.0) (ap place_in places.1) (λ e. omega arith)
 
-abbrev pub counted : ℕ → ℕ → Probed
-counted below overlapping = Counted (record { below = below; overlapping = overlapping })
+abbrev pub counted : ℕ → ℕ → Result Probe Refusal
+counted below overlapping = Ok (record { below = below; overlapping = overlapping })
 
-entry-good : entry_check example 0 ≡ Good
+entry-good : entry_check example 0 ≡ (Ok tt)
 unfolding entry_check
 entry-good = ap (λ g. entry_after g true) example-good
 

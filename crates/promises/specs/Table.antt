@@ -1,8 +1,9 @@
 -- Reference 12: P1 to P13 as one table, and what it is for it to be right.
+use Rattle.std.specs.Prelude.{Result, Ok, Err}
+use Rattle.list.specs.declared.answer.Tally.{Tally}
+use Rattle.refusal.specs.declared.Refusal.{Refusal}
 use Rattle.std.specs.Prelude.{ℕ, ◌≡◌, List, [], ◌∷◌, ◌++◌}
 use Rattle.refusal.specs.declared.Refusal.TheVariants.{Grammar}
-use Rattle.list.specs.declared.answer.Answer.{Answer}
-use Rattle.list.specs.declared.answer.Answer.TheVariants.{Listed, Refused}
 use Rattle.list.specs.Ginix.{union_of, intersection_of, below_count, overlap_count}
 use Rattle.source.specs.Ask.{Asks}
 use Rattle.promises.specs.Example.{boats, harbour, maps, tide, tables, pier, and', or', not', example}
@@ -10,7 +11,7 @@ use Rattle.promises.specs.Example.{boats, harbour, maps, tide, tables, pier, and
 -- Reference 12: a rule's number and a question over the example's index with its answer and the four lent cells afterwards; lists with their union or
 -- intersection; a range and a list with how many of its intervals lie below and overlap
 pub data Row : Type 0 where
-  line : ℕ → List ℕ → Answer → List ℕ → Row
+  line : ℕ → List ℕ → Result Tally Refusal → List ℕ → Row
   union intersection : List (List ℕ) → List ℕ → Row
   probe : ℕ → ℕ → List ℕ → ℕ → ℕ → Row
 
@@ -27,8 +28,8 @@ abbrev pub AllRight : List Row → Type 0
 AllRight [] = Unit {0}
 AllRight (r ∷ rs) = Right r × AllRight rs
 
-abbrev pub tallied : ℕ → ℕ → Answer
-tallied intervals records = Listed (record { intervals = intervals; records = records })
+abbrev pub tallied : ℕ → ℕ → Result Tally Refusal
+tallied intervals records = Ok (record { intervals = intervals; records = records })
 
 -- Reference 12: P1 to P7 are the example's questions; P8 and P9 unions of lists that touch and that do not; P10 and P11 intersections, of which one is empty;
 -- P12 is a probe; P13 is P4 by the second rule
@@ -39,7 +40,7 @@ table =
     ∷ line 1 (harbour ++ and' ++ maps ++ not' ++ tide) (tallied 1 2) (6 ∷ 7 ∷ 0 ∷ 0 ∷ [])
     ∷ line 1 (boats ++ or' ++ harbour ++ and' ++ maps) (tallied 1 2) (6 ∷ 7 ∷ 0 ∷ 0 ∷ [])
     ∷ line 1 (boats ++ or' ++ 40 ∷ (harbour ++ and' ++ maps ++ 41 ∷ [])) (tallied 2 6) (2 ∷ 4 ∷ 6 ∷ 8 ∷ [])
-    ∷ line 1 (tide ++ 32 ∷ tables) (Refused (Grammar 5)) lent
+    ∷ line 1 (tide ++ 32 ∷ tables) (Err (Grammar 5)) lent
     ∷ line 1 pier (tallied 0 0) lent
     ∷ union ((1 ∷ 3 ∷ []) ∷ (4 ∷ 5 ∷ []) ∷ []) (1 ∷ 5 ∷ [])
     ∷ union ((1 ∷ 3 ∷ []) ∷ (5 ∷ 6 ∷ []) ∷ []) (1 ∷ 3 ∷ 5 ∷ 6 ∷ [])

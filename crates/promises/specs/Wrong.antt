@@ -1,24 +1,14 @@
 -- Reference 11: what an implementation of a call is, when it meets the promise, and the kinds of which none does.
+use Rattle.std.specs.Prelude.{Result, Ok, Err, Option, None, Some}
+use Rattle.list.specs.declared.answer.Tally.{Tally}
+use Rattle.list.specs.declared.probe.Probe.{Probe}
 use Rattle.std.specs.Prelude.{ℕ, ◌+◌, ◌≡◌, Bool, true, false, cond, List, [], ◌∷◌, eqb, get_or, take}
-use Rattle.std.proofs.Math.Option.{Option, none, some}
 use Rattle.refusal.specs.declared.Refusal.{Refusal}
 use Rattle.refusal.specs.Refusal.{number_of, value_of}
-use Rattle.list.specs.declared.Written.{Written}
-use Rattle.list.specs.declared.Written.TheVariants as written
-use Rattle.list.specs.declared.answer.Answer.{Answer}
-use Rattle.list.specs.declared.answer.Answer.TheVariants as answer
 use Rattle.convert.specs.Convert.{ToIntervals, ToNumbers}
-use Rattle.index.specs.declared.Checked.{Checked}
-use Rattle.index.specs.declared.Checked.TheVariants as checked
-use Rattle.directory.specs.declared.Lookup.{Lookup}
-use Rattle.directory.specs.declared.Lookup.TheVariants.{Entry, NoEntry}
-use Rattle.directory.specs.declared.Probed.{Probed}
-use Rattle.directory.specs.declared.Probed.TheVariants.{Counted, NoCount}
 use Rattle.index.specs.Part.{Slice}
 use Rattle.directory.specs.Entry.{lookup_of, entry_check, entry_word, probe_of}
 use Rattle.join.specs.Join.{Joins}
-use Rattle.question.specs.declared.reader.Verdict.{Verdict}
-use Rattle.question.specs.declared.reader.Verdict.TheVariants as reading
 use Rattle.question.specs.Token.{run, tokens}
 use Rattle.question.specs.Reading.{verdict_of}
 use Rattle.question.specs.Limits.{token_words}
@@ -51,38 +41,38 @@ FailsToBe {A} {R} value wrong = (f : A → R) → wrong f → Equals value f →
 
 -- ---- the promises, each from its arguments: Reference 8
 
-abbrev pub to_intervals : Promise (List ℕ) Written
+abbrev pub to_intervals : Promise (List ℕ) (Result ℕ Refusal)
 to_intervals xs out out' r = ToIntervals xs out out' r
 
-abbrev pub to_numbers : Promise (List ℕ) Written
+abbrev pub to_numbers : Promise (List ℕ) (Result ℕ Refusal)
 to_numbers c out out' r = ToNumbers c out out' r
 
 -- Reference 8.5: an index, and entries of it
-abbrev pub joins : (List (List ℕ) → List ℕ) → Promise (List ℕ × List ℕ) Answer
+abbrev pub joins : (List (List ℕ) → List ℕ) → Promise (List ℕ × List ℕ) (Result Tally Refusal)
 joins method a out out' r = Joins method a.0 a.1 out out' r
 
 -- Reference 8.6: an index, a rule's number, and a question
-abbrev pub asks : Promise (List ℕ × ℕ × List ℕ) Answer
+abbrev pub asks : Promise (List ℕ × ℕ × List ℕ) (Result Tally Refusal)
 asks a out out' r = Asks a.1 a.0 a.2 out out' r
 
 -- Reference 8.10: a rule's number, and a question
-abbrev pub reads : ℕ × List ℕ → Verdict
+abbrev pub reads : ℕ × List ℕ → Result ℕ Refusal
 reads a = verdict_of a.0 a.1
 
 -- Reference 8.9: N, the words, the counts and the numbers
-abbrev pub builds : Promise (ℕ × List ℕ × List ℕ × List ℕ) Written
+abbrev pub builds : Promise (ℕ × List ℕ × List ℕ × List ℕ) (Result ℕ Refusal)
 builds a out out' r = Builds a.0 a.1 a.2 a.3 out out' r
 
-abbrev pub lookup : List ℕ × List ℕ → Lookup
+abbrev pub lookup : List ℕ × List ℕ → Result ℕ Refusal
 lookup a = lookup_of a.0 a.1
 
-abbrev pub entry : List ℕ × ℕ → Checked
+abbrev pub entry : List ℕ × ℕ → Result Unit Refusal
 entry a = entry_check a.0 a.1
 
 abbrev pub word : Slice × ℕ → Slice
 word a = entry_word a.0 a.1
 
-abbrev pub probe : List ℕ × ℕ × ℕ × ℕ → Probed
+abbrev pub probe : List ℕ × ℕ × ℕ × ℕ → Result Probe Refusal
 probe a = probe_of a.0 a.1 a.2 a.3
 
 -- ---- the kinds: Reference 11
@@ -117,10 +107,10 @@ RuleBlind f = (index question out : List ℕ) → f (index, 1, question) out ≡
 
 -- Reference 11: wherever it reports the number, it is the same
 abbrev pub Inventing : {A R : Type 0} → (R → Option ℕ) → Writer A R → Type 0
-Inventing {A} number f = (a b : A) (out : List ℕ) (m n : ℕ) → number (f a out).0 ≡ some m → number (f b out).0 ≡ some n → m ≡ n
+Inventing {A} number f = (a b : A) (out : List ℕ) (m n : ℕ) → number (f a out).0 ≡ Some m → number (f b out).0 ≡ Some n → m ≡ n
 
 abbrev pub InventingAll : {A R : Type 0} → (R → Option ℕ) → (A → R) → Type 0
-InventingAll {A} number f = (a b : A) (m n : ℕ) → number (f a) ≡ some m → number (f b) ≡ some n → m ≡ n
+InventingAll {A} number f = (a b : A) (m n : ℕ) → number (f a) ≡ Some m → number (f b) ≡ Some n → m ≡ n
 
 -- Reference 11: or somewhere it does not report the number that is promised
 pub record Misreporting {A R : Type 0} (promise : Promise A R) (number : R → Option ℕ) (f : Writer A R) : Type 0 where
@@ -133,21 +123,21 @@ pub record Misreporting {A R : Type 0} (promise : Promise A R) (number : R → O
 
 -- ---- what is a refusal: Reference 7
 
-abbrev pub written_refused : Written → Bool
-written_refused (written.Wrote n) = false
-written_refused (written.Refused r) = true
+abbrev pub written_refused : Result ℕ Refusal → Bool
+written_refused (Ok n) = false
+written_refused (Err r) = true
 
-abbrev pub answer_refused : Answer → Bool
-answer_refused (answer.Listed t) = false
-answer_refused (answer.Refused r) = true
+abbrev pub answer_refused : Result Tally Refusal → Bool
+answer_refused (Ok t) = false
+answer_refused (Err r) = true
 
-abbrev pub check_refused : Checked → Bool
-check_refused checked.Good = false
-check_refused (checked.Refused r) = true
+abbrev pub check_refused : Result Unit Refusal → Bool
+check_refused (Ok tt) = false
+check_refused (Err r) = true
 
-abbrev pub lookup_refused : Lookup → Bool
-lookup_refused (Entry i) = false
-lookup_refused (NoEntry r) = true
+abbrev pub lookup_refused : Result ℕ Refusal → Bool
+lookup_refused (Ok i) = false
+lookup_refused (Err r) = true
 
 -- Reference 8.3: a word has a byte, so that an empty part is a refusal
 abbrev pub word_refused : List ℕ → Bool
@@ -157,13 +147,13 @@ word_refused (b ∷ bs) = false
 abbrev pub part_refused : Slice → Bool
 part_refused part = word_refused part.bytes
 
-abbrev pub probe_refused : Probed → Bool
-probe_refused (Counted p) = false
-probe_refused (NoCount r) = true
+abbrev pub probe_refused : Result Probe Refusal → Bool
+probe_refused (Ok p) = false
+probe_refused (Err r) = true
 
-abbrev pub verdict_refused : Verdict → Bool
-verdict_refused (reading.Accepted k) = false
-verdict_refused (reading.Refused r) = true
+abbrev pub verdict_refused : Result ℕ Refusal → Bool
+verdict_refused (Ok k) = false
+verdict_refused (Err r) = true
 
 -- ---- the first alone: Reference 11
 
@@ -184,42 +174,42 @@ first_built a = (a.0, take (run a.1 + 1) a.1, take 1 a.2, take (get_or a.2 0 0) 
 
 -- ---- the numbers that a call reports, where it reports them: Reference 7
 
-abbrev pub intervals_in : Answer → Option ℕ
-intervals_in (answer.Listed t) = some t.intervals
-intervals_in (answer.Refused r) = none
+abbrev pub intervals_in : Result Tally Refusal → Option ℕ
+intervals_in (Ok t) = Some t.intervals
+intervals_in (Err r) = None
 
-abbrev pub records_in : Answer → Option ℕ
-records_in (answer.Listed t) = some t.records
-records_in (answer.Refused r) = none
+abbrev pub records_in : Result Tally Refusal → Option ℕ
+records_in (Ok t) = Some t.records
+records_in (Err r) = None
 
 -- Reference 9.1: the value of row k
 abbrev pub value_by : ℕ → Refusal → Option ℕ
-value_by k r = cond (eqb (number_of r) k) (some (value_of r)) none
+value_by k r = cond (eqb (number_of r) k) (Some (value_of r)) None
 
 -- Reference 9.1, row 12: the room that is needed
-abbrev pub needed_in : Answer → Option ℕ
-needed_in (answer.Listed t) = none
-needed_in (answer.Refused r) = value_by 12 r
+abbrev pub needed_in : Result Tally Refusal → Option ℕ
+needed_in (Ok t) = None
+needed_in (Err r) = value_by 12 r
 
 -- Reference 7: how many were written, intervals, numbers or bytes
-abbrev pub written_in : Written → Option ℕ
-written_in (written.Wrote n) = some n
-written_in (written.Refused r) = none
+abbrev pub written_in : Result ℕ Refusal → Option ℕ
+written_in (Ok n) = Some n
+written_in (Err r) = None
 
-abbrev pub needed_by : Written → Option ℕ
-needed_by (written.Wrote n) = none
-needed_by (written.Refused r) = value_by 12 r
+abbrev pub needed_by : Result ℕ Refusal → Option ℕ
+needed_by (Ok n) = None
+needed_by (Err r) = value_by 12 r
 
 -- Reference 9.1, row 21: how many words stand before bytes that are no entry's word
-abbrev pub place_in : Lookup → Option ℕ
-place_in (Entry i) = none
-place_in (NoEntry r) = value_by 21 r
+abbrev pub place_in : Result ℕ Refusal → Option ℕ
+place_in (Ok i) = None
+place_in (Err r) = value_by 21 r
 
 -- Reference 3.3: the intervals that lie below a probed range, and those that overlap it
-abbrev pub below_in : Probed → Option ℕ
-below_in (Counted p) = some p.below
-below_in (NoCount r) = none
+abbrev pub below_in : Result Probe Refusal → Option ℕ
+below_in (Ok p) = Some p.below
+below_in (Err r) = None
 
-abbrev pub overlapping_in : Probed → Option ℕ
-overlapping_in (Counted p) = some p.overlapping
-overlapping_in (NoCount r) = none
+abbrev pub overlapping_in : Result Probe Refusal → Option ℕ
+overlapping_in (Ok p) = Some p.overlapping
+overlapping_in (Err r) = None

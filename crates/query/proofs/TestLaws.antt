@@ -8,6 +8,7 @@ use lib.ListN.{length, replicate, length-replicate}
 use borrow.Rule.Slice.PartMut.{mid_of, mid_len}
 use Rattle.list.specs.declared.answer.Tally.{Tally}
 use Rattle.list.specs.Interval.{records}
+use Rattle.list.specs.declared.sense.Sense.{Sense}
 use Rattle.list.specs.Sense.{Steady}
 use Rattle.list.specs.Sweeps.{HasRoom, Sweeps}
 use Rattle.list.specs.Stretches.{turned, cells_of, records_from}
@@ -22,6 +23,7 @@ use Rattle.window.specs.Flips.{odd, flips}
 use Rattle.window.proofs.SweepLaws.{window-part, jump-part}
 use Rattle.senses.specs.declared.look.Look.{Look}
 use Rattle.evaluate.specs.declared.eval.Step.{Step}
+use Rattle.codes.specs.declared.code.Code.{Code}
 use Rattle.codes.specs.Code.{word_codes}
 use Rattle.codes.specs.Reads.{as_level}
 use Rattle.senses.specs.Senses.{Known}
@@ -36,18 +38,18 @@ use Rattle.slots.proofs.SlotLaws.{slots-none}
 -- ---- the codes read as t
 
 -- its words are the codes that are a word's
-pub tree-words : (codes : List ℕ) (t : Tree) → TreeOf codes t → length (tree_words t) ≡ word_codes codes
+pub tree-words : (codes : List Code) (t : Tree) → TreeOf codes t → length (tree_words t) ≡ word_codes codes
 unfolding token_words
 tree-words codes t o =
     let w = subst (Words tree_words 0 o.toks) o.reads (question-words from_left from-left-keeps o.fuel grouped_brackets 0 o.toks) in
     sym (ap length (w.0 ∙ append-nil (tree_words t))) ∙ sym (codes-words o.toks) ∙ ap word_codes o.are
 
-module _ {codes : List ℕ} {t : Tree} (o : TreeOf codes t) where
+module _ {codes : List Code} {t : Tree} (o : TreeOf codes t) where
   pub tree-holds : {v : ℕ → ℕ → Bool} {ws : List ℕ} {x : ℕ} {r : Step} → Evaluated (as_level grouped_brackets) codes (record { code = 0; slot = 0 }) v x ws r →
       Holds (test_of v t) x ws
   tree-holds e = (e.reads o.fuel o.toks t [] o.words o.are o.reads).4
 
-  pub tree-steady : (v : ℕ → ℕ → Bool) (slots x : ℕ) {senses : List ℕ} {r : Look} → slots ≡ word_codes codes → Known v senses slots x →
+  pub tree-steady : (v : ℕ → ℕ → Bool) (slots x : ℕ) {senses : List Sense} {r : Look} → slots ≡ word_codes codes → Known v senses slots x →
       Looks (as_level grouped_brackets 0) codes 0 0 senses r → Steady (test_of v t) x r.inside r.until
   tree-steady v slots x all known e =
       (e.reads o.fuel o.toks t [] o.words o.are o.reads).4 v slots x (omega (arith, tree-words codes t o)) known

@@ -1,7 +1,7 @@
 // The driver: from record 1 to the highest it jumps where the answer stays as it is for long, and else works on a window.
 ghost use Rattle.std.specs.Prelude.{◌≡◌, ◌≤◌, length};
 ghost use Rattle.limits.specs.Limits.{record_max};
-ghost use Rattle.slots.specs.Row.{senses_in, SlotsStay, HintsMoved};
+ghost use Rattle.slots.specs.Row.{SlotsStay, HintsMoved};
 ghost use Rattle.slots.specs.Having.{having, ReadBy};
 ghost use Rattle.senses.specs.Senses.{Sensed};
 ghost use Rattle.window.specs.Tuning.{window_most};
@@ -19,13 +19,13 @@ ghost use Rattle.query.specs.Drive.{
   Tallies,
 };
 
+use codes::code::Code;
 use codes::group::GROUPED_BRACKETS;
 use evaluate::eval::{Step, eval_level};
 use list::answer::Tally;
-use list::sense::smaller;
 use senses::kept::renew_senses;
 use senses::look::{Look, look_level};
-use slots::row::forget_senses;
+use slots::row::{Indexes, Row};
 use window::fill::clear;
 use window::members::count_members;
 use window::steps::{Done, put_flips, put_turn, take_jump};
@@ -63,28 +63,27 @@ fn doubled(width: usize) -> usize
 }
 
 // Passes the records of a window: the question is evaluated for them, and the window's cells are put.
-fn take_window<'a>(
-    codes: &[u8],
-    main: &'a [u8],
-    arrivals: &'a [u8],
-    row: &mut [usize],
+fn take_window(
+    codes: &[Code],
+    over: Indexes<'_>,
+    row: &mut Row,
     at: At,
     ws: &mut [u64],
     writing: bool,
     out: &mut [u32],
 ) -> Done
-    requires lends { ReadBy main.now arrivals.now row.old }
-    requires sensed { Sensed (having main.now arrivals.now row.old) (senses_in row.old) at.x }
+    requires lends { ReadBy over.main.now over.arrivals.now row.old }
+    requires sensed { Sensed (having over.main.now over.arrivals.now row.old) row.old.senses at.x }
     requires within { WindowAt ws.old at }
-    requires room { Roomy codes.now (having main.now arrivals.now row.old) at.x writing at.cells out.old }
+    requires room { Roomy codes.now (having over.main.now over.arrivals.now row.old) at.x writing at.cells out.old }
     ensures moved { HintsMoved row.old row.new }
     ensures long { length ws.new ≡ length ws.old }
-    ensures steps { TakesWindow codes.now (having main.now arrivals.now row.old) writing at out.old out.new result }
+    ensures steps { TakesWindow codes.now (having over.entry.main.now over.entry.arrivals.now row.old) writing at out.old out.new result }
 {
     let x = at.x;
     clear(ws);
     let start = Step { code: 0, slot: 0 };
-    eval_level(codes, start, GROUPED_BRACKETS, main, arrivals, x, row, ws);
+    eval_level(codes, start, GROUPED_BRACKETS, over, x, row, ws);
     let cells = put_flips(ws, x, at.cells, writing, out);
     Done {
         cells,
@@ -93,52 +92,44 @@ fn take_window<'a>(
 }
 
 // What the question says of record x, by the senses of its words, which have the first slots.
-fn look_at<'a>(
-    codes: &[u8],
-    main: &'a [u8],
-    arrivals: &'a [u8],
-    row: &mut [usize],
-    slots: usize,
-    x: u32,
-) -> Look
-    requires lends { ReadBy main.now arrivals.now row.old }
+fn look_at(codes: &[Code], over: Indexes<'_>, row: &mut Row, slots: usize, x: u32) -> Look
+    requires lends { ReadBy over.main.now over.arrivals.now row.old }
     requires near { x ≤ record_max }
-    requires slotted { Slotted codes.now (having main.now arrivals.now row.old) (senses_in row.old) slots x }
+    requires slotted { Slotted codes.now (having over.main.now over.arrivals.now row.old) row.old.senses slots x }
     ensures slots { SlotsStay row.old row.new }
-    ensures sensed { Sensed (having main.now arrivals.now row.old) (senses_in row.new) x }
-    ensures steady { LooksAt codes.now (having main.now arrivals.now row.old) x result }
+    ensures sensed { Sensed (having over.entry.main.now over.entry.arrivals.now row.old) row.new.senses x }
+    ensures steady { LooksAt codes.now (having over.entry.main.now over.entry.arrivals.now row.old) x result }
 {
-    renew_senses(main, arrivals, row, slots, x);
+    renew_senses(over, row, slots, x);
     look_level(codes, 0, 0, GROUPED_BRACKETS, row)
 }
 
 // One step from where the driver stands.
-fn step<'a>(
-    codes: &[u8],
-    main: &'a [u8],
-    arrivals: &'a [u8],
-    row: &mut [usize],
+fn step(
+    codes: &[Code],
+    over: Indexes<'_>,
+    row: &mut Row,
     pass: Pass,
     at: At,
     ws: &mut [u64],
     out: &mut [u32],
 ) -> At
-    requires lends { ReadBy main.now arrivals.now row.old }
+    requires lends { ReadBy over.main.now over.arrivals.now row.old }
     requires window { length ws.old ≡ window_most }
-    requires slotted { Slotted codes.now (having main.now arrivals.now row.old) (senses_in row.old) pass.slots at.x }
+    requires slotted { Slotted codes.now (having over.main.now over.arrivals.now row.old) row.old.senses pass.slots at.x }
     requires stands { Stands pass.n at }
-    requires room { Roomy codes.now (having main.now arrivals.now row.old) at.x pass.writing at.cells out.old }
+    requires room { Roomy codes.now (having over.main.now over.arrivals.now row.old) at.x pass.writing at.cells out.old }
     ensures slots { SlotsStay row.old row.new }
     ensures long { length ws.new ≡ length ws.old }
-    ensures sensed { Sensed (having main.now arrivals.now row.old) (senses_in row.new) result.x }
+    ensures sensed { Sensed (having over.entry.main.now over.entry.arrivals.now row.old) row.new.senses result.x }
     ensures some { 1 ≤ result.width }
     ensures most { result.width ≤ window_most }
-    ensures moves { Moves codes.now (having main.now arrivals.now row.old) pass at out.old out.new result }
+    ensures moves { Moves codes.now (having over.entry.main.now over.entry.arrivals.now row.old) pass at out.old out.new result }
 {
     let Pass { n, slots, writing } = pass;
     let x = at.x;
-    let sight = look_at(codes, main, arrivals, row, slots, x);
-    let y = smaller(sight.until, n + 1);
+    let sight = look_at(codes, over, row, slots, x);
+    let y = sight.until.min(n + 1);
     if x + FAR <= y {
         let done = take_jump(sight.inside, x, y, at.cells, at.records, writing, out);
         return At {
@@ -150,9 +141,9 @@ fn step<'a>(
     }
     let width = at.width;
     let part = &mut ws[0..width];
-    let done = take_window(codes, main, arrivals, row, at, part, writing, out);
+    let done = take_window(codes, over, row, at, part, writing, out);
     At {
-        x: smaller(x + 64 * width as u32, n + 1),
+        x: (x + 64 * width as u32).min(n + 1),
         width: doubled(width),
         cells: done.cells,
         records: done.records,
@@ -160,22 +151,21 @@ fn step<'a>(
 }
 
 // Passes the records from 1 to n, and closes the stretch that is still open there.
-fn sweep<'a>(
-    codes: &[u8],
-    main: &'a [u8],
-    arrivals: &'a [u8],
-    row: &mut [usize],
+fn sweep(
+    codes: &[Code],
+    over: Indexes<'_>,
+    row: &mut Row,
     pass: Pass,
     ws: &mut [u64],
     out: &mut [u32],
 ) -> Tally
-    requires lends { ReadBy main.now arrivals.now row.old }
+    requires lends { ReadBy over.main.now over.arrivals.now row.old }
     requires window { length ws.old ≡ window_most }
-    requires ends { Ends (having main.now arrivals.now row.old) pass.n }
-    requires slotted { Slotted codes.now (having main.now arrivals.now row.old) (senses_in row.old) pass.slots 1 }
-    requires room { Fits codes.now (having main.now arrivals.now row.old) pass out.old }
+    requires ends { Ends (having over.main.now over.arrivals.now row.old) pass.n }
+    requires slotted { Slotted codes.now (having over.main.now over.arrivals.now row.old) row.old.senses pass.slots 1 }
+    requires room { Fits codes.now (having over.main.now over.arrivals.now row.old) pass out.old }
     ensures slots { SlotsStay row.old row.new }
-    ensures tallies { Tallies codes.now (having main.now arrivals.now row.old) pass out.old out.new result }
+    ensures tallies { Tallies codes.now (having over.entry.main.now over.entry.arrivals.now row.old) pass out.old out.new result }
 {
     let mut at = At {
         x: 1,
@@ -183,8 +173,9 @@ fn sweep<'a>(
         cells: 0,
         records: 0,
     };
+    // no `for`: the place moves by the jump or the window taken, not by one
     while at.x <= pass.n {
-        at = step(codes, main, arrivals, row, pass, at, ws, out);
+        at = step(codes, over, row, pass, at, ws, out);
     }
     let cells = put_turn(false, at.x, at.cells, pass.writing, out);
     Tally {
@@ -194,21 +185,20 @@ fn sweep<'a>(
 }
 
 // Counts the intervals and the records of a question's answer, and writes the intervals where the pass is to write.
-pub fn sweep_question<'a>(
-    codes: &[u8],
-    main: &'a [u8],
-    arrivals: &'a [u8],
-    row: &mut [usize],
+pub fn sweep_question(
+    codes: &[Code],
+    over: Indexes<'_>,
+    row: &mut Row,
     pass: Pass,
     out: &mut [u32],
 ) -> Tally
-    requires asked { AskedBy codes.now main.now arrivals.now row.old pass.slots }
-    requires ends { Ends (having main.now arrivals.now row.old) pass.n }
-    requires room { Fits codes.now (having main.now arrivals.now row.old) pass out.old }
+    requires asked { AskedBy codes.now over.main.now over.arrivals.now row.old pass.slots }
+    requires ends { Ends (having over.main.now over.arrivals.now row.old) pass.n }
+    requires room { Fits codes.now (having over.main.now over.arrivals.now row.old) pass out.old }
     ensures slots { SlotsStay row.old row.new }
-    ensures tallies { Tallies codes.now (having main.now arrivals.now row.old) pass out.old out.new result }
+    ensures tallies { Tallies codes.now (having over.entry.main.now over.entry.arrivals.now row.old) pass out.old out.new result }
 {
-    forget_senses(row);
+    row.forget_senses();
     let mut ws: [u64; MOST] = [0; MOST];
-    sweep(codes, main, arrivals, row, pass, &mut ws, out)
+    sweep(codes, over, row, pass, &mut ws, out)
 }

@@ -7,7 +7,7 @@ use mathlib.Core.Bool.{Bool, true, false}
 use lib.ListN.{length}
 use lib.Dec.{ltb, eqb}
 use borrow.Author.Tests.{ltb-true, ltb-false, eqb-true, eqb-false}
-use Rattle.question.specs.declared.token.Op.{Op}
+use Rattle.word.specs.declared.Op.{Op}
 use Rattle.question.specs.Token.{choose, Tok, word_t, op_t, open_t, close_t, other_t}
 use Rattle.question.specs.Limits.{token_words, deepest, open_after}
 use Rattle.question.specs.Walk.{Stand, operand_next, operator_next, Pass, goes, refused, pass, Walked, reached, stopped, onward, walk, to_end, walk_all, fresh}

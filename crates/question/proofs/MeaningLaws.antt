@@ -6,8 +6,8 @@ use mathlib.Core.List.{List, [], ◌++◌}
 use mathlib.Core.Bool.{Bool, true, false}
 use lib.ListN.{length, get_or, length-append, get_or-append}
 use lib.Seq.{get_or-append-add}
-use Rattle.question.specs.declared.token.Op.{Op}
-use Rattle.question.specs.declared.token.Op.TheVariants.{And, Or, Not}
+use Rattle.word.specs.declared.Op.{Op}
+use Rattle.word.specs.declared.Op.TheVariants.{And, Or, Not}
 use Rattle.question.specs.Grammar.{Tree, word, pair, part, tree_words}
 use Rattle.question.specs.Meaning.{combine, satisfies}
 

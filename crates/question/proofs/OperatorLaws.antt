@@ -7,11 +7,10 @@ use mathlib.Core.Bool.{Bool, true, false}
 use lib.Dec.{eqb}
 use lib.ListN.{length, get_or}
 use Rattle.word.specs.Word.{is_word_byte, all_word_bytes, operator_of, is_operator}
-use Rattle.word.specs.declared.Operator.{Operator}
-use Rattle.word.specs.declared.Operator.TheVariants.{And, Or, Not, Neither}
+use Rattle.std.specs.Prelude.{Option, Some, None}
 use Rattle.word.proofs.WordLaws.{bytes-none, bytes_next}
 use Rattle.word.proofs.SpellingLaws.{neither-none}
-use Rattle.question.specs.declared.token.Op.TheVariants as op
+use Rattle.word.specs.declared.Op.{Op}
 use Rattle.question.specs.Token.{choose, Tok, word_t, op_t, open_t, close_t, other_t, run_tok, flush, mark, gather, tokens_at, tokens}
 use Rattle.question.specs.Limits.{token_words}
 use Rattle.question.specs.Grammar.{Tree, Rule, tree_words}
@@ -24,14 +23,12 @@ use Rattle.question.proofs.MeaningLaws.{satisfies-words}
 -- ---- what holds of no tokens, and still holds with one more before them, holds of a question's tokens
 
 module _ (Q : List Tok → Type 0) (none : Q [])
-    (word : (w : List ℕ) (p : ℕ) (ts : List Tok) → all_word_bytes w ≡ true → operator_of w ≡ Neither → Q ts → Q (word_t w p ∷ ts))
+    (word : (w : List ℕ) (p : ℕ) (ts : List Tok) → all_word_bytes w ≡ true → operator_of w ≡ None → Q ts → Q (word_t w p ∷ ts))
     (other : (t : Tok) (ts : List Tok) → token_words (t ∷ ts) ≡ token_words ts → Q ts → Q (t ∷ ts)) where
-  run_holds : (o : Operator) (w : List ℕ) (p : ℕ) (ts : List Tok) → all_word_bytes w ≡ true → operator_of w ≡ o → Q ts → Q (run_tok o w p ∷ ts)
+  run_holds : (o : Option Op) (w : List ℕ) (p : ℕ) (ts : List Tok) → all_word_bytes w ≡ true → operator_of w ≡ o → Q ts → Q (run_tok o w p ∷ ts)
   unfolding token_words
-  run_holds And w p ts b e h = other (op_t op.And p) ts refl h
-  run_holds Or w p ts b e h = other (op_t op.Or p) ts refl h
-  run_holds Not w p ts b e h = other (op_t op.Not p) ts refl h
-  run_holds Neither w p ts b e h = word w p ts b e h
+  run_holds (Some o) w p ts b e h = other (op_t o p) ts refl h
+  run_holds None w p ts b e h = word w p ts b e h
 
   flush-holds : (start : ℕ) (acc : List ℕ) (ts : List Tok) → all_word_bytes acc ≡ true → Q ts → Q (flush start acc ts)
   flush-holds start [] ts b h = h

@@ -10,23 +10,23 @@ use Prim.Native.Nat.{ℕ, ◌+◌, ◌*◌, ◌≤◌, ◌<◌}
 use native.Mathlib.Omega.{arith}
 use mathlib.Core.Path.{◌≡◌, refl, sym, ap, ◌∙◌}
 use mathlib.Core.List.{List, [], ◌∷◌}
-use mathlib.Core.Bool.{Bool, true, false}
+use mathlib.Core.Bool.{Bool, true, false, cond}
 use mathlib.Core.Logic.{inl, inr}
 use lib.ListN.{length}
-use lib.Dec.{ltb}
+use lib.Dec.{ltb, eqb}
 use borrow.Author.Tests.{ltb-false, le-ltb}
 use Rattle.laws.proofs.Tests.{by-test}
 use Rattle.refusal.specs.First.{first}
 use Rattle.refusal.specs.Refusal.{number_of, value_of}
-use Rattle.refusal.specs.declared.Found.{Found}
-use Rattle.refusal.specs.declared.Found.TheVariants.{At, Nowhere}
+use Rattle.std.specs.Prelude.{Option, Some, None, Result, Ok, Err}
 use Rattle.refusal.specs.declared.Refusal.{Refusal}
 use Rattle.refusal.specs.declared.Refusal.TheVariants.{QuestionLength, QuestionByte, QuestionWord, Grammar, Words, Brackets, RuleNumber}
-use Rattle.question.specs.declared.reader.Verdict.{Verdict}
-use Rattle.question.specs.declared.reader.Verdict.TheVariants.{Accepted, Refused}
+use Rattle.question.specs.declared.rule.Rule as names
+use Rattle.question.specs.declared.rule.Rule.TheVariants.{FromLeft, AndFirst}
 use Rattle.question.specs.Token.{choose, Tok, tokens}
-use Rattle.question.specs.Grammar.{Tree, Rule, Out, good, bad, bind, question, ended, whole}
+use Rattle.question.specs.Grammar.{Tree, Rule, Out, good, bad, bind, from_left, question, ended, whole}
 use Rattle.question.specs.Rules.{is_rule, rule_of}
+use Rattle.question.specs.Named.{named}
 use Rattle.question.specs.Limits.{WithinLimits}
 use Rattle.question.specs.Reading.{Parsed, parses, refuses, foreign_at, long_at, token_place, refusal_of, outcome, unless, parsed, asked, answer, verdict_of}
 use Rattle.question.specs.Walk.{operator_next, Walked, reached, stopped, walk, walk_all, fresh, verdict}
@@ -45,12 +45,12 @@ data Call (s : List ℕ) (o a : Parsed) : Type 0 where
   late : Faultless s → a ≡ o → Call s o a
 
 module _ (s : List ℕ) (o : Parsed) where
-  call_step : (b : Bool) (f g : Found) → ltb 256 (length s) ≡ b → first (foreign_at s) (length s) ≡ f → first (long_at s) (length s) ≡ g →
+  call_step : (b : Bool) (f g : Option ℕ) → ltb 256 (length s) ≡ b → first (foreign_at s) (length s) ≡ f → first (long_at s) (length s) ≡ g →
       Call s o (choose b (λ _. refuses (QuestionLength (length s))) (λ _. unless f QuestionByte (λ _. unless g QuestionWord (λ _. o))))
   call_step true f g eb ef eg = early (QuestionLength (length s)) (omega arith) refl
-  call_step false (At i) g eb ef eg = early (QuestionByte i) (omega arith) refl
-  call_step false Nowhere (At i) eb ef eg = early (QuestionWord i) (omega arith) refl
-  call_step false Nowhere Nowhere eb ef eg = late (record { bytes = ltb-false 256 (length s) eb; proper = ef; short = eg }) refl
+  call_step false (Some i) g eb ef eg = early (QuestionByte i) (omega arith) refl
+  call_step false None (Some i) eb ef eg = early (QuestionWord i) (omega arith) refl
+  call_step false None None eb ef eg = late (record { bytes = ltb-false 256 (length s) eb; proper = ef; short = eg }) refl
 
 module _ (rule : Rule) (s : List ℕ) where
   call : Call s (outcome (length s) (whole rule s)) (parsed rule s)
@@ -169,9 +169,9 @@ module _ (rule : Rule) (s : List ℕ) (p : ℕ) where
 -- ---- two rules accept and refuse alike
 
 -- what is answered, by the walk
-abbrev said : ℕ → Walked ℕ → Verdict
-said len (reached k) = Accepted k
-said len (stopped c r) = Refused (refusal_of c (token_place len r))
+abbrev said : ℕ → Walked ℕ → Result ℕ Refusal
+said len (reached k) = Ok k
+said len (stopped c r) = Err (refusal_of c (token_place len r))
 
 outcome-said : (len : ℕ) (o : Out Tree) → answer (outcome len o) ≡ said len (verdict o)
 outcome-said len (good t r k) = refl
@@ -184,36 +184,41 @@ pub answer-any-rule : (rule rule' : Rule) (s : List ℕ) → answer (parsed rule
 unfolding parsed
 answer-any-rule rule rule' s = go (ltb 256 (length s)) (first (foreign_at s) (length s)) (first (long_at s) (length s))
   where
-    go : (b : Bool) (f g : Found) →
+    go : (b : Bool) (f g : Option ℕ) →
         answer (choose b (λ _. refuses (QuestionLength (length s)))
         (λ _. unless f QuestionByte (λ _. unless g QuestionWord (λ _. outcome (length s) (whole rule s))))) ≡
         answer (choose b (λ _. refuses (QuestionLength (length s)))
         (λ _. unless f QuestionByte (λ _. unless g QuestionWord (λ _. outcome (length s) (whole rule' s)))))
     go true f g = refl
-    go false (At i) g = refl
-    go false Nowhere (At i) = refl
-    go false Nowhere Nowhere = whole-said rule s ∙ sym (whole-said rule' s)
+    go false (Some i) g = refl
+    go false None (Some i) = refl
+    go false None None = whole-said rule s ∙ sym (whole-said rule' s)
 
 -- ---- from what the call answers
 
-answer-accepted : (a : Parsed) (n : ℕ) → answer a ≡ Accepted n → (t : Tree) × (a ≡ parses t n)
+answer-accepted : (a : Parsed) (n : ℕ) → answer a ≡ Ok n → (t : Tree) × (a ≡ parses t n)
 answer-accepted (parses t k) n h = let q : k ≡ n = cc in (t, rw q)
 answer-accepted (refuses r) n h = zero_one (cc)
 
-answer-refused : (a : Parsed) (r : Refusal) → answer a ≡ Refused r → a ≡ refuses r
+answer-refused : (a : Parsed) (r : Refusal) → answer a ≡ Err r → a ≡ refuses r
 answer-refused (parses t k) r h = zero_one (cc)
 answer-refused (refuses q) r h = let w : q ≡ r = cc in rw w
 
 module _ (rule : ℕ) (s : List ℕ) where
-  pub verdict-accepted : (n : ℕ) → verdict_of rule s ≡ Accepted n → (t : Tree) × (asked rule s ≡ parses t n)
+  pub verdict-accepted : (n : ℕ) → verdict_of rule s ≡ Ok n → (t : Tree) × (asked rule s ≡ parses t n)
   unfolding verdict_of
   verdict-accepted n h = answer-accepted (asked rule s) n h
 
-  pub verdict-refused : (r : Refusal) → verdict_of rule s ≡ Refused r → asked rule s ≡ refuses r
+  pub verdict-refused : (r : Refusal) → verdict_of rule s ≡ Err r → asked rule s ≡ refuses r
   unfolding verdict_of
   verdict-refused r h = answer-refused (asked rule s) r h
 
 -- ---- by the number of a rule
+
+-- what is answered of a question that is read, where the number names a rule
+abbrev pub after : Result names.Rule Refusal → Result ℕ Refusal → Result ℕ Refusal
+after (Ok name) read = read
+after (Err refusal) read = Err refusal
 
 module _ (rule : ℕ) (s : List ℕ) where
   pub asked-reads : is_rule rule ≡ true → asked rule s ≡ parsed (rule_of rule) s
@@ -229,9 +234,19 @@ module _ (rule : ℕ) (s : List ℕ) where
   unfolding verdict_of
   verdict-reads h = ap answer (asked-reads h)
 
-  pub verdict-else : is_rule rule ≡ false → verdict_of rule s ≡ Refused (RuleNumber rule)
+  pub verdict-else : is_rule rule ≡ false → verdict_of rule s ≡ Err (RuleNumber rule)
   unfolding verdict_of
   verdict-else h = ap answer (asked-else h)
+
+  -- the reading by the first rule, where the number names a rule
+  pub verdict_named : verdict_of rule s ≡ after (named rule) (answer (parsed from_left s))
+  verdict_named = go (eqb rule 1) (eqb rule 2) refl refl
+    where
+      go : (a b : Bool) → eqb rule 1 ≡ a → eqb rule 2 ≡ b →
+          verdict_of rule s ≡ after (cond a (Ok FromLeft) (cond b (Ok AndFirst) (Err (RuleNumber rule)))) (answer (parsed from_left s))
+      go true b e f = verdict-reads (rw e) ∙ answer-any-rule (rule_of rule) from_left s
+      go false true e f = verdict-reads (rw (e, f)) ∙ answer-any-rule (rule_of rule) from_left s
+      go false false e f = verdict-else (rw (e, f))
 
   pub asked-parsed : (t : Tree) (n : ℕ) → asked rule s ≡ parses t n → (is_rule rule ≡ true) × (parsed (rule_of rule) s ≡ parses t n)
   asked-parsed t n h = by-test (is_rule rule) (λ e. (e, sym (asked-reads e) ∙ h)) (λ e. let z = sym (asked-else e) ∙ h in zero_one (cc))

@@ -5,8 +5,8 @@ use mathlib.Core.List.{List, [], ◌∷◌, ◌++◌, append_assoc, append-nil}
 use mathlib.Core.Bool.{Bool, true, false, cond, ◌||◌, or-false, or_assoc}
 use lib.Dec.{eqb}
 use borrow.Author.Tests.{eq-eqb, ne_eqb}
-use Rattle.question.specs.declared.token.Op.{Op}
-use Rattle.question.specs.declared.token.Op.TheVariants.{And, Or, Not}
+use Rattle.word.specs.declared.Op.{Op}
+use Rattle.word.specs.declared.Op.TheVariants.{And, Or, Not}
 use Rattle.question.specs.Grammar.{Tree, pair, Link, link, Rule, from_left, tree_words}
 use Rattle.question.specs.Rules.{first_group, later_groups, and_first, rule_of}
 use Rattle.question.specs.Meaning.{combine, satisfies, Same, SameLinks, none, more, Respects}

@@ -10,10 +10,9 @@ use lib.ListN.{length, get_or, drop}
 use lib.Dec.{ltb, eqb}
 use borrow.Author.Tests.{ltb-false, le-ltb}
 use Rattle.word.specs.Word.{is_word_byte, operator_of}
-use Rattle.word.specs.declared.Operator.{Operator}
-use Rattle.word.specs.declared.Operator.TheVariants.{And, Or, Not, Neither}
+use Rattle.word.specs.declared.Op.{Op}
 use Rattle.refusal.specs.First.{first}
-use Rattle.refusal.specs.declared.Found.TheVariants.{Nowhere}
+use Rattle.std.specs.Prelude.{Option, Some, None}
 use Rattle.refusal.proofs.FirstLaws.{first-none, first-none-is}
 use Rattle.question.specs.Token.{choose, run, Tok, word_t, op_t, open_t, close_t, other_t, run_tok, flush, mark, gather, tokens_at, tokens}
 use Rattle.question.specs.Grammar.{Tree, word, Link, link, Rule, Out, good, bad, bind, closed, question, operand, links}
@@ -26,10 +25,10 @@ use Rattle.question.proofs.RunLaws.{run_end}
 abbrev pub Proper : List ℕ → Type 0
 Proper s = (i : ℕ) → i < length s → is_foreign (get_or s i 0) ≡ false
 
-pub none-proper : (s : List ℕ) → first (foreign_at s) (length s) ≡ Nowhere → Proper s
+pub none-proper : (s : List ℕ) → first (foreign_at s) (length s) ≡ None → Proper s
 none-proper s h = first-none (foreign_at s) (length s) h
 
-pub proper-none : (s : List ℕ) → Proper s → first (foreign_at s) (length s) ≡ Nowhere
+pub proper-none : (s : List ℕ) → Proper s → first (foreign_at s) (length s) ≡ None
 proper-none s h = first-none-is (foreign_at s) (length s) h
 
 proper-front : (p : List ℕ) (c : ℕ) (t : List ℕ) → Proper (p ++ c ∷ t) → Proper p
@@ -52,14 +51,14 @@ proper-join (x ∷ p) c t e h k (suc i) l = proper-join p c t e (λ j m. h (suc 
 abbrev pub Short : List ℕ → Type 0
 Short s = (i : ℕ) → run (drop i s) ≤ 32
 
-pub none-short : (s : List ℕ) → first (long_at s) (length s) ≡ Nowhere → Short s
+pub none-short : (s : List ℕ) → first (long_at s) (length s) ≡ None → Short s
 none-short s h i = go (dec_le (length s) i)
   where
     go : Dec (length s ≤ i) → run (drop i s) ≤ 32
     go (yes d) = omega (arith, run_end s i d)
     go (no d) = ltb-false 32 (run (drop i s)) (first-none (long_at s) (length s) h i (lt_of_not-le d))
 
-pub short_none : (s : List ℕ) → Short s → first (long_at s) (length s) ≡ Nowhere
+pub short_none : (s : List ℕ) → Short s → first (long_at s) (length s) ≡ None
 short_none s h = first-none-is (long_at s) (length s) (λ i l. le-ltb 32 (run (drop i s)) (h i))
 
 module _ (c : ℕ) (breaks : is_word_byte c ≡ false) where
@@ -174,11 +173,9 @@ module _ (rule : Rule) where
 
 -- ---- the tokens do not depend on where they are gathered
 
-bare-run : (o : Operator) (w : List ℕ) (p q : ℕ) → bare (run_tok o w p) ≡ bare (run_tok o w q)
-bare-run And w p q = refl
-bare-run Or w p q = refl
-bare-run Not w p q = refl
-bare-run Neither w p q = refl
+bare-run : (o : Option Op) (w : List ℕ) (p q : ℕ) → bare (run_tok o w p) ≡ bare (run_tok o w q)
+bare-run (Some o) w p q = refl
+bare-run None w p q = refl
 
 bare-flush : (p q : ℕ) (acc : List ℕ) (a b : List Tok) → bares a ≡ bares b → bares (flush p acc a) ≡ bares (flush q acc b)
 bare-flush p q [] a b e = e

@@ -11,8 +11,8 @@ use lib.Dec.{eqb}
 use borrow.Author.Tests.{eqb-true}
 use Rattle.laws.proofs.Lists.{drop-next, drop-none}
 use Rattle.word.specs.Word.{is_word_byte, operator_of}
-use Rattle.word.specs.declared.Operator.TheVariants as w
-use Rattle.question.specs.declared.token.Op.TheVariants as op
+use Rattle.std.specs.Prelude.{Some, None}
+use Rattle.word.specs.declared.Op as op
 use Rattle.question.specs.declared.token.Token.{Token}
 use Rattle.question.specs.declared.token.Token.TheVariants.{End, Word, Op, Open, Close, Other}
 use Rattle.question.specs.Token.{cut, run, spaces, run_tok, mark, gather, tokens_at}
@@ -145,14 +145,8 @@ module _ {s : List ℕ} {at p : ℕ} (is : p ≡ at + spaces (drop at s)) where
 
 -- a run, by what the operator's test found
 module _ (s : List ℕ) (p q : ℕ) (inside : q ≤ length s) where
-  pub run-and : operator_of (cut s p q) ≡ w.And → IsRun s p q (Op op.And p q)
-  run-and e = (rw e, λ h. (omega arith, h, inside))
+  pub run-op : {o : op.Op} → operator_of (cut s p q) ≡ Some o → IsRun s p q (Op o p q)
+  run-op e = (rw e, λ h. (omega arith, h, inside))
 
-  pub run-or : operator_of (cut s p q) ≡ w.Or → IsRun s p q (Op op.Or p q)
-  run-or e = (rw e, λ h. (omega arith, h, inside))
-
-  pub run-not : operator_of (cut s p q) ≡ w.Not → IsRun s p q (Op op.Not p q)
-  run-not e = (rw e, λ h. (omega arith, h, inside))
-
-  pub run-word : operator_of (cut s p q) ≡ w.Neither → IsRun s p q (Word p q)
+  pub run-word : operator_of (cut s p q) ≡ None → IsRun s p q (Word p q)
   run-word e = (rw e, λ h. (omega arith, h, inside))

@@ -6,7 +6,7 @@ use mathlib.Core.List.{List, [], ◌∷◌, ◌++◌, append_assoc, append-nil}
 use mathlib.Core.Bool.{Bool, true, false}
 use lib.ListN.{length, length-append}
 use lib.Dec.{ltb, eqb}
-use Rattle.question.specs.declared.token.Op.{Op}
+use Rattle.word.specs.declared.Op.{Op}
 use Rattle.question.specs.Token.{choose, Tok, word_t, op_t, open_t, close_t, other_t, tokens}
 use Rattle.question.specs.Grammar.{Tree, word, Link, link, Rule, Out, good, bad, bind, closed, question, operand, links, tree_words}
 use Rattle.question.specs.Reading.{parses, parsed}

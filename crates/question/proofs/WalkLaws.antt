@@ -8,7 +8,7 @@ use lib.ListN.{length}
 use lib.Dec.{ltb, eqb}
 use borrow.Author.Tests.{eqb-true, eqb-false, lt-ltb, le-ltb, ne_eqb}
 use Rattle.word.specs.Word.{is_word_byte}
-use Rattle.question.specs.declared.token.Op.{Op}
+use Rattle.word.specs.declared.Op.{Op}
 use Rattle.question.specs.Token.{choose, Tok, word_t, op_t, open_t, close_t, other_t, flush, mark, gather, tokens_at, tokens}
 use Rattle.question.specs.Grammar.{Tree, word, Link, link, Rule, Out, good, bad, bind, closed, question, operand, links, ended, whole}
 use Rattle.question.specs.Walk.{Stand, operand_next, operator_next, stopped, walk, walk_all, fresh, verdict}

@@ -1,7 +1,7 @@
 -- Reference 6.2: the reading of a question, from its tokens to its tree.
 use Rattle.std.specs.Prelude.{ℕ, zero, suc, ◌+◌, ◌-◌, ◌*◌, List, [], ◌∷◌, ◌++◌, length, ltb, eqb}
 use Rattle.limits.specs.Limits.{brackets_max, question_words_max}
-use Rattle.question.specs.declared.token.Op.{Op}
+use Rattle.word.specs.declared.Op.{Op}
 use Rattle.question.specs.Token.{choose, Tok, word_t, op_t, open_t, close_t, other_t, tokens}
 
 -- Reference 6.3: what a question asks, a word's records, two sides under an operator, or a part that stood in brackets

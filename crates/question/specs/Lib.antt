@@ -1,6 +1,7 @@
 pub mod Token
 pub mod Grammar
 pub mod Rules
+pub mod Named
 pub mod Meaning
 pub mod Reading
 pub mod Limits

@@ -1,7 +1,7 @@
 -- Reference 6.3: which records satisfy a question, by its tree.
 use Rattle.std.specs.Prelude.{ℕ, ◌≡◌, Bool, not, ◌&&◌, ◌||◌, List, [], ◌∷◌}
-use Rattle.question.specs.declared.token.Op.{Op}
-use Rattle.question.specs.declared.token.Op.TheVariants.{And, Or, Not}
+use Rattle.word.specs.declared.Op.{Op}
+use Rattle.word.specs.declared.Op.TheVariants.{And, Or, Not}
 use Rattle.question.specs.Grammar.{Tree, word, pair, part, Link, link, Rule}
 
 -- Reference 6.3: what an operator makes of its two sides

@@ -1,15 +1,11 @@
 -- Reference 9.2, question: the refusals 22 and 6 to 11 in their order, or the question's tree.
-use Rattle.std.specs.Prelude.{ℕ, List, [], ◌∷◌, Bool, not, cond, ◌||◌, length, get_or, drop, ltb, eqb}
+use Rattle.std.specs.Prelude.{ℕ, List, [], ◌∷◌, Bool, not, cond, ◌||◌, length, get_or, drop, ltb, eqb, Option, Some, None, Result, Ok, Err}
 use Rattle.limits.specs.Limits.{question_max, word_max}
 use Rattle.word.specs.Word.{is_word_byte}
 use Rattle.refusal.specs.First.{first}
 use Rattle.refusal.specs.Refusal.{number_of, value_of}
-use Rattle.refusal.specs.declared.Found.{Found}
-use Rattle.refusal.specs.declared.Found.TheVariants.{At, Nowhere}
 use Rattle.refusal.specs.declared.Refusal.{Refusal}
 use Rattle.refusal.specs.declared.Refusal.TheVariants.{QuestionLength, QuestionByte, QuestionWord, Grammar, Words, Brackets, RuleNumber}
-use Rattle.question.specs.declared.reader.Verdict.{Verdict}
-use Rattle.question.specs.declared.reader.Verdict.TheVariants.{Accepted, Refused}
 use Rattle.question.specs.Token.{choose, run, Tok, word_t, op_t, open_t, close_t, other_t}
 use Rattle.question.specs.Grammar.{Tree, Rule, Out, good, bad, whole}
 use Rattle.question.specs.Rules.{is_rule, rule_of}
@@ -49,9 +45,9 @@ outcome len (good t r k) = parses t k
 outcome len (bad number r) = refuses (refusal_of number (token_place len r))
 
 -- Reference 9.2: the refusal where there is a place for it, else what comes next
-abbrev pub unless : Found → (ℕ → Refusal) → (Unit {0} → Parsed) → Parsed
-unless (At i) fault next = refuses (fault i)
-unless Nowhere fault next = next tt
+abbrev pub unless : Option ℕ → (ℕ → Refusal) → (Unit {0} → Parsed) → Parsed
+unless (Some i) fault next = refuses (fault i)
+unless None fault next = next tt
 
 -- Reference 9.2: each refusal is asked of the whole question before the next one is; the last three are met by reading it
 unfoldable pub parsed : Rule → List ℕ → Parsed
@@ -66,14 +62,14 @@ unfoldable pub asked : ℕ → List ℕ → Parsed
 asked rule s = choose (is_rule rule) (λ _. parsed (rule_of rule) s) (λ _. refuses (RuleNumber rule))
 
 -- Reference 8.10: what the call answers
-abbrev pub answer : Parsed → Verdict
-answer (parses t k) = Accepted k
-answer (refuses refusal) = Refused refusal
+abbrev pub answer : Parsed → Result ℕ Refusal
+answer (parses t k) = Ok k
+answer (refuses refusal) = Err refusal
 
-unfoldable pub verdict_of : ℕ → List ℕ → Verdict
+unfoldable pub verdict_of : ℕ → List ℕ → Result ℕ Refusal
 verdict_of rule s = answer (asked rule s)
 
 -- Reference 8.10: the answer as two numbers, 0 and how many words, or the refusal's number and value
-abbrev pub verdict_result : Verdict → ℕ × ℕ
-verdict_result (Accepted words) = (0, words)
-verdict_result (Refused refusal) = (number_of refusal, value_of refusal)
+abbrev pub verdict_result : Result ℕ Refusal → ℕ × ℕ
+verdict_result (Ok words) = (0, words)
+verdict_result (Err refusal) = (number_of refusal, value_of refusal)

@@ -1,6 +1,6 @@
 -- Reference 6.3: the two rules by which what stands in a row is grouped, and their numbers.
 use Rattle.std.specs.Prelude.{ℕ, Bool, cond, ◌||◌, List, [], ◌∷◌, eqb}
-use Rattle.question.specs.declared.token.Op.TheVariants.{And, Or, Not}
+use Rattle.word.specs.declared.Op.TheVariants.{And, Or, Not}
 use Rattle.question.specs.Grammar.{Tree, pair, Link, link, Rule, from_left}
 
 -- Reference 6.3, rule 2: the first group of a row, all that stands before its first `or`, grouped from the left

@@ -1,8 +1,7 @@
 -- Reference 9.1, rows 9 to 11, said by the walk (proved of the reading in proofs/StopLaws.antt, and of the call in ParsedLaws.antt).
-use Rattle.std.specs.Prelude.{ℕ, ◌≤◌, ◌≡◌, List, ◌∷◌, ◌++◌, ◌⊎◌, length}
+use Rattle.std.specs.Prelude.{ℕ, ◌≤◌, ◌≡◌, List, ◌∷◌, ◌++◌, ◌⊎◌, length, None}
 use Rattle.limits.specs.Limits.{brackets_max, question_max, question_words_max}
 use Rattle.refusal.specs.First.{first}
-use Rattle.refusal.specs.declared.Found.TheVariants.{Nowhere}
 use Rattle.question.specs.Token.{Tok, word_t, open_t, tokens}
 use Rattle.question.specs.Limits.{token_words, open_after}
 use Rattle.question.specs.Reading.{foreign_at, long_at, token_place}
@@ -44,8 +43,8 @@ pub record BracketTooMany (ts r : List Tok) : Type 0 where
 -- Reference 9.2: 6, 7 and 8 do not hold
 pub record Faultless (s : List ℕ) : Type 0 where
   pub bytes : length s ≤ question_max
-  pub proper : first (foreign_at s) (length s) ≡ Nowhere
-  pub short : first (long_at s) (length s) ≡ Nowhere
+  pub proper : first (foreign_at s) (length s) ≡ None
+  pub short : first (long_at s) (length s) ≡ None
 
 -- Reference 9.2: the walk over the question s stops so, at place p, and no earlier refusal holds
 pub record StopsAt (Stop : List Tok → List Tok → Type 0) (s : List ℕ) (p : ℕ) : Type 0 where

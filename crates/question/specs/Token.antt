@@ -1,10 +1,7 @@
 -- Reference 6.1: the tokens of a question.
-use Rattle.std.specs.Prelude.{ℕ, suc, ◌+◌, ◌-◌, List, [], ◌∷◌, ◌++◌, Bool, true, false, take, drop, eqb}
+use Rattle.std.specs.Prelude.{ℕ, suc, ◌+◌, ◌-◌, List, [], ◌∷◌, ◌++◌, Bool, true, false, take, drop, eqb, Option, Some, None}
 use Rattle.word.specs.Word.{is_word_byte, operator_of}
-use Rattle.word.specs.declared.Operator.{Operator}
-use Rattle.word.specs.declared.Operator.TheVariants.{And, Or, Not, Neither}
-use Rattle.question.specs.declared.token.Op.{Op}
-use Rattle.question.specs.declared.token.Op.TheVariants as op
+use Rattle.word.specs.declared.Op.{Op}
 
 -- by a test, with each side computed only where it is taken
 abbrev pub choose : {A : Type 0} → Bool → (Unit {0} → A) → (Unit {0} → A) → A
@@ -30,12 +27,10 @@ pub data Tok : Type 0 where
   op_t : Op → ℕ → Tok
   open_t close_t other_t : ℕ → Tok
 
--- Reference 6.1: what a run is, by the operator that its bytes are
-abbrev pub run_tok : Operator → List ℕ → ℕ → Tok
-run_tok And w p = op_t op.And p
-run_tok Or w p = op_t op.Or p
-run_tok Not w p = op_t op.Not p
-run_tok Neither w p = word_t w p
+-- Reference 6.1: what a run is, by the operator that its bytes are, if they are one
+abbrev pub run_tok : Option Op → List ℕ → ℕ → Tok
+run_tok (Some o) w p = op_t o p
+run_tok None w p = word_t w p
 
 -- Reference 6.1: the run that has been gathered, if there is one, before the tokens behind it
 abbrev pub flush : ℕ → List ℕ → List Tok → List Tok

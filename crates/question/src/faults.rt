@@ -5,7 +5,6 @@ ghost use Rattle.question.specs.Reading.{is_foreign, foreign_at, long_at};
 
 use super::token::run_end;
 use limits::WORD_MAX;
-use refusal::Found;
 
 // Whether a byte has no place in a question.
 fn is_foreign(b: u8) -> bool
@@ -14,33 +13,27 @@ fn is_foreign(b: u8) -> bool
     !(word::word_byte(b) | (b == 32) | (b == 40) | (b == 41))
 }
 
-pub fn first_foreign(s: &[u8]) -> Found
+pub fn first_foreign(s: &[u8]) -> Option<usize>
     ensures { result ≡ first (foreign_at s.now) (length s.now) }
 {
-    let mut i = 0;
-    while i < s.len() {
-        if is_foreign(s[i]) {
-            return Found::At(i);
-        }
-        i += 1;
-    }
-    Found::Nowhere
+    s.iter().position(|&b| is_foreign(b))
 }
 
 // The start of the first run of more than 32 word bytes; each run is passed once.
-pub fn first_long(s: &[u8]) -> Found
+pub fn first_long(s: &[u8]) -> Option<usize>
     ensures { result ≡ first (long_at s.now) (length s.now) }
 {
     let mut i = 0;
+    // no `for`: the place moves by the run found, not by one
     while i < s.len() {
         let end = run_end(s, i);
         if end - i > WORD_MAX {
-            return Found::At(i);
+            return Some(i);
         }
         if s.len() <= end {
-            return Found::Nowhere;
+            return None;
         }
         i = end + 1;
     }
-    Found::Nowhere
+    None
 }

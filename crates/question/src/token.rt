@@ -3,14 +3,7 @@ ghost use Rattle.std.specs.Prelude.{◌≡◌, ◌+◌, ◌≤◌, length, drop}
 ghost use Rattle.question.specs.Token.{run, spaces};
 ghost use Rattle.question.specs.Next.{NextToken, IsRun, start_of, end_of};
 
-use word::Operator;
-
-#[derive(Clone, Copy)]
-pub enum Op {
-    And,
-    Or,
-    Not,
-}
+pub use word::Op;
 
 // A token with its start, and with the place behind it where it may be longer than one byte; the end, with the length.
 #[derive(Clone, Copy)]
@@ -29,14 +22,11 @@ pub fn run_end(s: &[u8], at: usize) -> usize
     ensures ends { result ≡ at + run (drop at s.now) }
     ensures inside { result ≤ length s.now }
 {
-    let mut i = at;
-    while i < s.len() {
-        if !word::word_byte(s[i]) {
-            return i;
-        }
-        i += 1;
-    }
-    i
+    let rest = &s[at..];
+    at + rest
+        .iter()
+        .position(|&b| !word::word_byte(b))
+        .unwrap_or(rest.len())
 }
 
 // The first place from `at` on where no space stands.
@@ -45,14 +35,8 @@ fn past_spaces(s: &[u8], at: usize) -> usize
     ensures ends { result ≡ at + spaces (drop at s.now) }
     ensures inside { result ≤ length s.now }
 {
-    let mut i = at;
-    while i < s.len() {
-        if s[i] != 32 {
-            return i;
-        }
-        i += 1;
-    }
-    i
+    let rest = &s[at..];
+    at + rest.iter().position(|&b| b != b' ').unwrap_or(rest.len())
 }
 
 // The run from `start` to `end` is an operator or a word.
@@ -62,10 +46,8 @@ fn run_token(s: &[u8], start: usize, end: usize) -> Token
     ensures { IsRun s.now start end result }
 {
     match word::operator_of(&s[start..end]) {
-        Operator::And => Token::Op(Op::And, start, end),
-        Operator::Or => Token::Op(Op::Or, start, end),
-        Operator::Not => Token::Op(Op::Not, start, end),
-        Operator::Neither => Token::Word(start, end),
+        Some(op) => Token::Op(op, start, end),
+        None => Token::Word(start, end),
     }
 }
 

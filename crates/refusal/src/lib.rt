@@ -30,13 +30,6 @@ pub enum Refusal {
     RuleNumber(u32),
 }
 
-// What a search for the first place of a fault finds.
-#[derive(Clone, Copy)]
-pub enum Found {
-    At(usize),
-    Nowhere,
-}
-
 // Reference 9.1: the refusal's number.
 pub fn number_of(refusal: Refusal) -> u64
     ensures { result ≡ number_of refusal }

@@ -8,34 +8,19 @@ use crate::part::{behind, front};
 use crate::text::put_text;
 use parts::part_end;
 
-fn put_cell(bytes: &mut [u8], at: usize, value: u64)
-    requires { at + 4 ≤ length bytes.old }
-    ensures { length bytes.new ≡ length bytes.old }
-{
-    bytes[at] = (value % 256) as u8;
-    bytes[at + 1] = (value / 256 % 256) as u8;
-    bytes[at + 2] = (value / 65536 % 256) as u8;
-    bytes[at + 3] = (value / 16777216 % 256) as u8;
-}
-
 // Puts k cells from `from` on, as far as there is room: where they end.
 fn put_run(bytes: &mut [u8], from: usize, first: u32, step: u32, k: u64) -> usize
     ensures { length bytes.new ≡ length bytes.old }
 {
     let mut at = from;
-    let mut value = first as u64;
-    let mut left = k;
-    while 0 < left {
-        if bytes.len() < at {
+    let mut value = first;
+    for _ in 0..k {
+        if bytes.len().saturating_sub(at) < 4 {
             return at;
         }
-        if bytes.len() - at < 4 {
-            return at;
-        }
-        put_cell(bytes, at, value);
+        bytes[at..at + 4].copy_from_slice(&value.to_le_bytes());
         at += 4;
-        value = (value + step as u64) % 4294967296;
-        left -= 1;
+        value = value.wrapping_add(step);
     }
     at
 }
@@ -51,6 +36,7 @@ fn put_cells(s: &[u8], bytes: &mut [u8], from: usize)
 {
     let mut place = from;
     let mut at = 0;
+    // no `for`: the place goes on behind the part that ends next, and std's `split` has one more part behind a last comma
     while at < s.len() {
         let end = part_end(s, at, b',');
         let part = &s[at..end];
@@ -73,15 +59,12 @@ fn put_item(item: &[u8], bytes: &mut [u8])
     put_text(front(behind(item, b'"'), b'"'), bytes, place);
 }
 
-// Lays the items into the bytes.
+// Lays the items into the bytes; an empty item lays nothing.
 fn lay(s: &[u8], bytes: &mut [u8])
     ensures { length bytes.new ≡ length bytes.old }
 {
-    let mut at = 0;
-    while at < s.len() {
-        let end = part_end(s, at, b' ');
-        put_item(&s[at..end], bytes);
-        at = end + 1;
+    for item in s.split(|&b| b == b' ') {
+        put_item(item, bytes);
     }
 }
 
@@ -92,10 +75,8 @@ fn laid_length(s: &[u8], given: usize, most: usize) -> usize
     let said = behind(s, b'#');
     if 0 < said.len() {
         within(said, most)
-    } else if given < most {
-        given
     } else {
-        most
+        given.min(most)
     }
 }
 
@@ -103,14 +84,8 @@ fn laid_length(s: &[u8], given: usize, most: usize) -> usize
 fn copy(from: &[u8], to: &mut [u8])
     ensures { length to.new ≡ length to.old }
 {
-    let mut i = 0;
-    while i < to.len() {
-        if from.len() <= i {
-            return;
-        }
-        to[i] = from[i];
-        i += 1;
-    }
+    let size = from.len().min(to.len());
+    to[..size].copy_from_slice(&from[..size]);
 }
 
 // Lays the items over a copy of `base`, of which `size` bytes count: how many bytes count then. Which bytes the items change is not promised; the

@@ -3,6 +3,7 @@
 
 pub mod lay;
 pub mod number;
+pub mod output;
 pub mod part;
 pub mod run;
 pub mod text;

@@ -9,7 +9,7 @@ use parts::part_end;
 fn no_digit(b: u8) -> bool
     ensures { result ≡ no_digit b }
 {
-    (b < 48) | (57 < b)
+    !b.is_ascii_digit()
 }
 
 fn digit(b: u8) -> u64
@@ -25,13 +25,11 @@ pub fn number(s: &[u8]) -> u64
     ensures small { result < 1000000000000000000 }
 {
     let mut value: u64 = 0;
-    let mut i = 0;
-    while i < s.len() {
-        if no_digit(s[i]) {
+    for &b in s {
+        if no_digit(b) {
             return value;
         }
-        value = (10 * value + digit(s[i])) % 1_000_000_000_000_000_000;
-        i += 1;
+        value = (10 * value + digit(b)) % 1_000_000_000_000_000_000;
     }
     value
 }
@@ -47,8 +45,7 @@ pub fn number32(s: &[u8]) -> u32
 pub fn within(s: &[u8], most: usize) -> usize
     ensures { result ≡ min (number_in s.now) most }
 {
-    let n = number(s) as usize;
-    if n < most { n } else { most }
+    most.min(number(s) as usize)
 }
 
 // The numbers of a field, with a space between, at 32 bits and as many as there is room for: how many that is.
@@ -58,6 +55,7 @@ pub fn read_numbers(s: &[u8], out: &mut [u32]) -> usize
 {
     let mut count = 0;
     let mut at = 0;
+    // no `for`: the place goes on behind the part that ends next, and std's `split` has one more part behind a last space
     while at < s.len() {
         if out.len() <= count {
             return count;

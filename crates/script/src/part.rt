@@ -28,9 +28,9 @@ pub fn behind<'a>(s: &'a [u8], b: u8) -> &'a [u8]
 pub fn field<'a>(line: &'a [u8], k: usize) -> &'a [u8]
     ensures { result.now ≡ field_of k line.now }
 {
-    if k == 0 {
-        front(line, b'|')
-    } else {
-        field(behind(line, b'|'), k - 1)
+    let mut rest = line;
+    for _ in 0..k {
+        rest = behind(rest, b'|');
     }
+    front(rest, b'|')
 }

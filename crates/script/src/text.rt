@@ -49,6 +49,7 @@ pub fn put_text(s: &[u8], out: &mut [u8], from: usize) -> usize
 {
     let mut at = from;
     let mut i = 0;
+    // no `for`: a byte is spelled by one byte of the text, or by three
     while i < s.len() {
         if out.len() <= at {
             return at;

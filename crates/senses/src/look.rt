@@ -1,16 +1,15 @@
 // Whether a record satisfies a question, by its codes and the senses of its slots there, and until which number that stays so.
-ghost use Rattle.std.specs.Prelude.{◌≡◌, ◌≤◌, length, get_or};
-ghost use Rattle.codes.specs.Code.{word_code, no_code};
+ghost use Rattle.std.specs.Prelude.{◌≡◌, ◌≤◌, Some, length, slice_get};
+ghost use Rattle.codes.specs.declared.code.Code.TheVariants as kind;
 ghost use Rattle.codes.specs.Reads.{as_level, as_operand};
-ghost use Rattle.slots.specs.Row.{row_long, senses_in, NearEnd};
 ghost use Rattle.senses.specs.Look.{Looks};
 
 use crate::pair::pair_senses;
-use codes::code::{CLOSE_CODE, OPEN_CODE, WORD_CODE};
-use codes::read::{code_at, is_operator};
+use codes::code::Code;
+use codes::read::{closing_at, opening_at, operator_at, word_at};
 use limits::QUESTION_WORDS_MAX;
 use list::sense::Sense;
-use slots::row::sense_of;
+use slots::row::Row;
 
 // The code and the slot behind what was looked at, and its sense.
 #[derive(Clone, Copy)]
@@ -35,30 +34,20 @@ fn unread(code: usize) -> Look
 
 // The operands of a level, from the left.
 #[cycle(look_level_look_operand_look_part)]
-pub fn look_level(codes: &[u8], i: usize, k: usize, d: usize, row: &[usize]) -> Look
+pub fn look_level(codes: &[Code], i: usize, k: usize, d: usize, row: &Row) -> Look
     requires within { i ≤ length codes.now }
-    requires long { length row.now ≡ row_long }
-    requires near { NearEnd (senses_in row.now) }
-    ensures { Looks (as_level d k) codes.now i k (senses_in row.now) result }
+    ensures { Looks (as_level d k) codes.now i k row.now.senses result }
 {
     let first = look_operand(codes, i, k, d, row);
     let mut at = first.code;
     let mut slot = first.slot;
     let mut inside = first.inside;
     let mut until = first.until;
-    loop {
-        let operator = code_at(codes, at);
-        if !is_operator(operator) {
-            return Look {
-                code: at,
-                slot,
-                inside,
-                until,
-            };
-        }
+    // no `for`: each turn begins where the operand that was read ends
+    while let Some(op) = operator_at(codes, at) {
         let next = look_operand(codes, at + 1, slot, d, row);
         let sense = pair_senses(
-            operator,
+            op,
             Sense { inside, until },
             Sense {
                 inside: next.inside,
@@ -70,23 +59,27 @@ pub fn look_level(codes: &[u8], i: usize, k: usize, d: usize, row: &[usize]) -> 
         slot = next.slot;
         at = next.code;
     }
+    Look {
+        code: at,
+        slot,
+        inside,
+        until,
+    }
 }
 
 // A word, or a level in brackets, of which d may still open. It is small, so that the words of a level are looked at without a call.
 #[cycle(look_level_look_operand_look_part)]
-fn look_operand(codes: &[u8], i: usize, k: usize, d: usize, row: &[usize]) -> Look
+fn look_operand(codes: &[Code], i: usize, k: usize, d: usize, row: &Row) -> Look
     requires within { i ≤ length codes.now }
-    requires long { length row.now ≡ row_long }
-    requires near { NearEnd (senses_in row.now) }
-    ensures { Looks (as_operand d k) codes.now i k (senses_in row.now) result }
+    ensures { Looks (as_operand d k) codes.now i k row.now.senses result }
 {
-    if code_at(codes, i) != WORD_CODE {
+    if !word_at(codes, i) {
         return look_part(codes, i, k, d, row);
     }
     if QUESTION_WORDS_MAX <= k {
         return unread(i);
     }
-    let sense = sense_of(row, k);
+    let sense = row.senses[k];
     Look {
         code: i + 1,
         slot: k + 1,
@@ -97,14 +90,12 @@ fn look_operand(codes: &[u8], i: usize, k: usize, d: usize, row: &[usize]) -> Lo
 
 // A level in brackets.
 #[cycle(look_level_look_operand_look_part)]
-fn look_part(codes: &[u8], i: usize, k: usize, d: usize, row: &[usize]) -> Look
+fn look_part(codes: &[Code], i: usize, k: usize, d: usize, row: &Row) -> Look
     requires within { i ≤ length codes.now }
-    requires long { length row.now ≡ row_long }
-    requires near { NearEnd (senses_in row.now) }
-    requires wordless { get_or codes.now i no_code ≡ word_code → ⊥ }
-    ensures { Looks (as_operand d k) codes.now i k (senses_in row.now) result }
+    requires wordless { slice_get codes.now i ≡ Some kind.Word → ⊥ }
+    ensures { Looks (as_operand d k) codes.now i k row.now.senses result }
 {
-    if code_at(codes, i) != OPEN_CODE {
+    if !opening_at(codes, i) {
         return unread(i);
     }
     if d == 0 {
@@ -112,7 +103,7 @@ fn look_part(codes: &[u8], i: usize, k: usize, d: usize, row: &[usize]) -> Look
     }
     let part = look_level(codes, i + 1, k, d - 1, row);
     let close = part.code;
-    if code_at(codes, close) != CLOSE_CODE {
+    if !closing_at(codes, close) {
         return unread(close);
     }
     Look {

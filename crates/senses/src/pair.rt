@@ -1,8 +1,8 @@
 // Two senses under an operator: what they say together, and how long that stays so.
 ghost use Rattle.senses.specs.Look.{Opposite, Both, Paired};
 
-use codes::code::{AND_CODE, OR_CODE};
 use list::sense::Sense;
+use question::token::Op;
 
 fn opposite(a: Sense) -> Sense
     ensures { Opposite a result }
@@ -35,14 +35,12 @@ fn both(a: Sense, b: Sense) -> Sense
     a
 }
 
-pub fn pair_senses(code: u8, a: Sense, b: Sense) -> Sense
-    ensures { Paired code a b result }
+pub fn pair_senses(op: Op, a: Sense, b: Sense) -> Sense
+    ensures { Paired op a b result }
 {
-    if code == AND_CODE {
-        return both(a, b);
+    match op {
+        Op::And => both(a, b),
+        Op::Or => opposite(both(opposite(a), opposite(b))),
+        Op::Not => both(a, opposite(b)),
     }
-    if code == OR_CODE {
-        return opposite(both(opposite(a), opposite(b)));
-    }
-    both(a, opposite(b))
 }

@@ -12,7 +12,7 @@ use Rattle.index.specs.Format.{word_count}
 use Rattle.index.specs.Sound.{Sound}
 use Rattle.directory.specs.declared.parts.Regions.{Regions}
 use Rattle.directory.specs.Regions.{RegionsOf}
-use Rattle.directory.specs.declared.Standing.TheVariants.{Here, Absent}
+use Rattle.std.specs.Prelude.{Ok, Err}
 use Rattle.directory.specs.Standing.{standing_of}
 use Rattle.directory.proofs.StandingLaws.{stands_at, here-has, absent-has}
 use Rattle.question.specs.declared.token.Token.{Token}
@@ -20,33 +20,36 @@ use Rattle.question.specs.declared.token.Token.TheVariants.{End, Word, Op, Open,
 use Rattle.question.specs.Token.{cut, tokens_at, tokens}
 use Rattle.question.specs.Next.{headed, TokenWithin, NextToken, end_of}
 use Rattle.question.specs.Limits.{token_words}
-use Rattle.codes.specs.Code.{word_code, codes_of, token_code}
+use Rattle.codes.specs.declared.code.Code.{Code}
+use Rattle.codes.specs.declared.code.Code.TheVariants as kind
+use Rattle.codes.specs.Code.{codes_of, token_code}
 use Rattle.slots.specs.declared.row.Entries.{Entries}
-use Rattle.slots.specs.Row.{slots_in, entries_at}
+use Rattle.slots.specs.declared.row.Row.{Row}
+use Rattle.slots.specs.Row.{no_entries, entries_at}
 use Rattle.slots.specs.Having.{half_of}
 use Rattle.slots.specs.Compile.{StandsFor, HalvesStand, HalvesAlone, WritesCodes, FillsSlots}
 use Rattle.slots.proofs.EntriesLaws.{entry-lists, no-entry, one_entry}
-use Rattle.slots.proofs.RowLaws.{no_entries, none-among}
+use Rattle.slots.proofs.RowLaws.{none-among}
 
 -- ---- the entries for a word
 
 module _ (index : List ℕ) (sound : Sound index) (w : List ℕ) where
-  pub here-below : (i : ℕ) → standing_of index w ≡ Here i → i < word_count index
-  here-below i e = (stands_at index sound w (Here i) e).1
+  pub here-below : (i : ℕ) → standing_of index w ≡ Ok i → i < word_count index
+  here-below i e = (stands_at index sound w (Ok i) e).1
 
-  pub entries-here : (i : ℕ) (r : Regions) → standing_of index w ≡ Here i → RegionsOf index i r → StandsFor index w (record { first = i; count = 1; regions = r })
+  pub entries-here : (i : ℕ) (r : Regions) → standing_of index w ≡ Ok i → RegionsOf index i r → StandsFor index w (record { first = i; count = 1; regions = r })
   entries-here i r e marks = record {
     among = record { within = omega (arith, here-below i e); marked = λ h. marks };
     have = λ x. one_entry index i x ∙ entry-lists index i x (here-below i e) ∙ sym (here-has index sound w i x e);
   }
 
-  pub entries-absent : (p : ℕ) → standing_of index w ≡ Absent p → StandsFor index w no_entries
+  pub entries-absent : (p : ℕ) → standing_of index w ≡ Err p → StandsFor index w no_entries
   entries-absent p e = record { among = none-among index; have = λ x. no-entry index 0 x ∙ sym (absent-has index sound w p x e) }
 
 -- ---- the next token
 
 -- a token from `at` up to n puts its code before those behind it
-pub record Coded (s : List ℕ) (at n code : ℕ) : Type 0 where
+pub record Coded (s : List ℕ) (at n : ℕ) (code : Code) : Type 0 where
   pub ahead : at < n
   pub inside : n ≤ length s
   pub codes : codes_of (tokens_at s at) ≡ code ∷ codes_of (tokens_at s n)
@@ -54,7 +57,7 @@ pub record Coded (s : List ℕ) (at n code : ℕ) : Type 0 where
 -- the word from p up to q, or a token that is neither a word nor the end, is the next one
 pub record NextWord (s : List ℕ) (at p q : ℕ) : Type 0 where
   pub lies : TokenWithin at (length s) (Word p q)
-  pub coded : Coded s at q word_code
+  pub coded : Coded s at q kind.Word
   pub words : token_words (tokens_at s at) ≡ cut s p q ∷ token_words (tokens_at s q)
 
 pub record NextOther (s : List ℕ) (at : ℕ) (t : Token) : Type 0 where
@@ -86,10 +89,10 @@ module _ {s : List ℕ} {at : ℕ} where
 
 -- ---- codes and slots, one after the other
 
-write-next : (codes left more all : List ℕ) (n v : ℕ) → n < length codes → left ≡ v ∷ more → take n codes ++ left ≡ all →
+write-next : (codes left more all : List Code) (n : ℕ) (v : Code) → n < length codes → left ≡ v ∷ more → take n codes ++ left ≡ all →
     take (n + 1) (set codes n v) ++ more ≡ all
 write-next codes left more all n v h e w =
-    rw (add-one n, take-suc-set codes n v h) (append_assoc (take n codes) (v ∷ []) more ∙ ap (λ (r : List ℕ). take n codes ++ r) (sym e) ∙ w)
+    rw (add-one n, take-suc-set codes n v h) (append_assoc (take n codes) (v ∷ []) more ∙ ap (λ (r : List Code). take n codes ++ r) (sym e) ∙ w)
 
 drop_head : (l : List (List ℕ)) (k : ℕ) (w : List ℕ) (r : List (List ℕ)) → drop k l ≡ w ∷ r → (k < length l) × (get_or l k [] ≡ w) × (drop (k + 1) l ≡ r)
 drop_head [] zero w r e = absurd (let z : ◌≡◌ {A = ℕ} 0 1 = cc in omega arith)
@@ -103,11 +106,8 @@ drop_head (v ∷ l) (suc k) w r e =
 -- ---- the halves of a slot, one after the other
 
 module _ (main arrivals word : List ℕ) (k : ℕ) where
-  pub halves-none : (slots : List ℕ) → HalvesStand 0 main arrivals word k slots × HalvesAlone 0 k slots slots
-  halves-none slots = (λ half h. absurd (omega arith), λ j free. refl)
-
   -- a range for one half more
-  module _ (half : ℕ) {e : Entries} (slots₀ slots slots' : List ℕ) (kept : entries_at slots' (2 * k + half) ≡ e)
+  module _ (half : ℕ) {e : Entries} (slots₀ slots slots' : List Entries) (kept : entries_at slots' (2 * k + half) ≡ e)
       (others : (i : ℕ) → (i ≡ 2 * k + half → ⊥) → entries_at slots' i ≡ entries_at slots i) where
     pub halves-more : HalvesStand half main arrivals word k slots → StandsFor (half_of main arrivals half) word e →
         HalvesStand (half + 1) main arrivals word k slots'
@@ -123,14 +123,14 @@ module _ (main arrivals word : List ℕ) (k : ℕ) where
 -- ---- the slots, one after the other
 
 -- the halves of the first n slots stand for the words
-abbrev Filled : ℕ → List ℕ → List ℕ → List (List ℕ) → List ℕ → ℕ → Type 0
+abbrev Filled : ℕ → List ℕ → List ℕ → List (List ℕ) → List Entries → ℕ → Type 0
 Filled halves main arrivals words slots n = (k : ℕ) → k < n → HalvesStand halves main arrivals (get_or words k []) k slots
 
 -- and all other ranges stay
-abbrev OthersStay : ℕ → List ℕ → List ℕ → ℕ → Type 0
+abbrev OthersStay : ℕ → List Entries → List Entries → ℕ → Type 0
 OthersStay halves slots slots' n = (j : ℕ) → ((k half : ℕ) → k < n → half < halves → j ≡ 2 * k + half → ⊥) → entries_at slots' j ≡ entries_at slots j
 
-module _ (halves n : ℕ) (both : halves ≤ 2) (slots slots' : List ℕ) (others : HalvesAlone halves n slots slots') where
+module _ (halves n : ℕ) (both : halves ≤ 2) (slots slots' : List Entries) (others : HalvesAlone halves n slots slots') where
   filled_next : (main arrivals : List ℕ) (words : List (List ℕ)) → Filled halves main arrivals words slots n →
       HalvesStand halves main arrivals (get_or words n []) n slots' → Filled halves main arrivals words slots' (n + 1)
   filled_next main arrivals words f new k l half h = go (ℕ_discrete k n)
@@ -139,30 +139,28 @@ module _ (halves n : ℕ) (both : halves ≤ 2) (slots slots' : List ℕ) (other
       go (yes q) = rw q (new half h)
       go (no q) = rw (others (2 * k + half) (λ i g r. q (omega arith))) (f k (leb-cases n k (λ g. absurd (q (omega arith))) (λ g. g)) half h)
 
-  others-next : (slots₀ : List ℕ) → OthersStay halves slots₀ slots n → OthersStay halves slots₀ slots' (n + 1)
+  others-next : (slots₀ : List Entries) → OthersStay halves slots₀ slots n → OthersStay halves slots₀ slots' (n + 1)
   others-next slots₀ s j free = others j (λ half h. free n half (omega arith) h) ∙ s j (λ k half l. free k half (omega arith))
 
 -- ---- the pass
 
 -- before the token at `at`
-pub record Compiling (halves : ℕ) (main arrivals s codes₀ row₀ codes row : List ℕ) (count slots at : ℕ) : Type 0 where
+pub record Compiling (halves : ℕ) (main arrivals s : List ℕ) (codes₀ : List Code) (row₀ : Row) (codes : List Code) (row : Row) (count slots at : ℕ) : Type 0 where
   pub near : count ≤ at
   pub inside : at ≤ length s
   pub codes-long : length codes ≡ length codes₀
-  pub row-long : length row ≡ length row₀
   pub coded : take count codes ++ codes_of (tokens_at s at) ≡ codes_of (tokens s)
   pub some : slots ≤ length (token_words (tokens s))
   pub left : drop slots (token_words (tokens s)) ≡ token_words (tokens_at s at)
-  pub filled : Filled halves main arrivals (token_words (tokens s)) (slots_in row) slots
-  pub others : OthersStay halves (slots_in row₀) (slots_in row) slots
+  pub filled : Filled halves main arrivals (token_words (tokens s)) row.ranges slots
+  pub others : OthersStay halves row₀.ranges row.ranges slots
 
-pub compile-start : (halves : ℕ) (main arrivals s codes row : List ℕ) → Compiling halves main arrivals s codes row codes row 0 0 0
+pub compile-start : (halves : ℕ) (main arrivals s : List ℕ) (codes : List Code) (row : Row) → Compiling halves main arrivals s codes row codes row 0 0 0
 unfolding tokens
 compile-start halves main arrivals s codes row = record {
   near = omega arith;
   inside = omega arith;
   codes-long = refl;
-  row-long = refl;
   coded = refl;
   some = omega arith;
   left = refl;
@@ -170,9 +168,9 @@ compile-start halves main arrivals s codes row = record {
   others = λ j free. refl;
 }
 
-module _ {halves : ℕ} {main arrivals s codes₀ row₀ codes row : List ℕ} {count slots at : ℕ}
+module _ {halves : ℕ} {main arrivals s : List ℕ} {codes₀ : List Code} {row₀ : Row} {codes : List Code} {row : Row} {count slots at : ℕ}
     (c : Compiling halves main arrivals s codes₀ row₀ codes row count slots at) where
-  module _ {n v : ℕ} (room : length s ≤ length codes₀) (next : Coded s at n v) where
+  module _ {n : ℕ} {v : Code} (room : length s ≤ length codes₀) (next : Coded s at n v) where
     code-written : take (count + 1) (set codes count v) ++ codes_of (tokens_at s n) ≡ codes_of (tokens s)
     code-written = write-next codes (codes_of (tokens_at s at)) (codes_of (tokens_at s n)) (codes_of (tokens s)) count v (omega arith) next.codes c.coded
 
@@ -182,7 +180,6 @@ module _ {halves : ℕ} {main arrivals s codes₀ row₀ codes row : List ℕ} {
       near = omega arith;
       inside = next.inside;
       codes-long = length-set codes count v ∙ c.codes-long;
-      row-long = c.row-long;
       coded = code-written;
       some = c.some;
       left = c.left ∙ e;
@@ -191,21 +188,20 @@ module _ {halves : ℕ} {main arrivals s codes₀ row₀ codes row : List ℕ} {
     }
 
     -- the slot's halves are filled, and the row is row'
-    pub compile-word : {w row' : List ℕ} → halves ≤ 2 → token_words (tokens_at s at) ≡ w ∷ token_words (tokens_at s n) → length row' ≡ length row →
-        HalvesStand halves main arrivals w slots (slots_in row') → HalvesAlone halves slots (slots_in row) (slots_in row') →
+    pub compile-word : {w : List ℕ} {row' : Row} → halves ≤ 2 → token_words (tokens_at s at) ≡ w ∷ token_words (tokens_at s n) →
+        HalvesStand halves main arrivals w slots row'.ranges → HalvesAlone halves slots row.ranges row'.ranges →
         Compiling halves main arrivals s codes₀ row₀ (set codes count v) row' (count + 1) (slots + 1) n
-    compile-word {w} {row'} both is long stand others =
+    compile-word {w} {row'} both is stand others =
         let head = drop_head (token_words (tokens s)) slots w (token_words (tokens_at s n)) (c.left ∙ is) in
         record {
           near = omega arith;
           inside = next.inside;
           codes-long = length-set codes count v ∙ c.codes-long;
-          row-long = long ∙ c.row-long;
           coded = code-written;
           some = omega (arith, head.0);
           left = head.2;
-          filled = filled_next halves slots both (slots_in row) (slots_in row') others main arrivals (token_words (tokens s)) c.filled (rw head.1 stand);
-          others = others-next halves slots both (slots_in row) (slots_in row') others (slots_in row₀) c.others;
+          filled = filled_next halves slots both row.ranges row'.ranges others main arrivals (token_words (tokens s)) c.filled (rw head.1 stand);
+          others = others-next halves slots both row.ranges row'.ranges others row₀.ranges c.others;
         }
 
   -- there is a slot for a word that is left
@@ -218,13 +214,12 @@ module _ {halves : ℕ} {main arrivals s codes₀ row₀ codes row : List ℕ} {
     codes-written room = record {
       long = c.codes-long;
       within = omega arith;
-      coded = sym (append-nil (take count codes)) ∙ ap (λ (r : List ℕ). take count codes ++ r) (sym (ap codes_of e)) ∙ c.coded;
+      coded = sym (append-nil (take count codes)) ∙ ap (λ (r : List Code). take count codes ++ r) (sym (ap codes_of e)) ∙ c.coded;
     }
 
     pub slots_filled : FillsSlots halves main arrivals s row₀ row slots
     unfolding token_words
     slots_filled = record {
-      long = c.row-long;
       count = omega (arith, length-drop slots (token_words (tokens s)), ap length (c.left ∙ ap token_words e));
       stand = c.filled;
       stay = c.others;

@@ -8,6 +8,7 @@ use borrow.Author.Tests.{lt-ltb, le-ltb}
 use Rattle.laws.proofs.Tests.{leb-cases}
 use Rattle.list.specs.Interval.{names}
 use Rattle.index.specs.Format.{word_count, list_of}
+use Rattle.slots.specs.declared.row.Entries.{Entries}
 use Rattle.slots.specs.Row.{entries_at}
 use Rattle.slots.specs.Having.{entry_has, in_entries, entries_have, half_of, slot_has}
 
@@ -49,52 +50,34 @@ module _ (index : List ℕ) where
 
 -- ---- a slot has what its two ranges have
 
-pub slot-either : (main arrivals slots : List ℕ) (k x : ℕ) →
+pub slot-either : (main arrivals : List ℕ) (slots : List Entries) (k x : ℕ) →
     slot_has main arrivals slots k x ≡
     entries_have main (entries_at slots (2 * k)) x || entries_have arrivals (entries_at slots (2 * k + 1)) x
 unfolding slot_has
 slot-either main arrivals slots k x = refl
 
-module _ (main arrivals slots : List ℕ) (k : ℕ) where
-  -- what its range in half h has, and what those before half h have
-  abbrev pub in_half : ℕ → ℕ → Bool
-  in_half half = entries_have (half_of main arrivals half) (entries_at slots (2 * k + half))
-
-  abbrev pub in_halves : ℕ → ℕ → Bool
-  in_halves zero x = false
-  in_halves (suc zero) x = in_half 0 x
-  in_halves (suc (suc n)) x = slot_has main arrivals slots k x
-
-  pub first-half : (x : ℕ) → in_half 0 x ≡ entries_have main (entries_at slots (2 * k)) x
-  first-half x = let e : 2 * k + 0 ≡ 2 * k = omega arith in ap (λ (j : ℕ). entries_have main (entries_at slots j) x) e
-
-  pub halves-next : (half : ℕ) → half < 2 → (x : ℕ) → in_halves (half + 1) x ≡ in_halves half x || in_half half x
-  halves-next zero h x = refl
-  halves-next (suc zero) h x = slot-either main arrivals slots k x ∙ ap (λ (b : Bool). b || in_half 1 x) (sym (first-half x))
-  halves-next (suc (suc n)) h x = absurd (omega arith)
-
 -- ---- the lists of a slot one after the other, those of the main index first
 
 -- how many it has in the main index, and in both
-abbrev pub mains_of : List ℕ → ℕ → ℕ
+abbrev pub mains_of : List Entries → ℕ → ℕ
 mains_of slots k = (entries_at slots (2 * k)).count
 
-abbrev pub lists_of : List ℕ → ℕ → ℕ
+abbrev pub lists_of : List Entries → ℕ → ℕ
 lists_of slots k = mains_of slots k + (entries_at slots (2 * k + 1)).count
 
 -- list n of a slot is list m of half h
-pub record IsList (slots : List ℕ) (k n half m : ℕ) : Type 0 where
+pub record IsList (slots : List Entries) (k n half m : ℕ) : Type 0 where
   pub first : n < mains_of slots k → (half ≡ 0) × (m ≡ n)
   pub second : mains_of slots k ≤ n → (half ≡ 1) × (m ≡ n - mains_of slots k)
 
-pub list-among : (slots : List ℕ) (k n half m : ℕ) → IsList slots k n half m → n < lists_of slots k → (half < 2) × (m < (entries_at slots (2 * k + half)).count)
+pub list-among : (slots : List Entries) (k n half m : ℕ) → IsList slots k n half m → n < lists_of slots k → (half < 2) × (m < (entries_at slots (2 * k + half)).count)
 list-among slots k n half m is h =
     let z : 2 * k + 0 ≡ 2 * k = omega arith in
     leb-cases (mains_of slots k) n
     (λ g. let e = is.second g in rw e.0 (omega arith, omega (arith, e.1)))
     (λ g. let e = is.first g in rw (e.0, z) (omega arith, omega (arith, e.1)))
 
-module _ (main arrivals slots : List ℕ) (k : ℕ) where
+module _ (main arrivals : List ℕ) (slots : List Entries) (k : ℕ) where
   -- what the first n have
   abbrev pub in_lists : ℕ → ℕ → Bool
   in_lists n x = in_entries main (entries_at slots (2 * k)).first (min n (mains_of slots k)) x || in_entries arrivals (entries_at slots (2 * k + 1)).first (n - mains_of slots k) x

@@ -16,6 +16,7 @@ use Rattle.index.specs.Sound.{Sound}
 use Rattle.directory.proofs.HasLaws.{list-proper}
 use Rattle.question.specs.Grammar.{Tree, word, pair, part, tree_words}
 use Rattle.question.specs.Meaning.{combine}
+use Rattle.slots.specs.declared.row.Entries.{Entries}
 use Rattle.slots.specs.Row.{entries_at}
 use Rattle.slots.specs.Having.{entry_has, in_entries, slot_has}
 use Rattle.slots.specs.Slots.{slot_satisfies}
@@ -108,7 +109,7 @@ satisfies-still v (part t) k x f = satisfies-still v t k x f
 
 -- ---- slots in two indexes
 
-module _ (main arrivals slots : List ℕ) where
+module _ (main arrivals : List ℕ) (slots : List Entries) where
   -- the entries of slot k in the one and in the other
   abbrev main_tests : ℕ → List (ℕ → Bool)
   main_tests k = entry_tests main (entries_at slots (2 * k)).first (entries_at slots (2 * k)).count

@@ -4,7 +4,7 @@ use Prim.Native.Nat.{ℕ, ◌+◌}
 use mathlib.Core.Bool.{Bool, false}
 use mathlib.Core.List.{List}
 use lib.ListN.{length}
-use Rattle.question.specs.declared.token.Op.{Op}
+use Rattle.word.specs.declared.Op.{Op}
 use Rattle.question.specs.Grammar.{Tree, word, pair, part, tree_words}
 use Rattle.question.specs.Meaning.{combine}
 use Rattle.question.proofs.MeaningLaws.{combine-none}

@@ -1,14 +1,13 @@
 -- How many intervals lists have together, entry by entry and slot by slot.
-use Prim.Native.Nat.{ℕ, suc, ◌+◌, ◌-◌, ◌*◌, ◌≤◌, ◌<◌}
+use Prim.Native.Nat.{ℕ, suc, ◌+◌, ◌-◌, ◌≤◌, ◌<◌}
 use native.Mathlib.Omega.{arith}
-use mathlib.Core.Path.{◌≡◌, ap, ap₂, ◌∙◌}
+use mathlib.Core.Path.{◌≡◌}
 use mathlib.Core.List.{List}
 use borrow.Author.Tests.{lt-ltb, le-ltb}
 use Rattle.list.specs.Interval.{intervals}
 use Rattle.index.specs.Format.{word_count, list_of}
 use Rattle.slots.specs.declared.row.Entries.{Entries}
-use Rattle.slots.specs.Row.{entries_at}
-use Rattle.slots.specs.Bound.{entry_intervals, range_intervals, entries_intervals, slot_intervals, slots_intervals}
+use Rattle.slots.specs.Bound.{entry_intervals, range_intervals, slot_intervals, slots_intervals}
 
 -- ---- the entries of a range that are left at its list m
 
@@ -33,20 +32,9 @@ module _ (index : List ℕ) where
   unfolding range_intervals
   sum-end i count m h = let e : count - m ≡ 0 = omega arith in rw e
 
-  pub sum-whole : (e : Entries) → range_intervals index (e.first + 0) (e.count - 0) ≡ entries_intervals index e
-  sum-whole e = let f : e.first + 0 ≡ e.first = omega arith in let g : e.count - 0 ≡ e.count = omega arith in rw (f, g)
+-- ---- the slots that are left at k
 
--- ---- the ranges of slot k, and the slots that are left at k
-
-module _ (main arrivals slots : List ℕ) where
-  pub slot-sum : (k : ℕ) {e f : Entries} {a b : ℕ} → e ≡ entries_at slots (2 * k) → f ≡ entries_at slots (2 * k + 1) →
-      a ≡ entries_intervals main e → b ≡ entries_intervals arrivals f → a + b ≡ slot_intervals main arrivals slots k
-  unfolding slot_intervals
-  slot-sum k g h x y = ap₂ (λ (a b : ℕ). a + b) (x ∙ ap (entries_intervals main) g) (y ∙ ap (entries_intervals arrivals) h)
-
-  pub slots-whole : (count : ℕ) → slots_intervals main arrivals slots 0 (count - 0) ≡ slots_intervals main arrivals slots 0 count
-  slots-whole count = let e : count - 0 ≡ count = omega arith in rw e
-
+module _ (main arrivals : List ℕ) (slots : List Entries) where
   pub slots_next : (k count : ℕ) → k < count →
       slots_intervals main arrivals slots k (count - k) ≡ slot_intervals main arrivals slots k + slots_intervals main arrivals slots (k + 1) (count - (k + 1))
   unfolding slots_intervals

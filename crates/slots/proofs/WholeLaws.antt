@@ -18,12 +18,13 @@ use Rattle.question.specs.Reading.{parses, parsed}
 use Rattle.question.proofs.RuleLaws.{Keeps}
 use Rattle.question.proofs.TreeWords.{accepted-words}
 use Rattle.question.proofs.MeaningLaws.{satisfies_by, satisfies-by}
-use Rattle.slots.specs.Row.{row_long, slots_in, entries_at}
+use Rattle.slots.specs.declared.row.Row.{Row}
+use Rattle.slots.specs.Row.{no_entries, entries_at, Blank}
 use Rattle.slots.specs.Having.{entries_have, half_of, having, EntriesIn, ReadBy}
 use Rattle.slots.specs.Slots.{slot_satisfies}
 use Rattle.slots.specs.Compile.{FillsSlots, halves_have, TreeSlots}
 use Rattle.slots.proofs.EntriesLaws.{no-entry, slot-either}
-use Rattle.slots.proofs.RowLaws.{no_entries, none-among, Blank}
+use Rattle.slots.proofs.RowLaws.{none-among}
 
 -- what satisfies by the slots is what satisfies by the words, where each slot has what is said of its word
 
@@ -41,15 +42,15 @@ slot-satisfies v had t x h =
 
 -- ---- the slots that are compiled: the halves that were filled stand for the words, and all other ranges are none
 
-module _ {halves : ℕ} {main arrivals s row row' : List ℕ} {slots : ℕ} (c : FillsSlots halves main arrivals s row row' slots) (blank : Blank row)
+module _ {halves : ℕ} {main arrivals s : List ℕ} {row row' : Row} {slots : ℕ} (c : FillsSlots halves main arrivals s row row' slots) (blank : Blank row.ranges)
     (some : 1 ≤ halves) (both : halves ≤ 2) where
   -- a range of a half that was not filled
-  none-behind : (k half : ℕ) → halves ≤ half → half < 2 → entries_at (slots_in row') (2 * k + half) ≡ no_entries
+  none-behind : (k half : ℕ) → halves ≤ half → half < 2 → entries_at row'.ranges (2 * k + half) ≡ no_entries
   none-behind k half h g = c.stay (2 * k + half) (λ i other l f q. omega arith) ∙ blank (2 * k + half)
 
   -- what the arrivals' range of a slot has
   second-has : (k : ℕ) → k < slots → (x : ℕ) →
-      entries_have arrivals (entries_at (slots_in row') (2 * k + 1)) x ≡ (ltb 1 halves && has arrivals (get_or (token_words (tokens s)) k []) x)
+      entries_have arrivals (entries_at row'.ranges (2 * k + 1)) x ≡ (ltb 1 halves && has arrivals (get_or (token_words (tokens s)) k []) x)
   second-has k h x =
       leb-cases halves 1
       (λ g. rw (le-ltb 1 halves g, none-behind k 1 g (omega arith)) (no-entry arrivals 0 x))
@@ -58,7 +59,7 @@ module _ {halves : ℕ} {main arrivals s row row' : List ℕ} {slots : ℕ} (c :
   compiled-has : (k : ℕ) → k < slots → (x : ℕ) → having main arrivals row' k x ≡ halves_have halves main arrivals (get_or (token_words (tokens s)) k []) x
   compiled-has k h x =
       let e : 2 * k + 0 ≡ 2 * k = omega arith in
-      slot-either main arrivals (slots_in row') k x
+      slot-either main arrivals row'.ranges k x
       ∙ ap₂ ◌||◌ (rw e at ((c.stand k h 0 (omega arith)).have x)) (second-has k h x)
 
   pub compiled-slots : (rule : Rule) → Keeps rule → (t : Tree) (n : ℕ) → parsed rule s ≡ parses t n →
@@ -69,10 +70,10 @@ module _ {halves : ℕ} {main arrivals s row row' : List ℕ} {slots : ℕ} (c :
         λ i h x. rw w at (compiled-has i (omega (arith, c.count, ap length w)) x),
       )
 
-  pub compiled-read : Sound main → Sound arrivals → length row ≡ row_long → ReadBy main arrivals row'
-  compiled-read main-sound arrivals-sound long = record { main-sound = main-sound; arrivals-sound = arrivals-sound; long = c.long ∙ long; ranges = ranges }
+  pub compiled-read : Sound main → Sound arrivals → ReadBy main arrivals row'
+  compiled-read main-sound arrivals-sound = record { main-sound = main-sound; arrivals-sound = arrivals-sound; ranges = ranges }
     where
-      ranges : (k half : ℕ) → half < 2 → EntriesIn (half_of main arrivals half) (entries_at (slots_in row') (2 * k + half))
+      ranges : (k half : ℕ) → half < 2 → EntriesIn (half_of main arrivals half) (entries_at row'.ranges (2 * k + half))
       ranges k half h =
           leb-cases halves half (λ g. rw (none-behind k half g h) (none-among (half_of main arrivals half)))
           (λ g. leb-cases slots k

@@ -19,11 +19,11 @@ abbrev pub entries_intervals : List ℕ → Entries → ℕ
 entries_intervals index e = range_intervals index e.first e.count
 
 -- of the lists of slot k, in the main index and in the arrivals
-unfoldable pub slot_intervals : List ℕ → List ℕ → List ℕ → ℕ → ℕ
+unfoldable pub slot_intervals : List ℕ → List ℕ → List Entries → ℕ → ℕ
 slot_intervals main arrivals slots k =
     entries_intervals main (entries_at slots (2 * k)) + entries_intervals arrivals (entries_at slots (2 * k + 1))
 
 -- of the lists of the n slots from k on
-unfoldable pub slots_intervals : List ℕ → List ℕ → List ℕ → ℕ → ℕ → ℕ
+unfoldable pub slots_intervals : List ℕ → List ℕ → List Entries → ℕ → ℕ → ℕ
 slots_intervals main arrivals slots k zero = 0
 slots_intervals main arrivals slots k (suc n) = slot_intervals main arrivals slots k + slots_intervals main arrivals slots (k + 1) n

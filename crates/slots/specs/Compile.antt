@@ -4,9 +4,11 @@ use Rattle.directory.specs.Has.{has}
 use Rattle.question.specs.Token.{tokens}
 use Rattle.question.specs.Limits.{token_words}
 use Rattle.question.specs.Grammar.{Tree, tree_words}
+use Rattle.codes.specs.declared.code.Code.{Code}
 use Rattle.codes.specs.Code.{codes_of}
 use Rattle.slots.specs.declared.row.Entries.{Entries}
-use Rattle.slots.specs.Row.{slots_in, entries_at}
+use Rattle.slots.specs.declared.row.Row.{Row}
+use Rattle.slots.specs.Row.{entries_at}
 use Rattle.slots.specs.Having.{entries_have, half_of, EntriesIn}
 
 -- a range stands for a word: it is one of the index, and has the word's records
@@ -15,25 +17,24 @@ pub record StandsFor (index word : List ℕ) (e : Entries) : Type 0 where
   pub have : (x : ℕ) → entries_have index e x ≡ has index word x
 
 -- the first n cells are the question's codes
-pub record WritesCodes (question codes codes' : List ℕ) (n : ℕ) : Type 0 where
+pub record WritesCodes (question : List ℕ) (codes codes' : List Code) (n : ℕ) : Type 0 where
   pub long : length codes' ≡ length codes
   pub within : n ≤ length codes
   pub coded : take n codes' ≡ codes_of (tokens question)
 
 -- the first `halves` halves of slot k, of which 0 is of the main index and 1 of the arrivals, stand for a word
-abbrev pub HalvesStand : ℕ → List ℕ → List ℕ → List ℕ → ℕ → List ℕ → Type 0
+abbrev pub HalvesStand : ℕ → List ℕ → List ℕ → List ℕ → ℕ → List Entries → Type 0
 HalvesStand halves main arrivals word k slots = (half : ℕ) → half < halves → StandsFor (half_of main arrivals half) word (entries_at slots (2 * k + half))
 
 -- and all other ranges stay
-abbrev pub HalvesAlone : ℕ → ℕ → List ℕ → List ℕ → Type 0
+abbrev pub HalvesAlone : ℕ → ℕ → List Entries → List Entries → Type 0
 HalvesAlone halves k slots slots' = (j : ℕ) → ((half : ℕ) → half < halves → j ≡ 2 * k + half → ⊥) → entries_at slots' j ≡ entries_at slots j
 
 -- those of the first n slots stand for the words in their order, and all other ranges stay
-pub record FillsSlots (halves : ℕ) (main arrivals question row row' : List ℕ) (n : ℕ) : Type 0 where
-  pub long : length row' ≡ length row
+pub record FillsSlots (halves : ℕ) (main arrivals question : List ℕ) (row row' : Row) (n : ℕ) : Type 0 where
   pub count : n ≡ length (token_words (tokens question))
-  pub stand : (k : ℕ) → k < n → HalvesStand halves main arrivals (get_or (token_words (tokens question)) k []) k (slots_in row')
-  pub stay : (j : ℕ) → ((k half : ℕ) → k < n → half < halves → j ≡ 2 * k + half → ⊥) → entries_at (slots_in row') j ≡ entries_at (slots_in row) j
+  pub stand : (k : ℕ) → k < n → HalvesStand halves main arrivals (get_or (token_words (tokens question)) k []) k row'.ranges
+  pub stay : (j : ℕ) → ((k half : ℕ) → k < n → half < halves → j ≡ 2 * k + half → ⊥) → entries_at row'.ranges j ≡ entries_at row.ranges j
 
 -- what the first `halves` of two indexes have of a word: the main one, or both
 abbrev pub halves_have : ℕ → List ℕ → List ℕ → List ℕ → ℕ → Bool

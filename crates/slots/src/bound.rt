@@ -3,11 +3,10 @@ ghost use Rattle.std.specs.Prelude.{◌≡◌, ◌+◌, ◌*◌, ◌≤◌, ◌<
 ghost use Rattle.limits.specs.Limits.{question_words_max, words_max};
 ghost use Rattle.index.specs.Format.{word_count};
 ghost use Rattle.index.specs.Sound.{Sound};
-ghost use Rattle.slots.specs.Row.{slots_in};
 ghost use Rattle.slots.specs.Having.{ReadBy};
 ghost use Rattle.slots.specs.Bound.{entries_intervals, slot_intervals, slots_intervals};
 
-use crate::row::{Entries, entries_of};
+use crate::row::{Entries, Indexes, Row};
 use directory::parts::interval_count;
 
 fn entries_sum(index: &[u8], entries: Entries) -> usize
@@ -17,36 +16,32 @@ fn entries_sum(index: &[u8], entries: Entries) -> usize
     ensures few { result ≤ words_max * 4194304 }
 {
     let mut sum = 0;
-    let mut m = 0;
-    while m < entries.count {
+    for m in 0..entries.count {
         sum += interval_count(index, entries.first + m);
-        m += 1;
     }
     sum
 }
 
-fn slot_intervals(main: &[u8], arrivals: &[u8], row: &[usize], k: usize) -> usize
-    requires read { ReadBy main.now arrivals.now row.now }
+fn slot_intervals(over: Indexes<'_>, row: &Row, k: usize) -> usize
+    requires read { ReadBy over.main.now over.arrivals.now row.now }
     requires slot { k < question_words_max }
-    ensures is { result ≡ slot_intervals main.now arrivals.now (slots_in row.now) k }
+    ensures is { result ≡ slot_intervals over.entry.main.now over.entry.arrivals.now row.now.ranges k }
     ensures few { result ≤ 2 * words_max * 4194304 }
 {
-    let of_main = entries_sum(main, entries_of(row, 2 * k));
-    let of_arrivals = entries_sum(arrivals, entries_of(row, 2 * k + 1));
+    let of_main = entries_sum(over.main, row.ranges[2 * k]);
+    let of_arrivals = entries_sum(over.arrivals, row.ranges[2 * k + 1]);
     of_main + of_arrivals
 }
 
 // Of the first `count` slots.
-pub fn slots_sum(main: &[u8], arrivals: &[u8], row: &[usize], count: usize) -> usize
-    requires read { ReadBy main.now arrivals.now row.now }
+pub fn slots_sum(over: Indexes<'_>, row: &Row, count: usize) -> usize
+    requires read { ReadBy over.main.now over.arrivals.now row.now }
     requires few { count ≤ question_words_max }
-    ensures { result ≡ slots_intervals main.now arrivals.now (slots_in row.now) 0 count }
+    ensures { result ≡ slots_intervals over.entry.main.now over.entry.arrivals.now row.now.ranges 0 count }
 {
     let mut sum = 0;
-    let mut k = 0;
-    while k < count {
-        sum += slot_intervals(main, arrivals, row, k);
-        k += 1;
+    for k in 0..count {
+        sum += slot_intervals(over, row, k);
     }
     sum
 }

@@ -4,14 +4,12 @@ ghost use Rattle.limits.specs.Limits.{question_words_max};
 ghost use Rattle.index.specs.Sound.{Sound};
 ghost use Rattle.question.specs.Token.{tokens};
 ghost use Rattle.question.specs.Limits.{token_words};
-ghost use Rattle.slots.specs.Row.{row_long, slots_in};
 ghost use Rattle.slots.specs.Compile.{StandsFor, HalvesStand, HalvesAlone, WritesCodes, FillsSlots};
 
-use crate::row::{Entries, half_of, keep_entries};
-use codes::code::{WORD_CODE, token_code};
-use directory::Standing;
+use crate::row::{Entries, Indexes, Row};
+use codes::code::{Code, token_code};
 use directory::find::find_word;
-use directory::parts::{Regions, regions_of};
+use directory::parts::regions_of;
 use question::token::{Token, next_token, token_end};
 
 // How many codes were written, and how many slots were filled.
@@ -27,71 +25,50 @@ fn entries_for(index: &[u8], word: &[u8]) -> Entries
     ensures { StandsFor index.now word.now result }
 {
     match find_word(index, word) {
-        Standing::Here(i) => Entries {
+        Ok(i) => Entries {
             first: i,
             count: 1,
             regions: regions_of(index, i),
         },
-        Standing::Absent(_) => Entries {
-            first: 0,
-            count: 0,
-            regions: Regions {
-                s: 0,
-                l: 0,
-                u: 0,
-                end: 0,
-            },
-        },
+        Err(_) => Entries::NONE,
     }
 }
 
 // The first `halves` halves of slot k stand for the word.
-fn fill_halves<'a>(
-    main: &'a [u8],
-    arrivals: &'a [u8],
-    halves: usize,
-    word: &[u8],
-    k: usize,
-    row: &mut [usize],
-)
-    requires main { Sound main.now }
-    requires arrivals { Sound arrivals.now }
+fn fill_halves(over: Indexes<'_>, halves: usize, word: &[u8], k: usize, row: &mut Row)
+    requires main { Sound over.main.now }
+    requires arrivals { Sound over.arrivals.now }
     requires both { halves ≤ 2 }
     requires slot { k < question_words_max }
-    requires long { length row.old ≡ row_long }
-    ensures long { length row.new ≡ length row.old }
-    ensures stand { HalvesStand halves main.now arrivals.now word.now k (slots_in row.new) }
-    ensures others { HalvesAlone halves k (slots_in row.old) (slots_in row.new) }
+    ensures stand { HalvesStand halves over.entry.main.now over.entry.arrivals.now word.now k row.new.ranges }
+    ensures others { HalvesAlone halves k row.old.ranges row.new.ranges }
 {
-    let mut half = 0;
-    while half < halves {
-        let entries = entries_for(half_of(main, arrivals, half), word);
-        keep_entries(row, 2 * k + half, entries);
-        half += 1;
+    for half in 0..halves {
+        let entries = entries_for(over.half(half), word);
+        row.keep_entries(2 * k + half, entries);
     }
 }
 
 // Where one index is asked, the arrivals' halves are left as they are, and any index may be lent for them.
-pub fn compile<'a>(
-    main: &'a [u8],
-    arrivals: &'a [u8],
+pub fn compile(
+    over: Indexes<'_>,
     halves: usize,
     question: &[u8],
-    codes: &mut [u8],
-    row: &mut [usize],
+    codes: &mut [Code],
+    row: &mut Row,
 ) -> Compiled
-    requires main { Sound main.now }
-    requires arrivals { Sound arrivals.now }
+    requires main { Sound over.main.now }
+    requires arrivals { Sound over.arrivals.now }
     requires both { halves ≤ 2 }
     requires room { length question.now ≤ length codes.old }
-    requires long { length row.old ≡ row_long }
     requires few { length (token_words (tokens question.now)) ≤ question_words_max }
     ensures codes { WritesCodes question.now codes.old codes.new result.codes }
-    ensures slots { FillsSlots halves main.now arrivals.now question.now row.old row.new result.slots }
+    ensures slots { FillsSlots halves over.entry.main.now over.entry.arrivals.now question.now row.old row.new result.slots }
 {
     let mut count = 0;
     let mut slots = 0;
     let mut at = 0;
+    // no `for`: the place moves by a token, not by one
     loop {
         let token = next_token(question, at);
         match token {
@@ -102,9 +79,9 @@ pub fn compile<'a>(
                 };
             }
             Token::Word(start, end) => {
-                fill_halves(main, arrivals, halves, &question[start..end], slots, row);
+                fill_halves(over, halves, &question[start..end], slots, row);
                 slots += 1;
-                codes[count] = WORD_CODE;
+                codes[count] = Code::Word;
                 count += 1;
                 at = end;
             }

@@ -1,38 +1,21 @@
-// The row of a question, one lent slice of numbers. Its ranges and its senses are made and taken apart here alone; its hints are places as `list::hints` keeps
-// them, by the numbers that are told here.
-ghost use Rattle.std.specs.Prelude.{◌≡◌, ℕ, ◌+◌, ◌*◌, ◌≤◌, ◌<◌, length, set, replicate};
-ghost use Rattle.limits.specs.Limits.{question_words_max, record_max, words_max};
+// The row of a question: what is kept of the words of a question from step to step.
+ghost use Rattle.std.specs.Prelude.{◌≡◌, ℕ, ◌+◌, ◌-◌, ◌*◌, ◌≤◌, ◌<◌, set, replicate};
+ghost use Rattle.limits.specs.Limits.{question_words_max, words_max};
 ghost use Rattle.index.specs.Sound.{Sound};
 ghost use Rattle.directory.specs.Regions.{RegionsOf};
-ghost use Rattle.slots.specs.Row.{
-  row_long,
-  first_hint,
-  hints_max,
-  slots_in,
-  senses_in,
-  entries_at,
-  until_of,
-  inside_of,
-  NearEnd,
-  packed,
-  SlotsStay,
-};
+ghost use Rattle.slots.specs.Row.{hints_max, entries_at, Blank, no_sense, SlotsStay};
 ghost use Rattle.slots.specs.Having.{half_of, EntriesIn};
 
 use directory::parts::{Regions, regions_of};
 use limits::QUESTION_WORDS_MAX;
+use list::Place;
 use list::sense::Sense;
 
-// Two ranges a slot, eight numbers a range: six are used, and the place of a range is found by a shift.
-const RANGES: usize = 16 * QUESTION_WORDS_MAX;
+// Two ranges a slot.
+const RANGES: usize = 2 * QUESTION_WORDS_MAX;
 
-// The hints stand behind the ranges and the senses, two numbers each.
-const FIRST_HINT: usize = 136;
-
-// As many as a question's words have lists in two indexes.
-const HINTS: usize = 32;
-
-pub const ROW: usize = RANGES + QUESTION_WORDS_MAX + 2 * HINTS;
+// As many as a question's words have lists in two indexes, where each has one.
+const HINTS: usize = 2 * QUESTION_WORDS_MAX;
 
 // A range of entries of an index: the first, how many there are, and the regions of the first one's list, so that its entry is not read again.
 #[derive(Clone, Copy)]
@@ -42,112 +25,128 @@ pub struct Entries {
     pub regions: Regions,
 }
 
-// Range j: of slot k it is range 2 * k in the main index, and 2 * k + 1 in the arrivals.
-pub fn entries_of(row: &[usize], j: usize) -> Entries
-    requires long { length row.now ≡ row_long }
-    requires range { j < 2 * question_words_max }
-    ensures { result ≡ entries_at (slots_in row.now) j }
-{
-    Entries {
-        first: row[8 * j],
-        count: row[8 * j + 1],
+impl Entries {
+    pub const NONE: Entries = Entries {
+        first: 0,
+        count: 0,
         regions: Regions {
-            s: row[8 * j + 2],
-            l: row[8 * j + 3],
-            u: row[8 * j + 4],
-            end: row[8 * j + 5],
+            s: 0,
+            l: 0,
+            u: 0,
+            end: 0,
         },
+    };
+
+    // The regions of list m of the range: those of the first are kept, and the entries behind it are read.
+    pub fn regions_in(self, index: &[u8], m: usize) -> Regions
+        requires sound { Sound index.now }
+        requires among { EntriesIn index.now self }
+        requires list { m < self.count }
+        ensures { RegionsOf index.now (self.first + m) result }
+    {
+        if m == 0 {
+            self.regions
+        } else {
+            regions_of(index, self.first + m)
+        }
     }
 }
 
-pub fn keep_entries(row: &mut [usize], j: usize, entries: Entries)
-    requires long { length row.old ≡ row_long }
-    requires range { j < 2 * question_words_max }
-    ensures long { length row.new ≡ length row.old }
-    ensures kept { entries_at (slots_in row.new) j ≡ entries }
-    ensures others { (i : ℕ) → (i ≡ j → ⊥) → entries_at (slots_in row.new) i ≡ entries_at (slots_in row.old) i }
-{
-    row[8 * j] = entries.first;
-    row[8 * j + 1] = entries.count;
-    row[8 * j + 2] = entries.regions.s;
-    row[8 * j + 3] = entries.regions.l;
-    row[8 * j + 4] = entries.regions.u;
-    row[8 * j + 5] = entries.regions.end;
+// It is made once for a question, and lent from call to call.
+#[derive(Drop)]
+pub struct Row {
+    // range 2 * k of slot k is in the main index, range 2 * k + 1 in the arrivals
+    pub ranges: [Entries; RANGES],
+    // what each slot's word says, kept from look to look
+    pub senses: [Sense; QUESTION_WORDS_MAX],
+    // where lists were read last
+    pub hints: [Place; HINTS],
+}
+
+// At first no sense says anything.
+const NO_SENSE: Sense = Sense {
+    inside: false,
+    until: 0,
+};
+
+impl Row {
+    pub fn blank() -> Row
+        ensures { Blank result.ranges }
+    {
+        Row {
+            ranges: [Entries::NONE; RANGES],
+            senses: [NO_SENSE; QUESTION_WORDS_MAX],
+            hints: [Place::START; HINTS],
+        }
+    }
+
+    pub fn keep_entries(&mut self, j: usize, entries: Entries)
+        requires range { j < 2 * question_words_max }
+        ensures kept { entries_at self.new.ranges j ≡ entries }
+        ensures others { (i : ℕ) → (i ≡ j → ⊥) → entries_at self.new.ranges i ≡ entries_at self.old.ranges i }
+    {
+        self.ranges[j] = entries;
+    }
+
+    pub fn keep_sense(&mut self, k: usize, sense: Sense)
+        requires slot { k < question_words_max }
+        ensures slots { SlotsStay self.old self.new }
+        ensures senses { self.new.senses ≡ set self.old.senses k sense }
+    {
+        self.senses[k] = sense;
+    }
+
+    pub fn forget_senses(&mut self)
+        ensures slots { SlotsStay self.old self.new }
+        ensures senses { self.new.senses ≡ replicate question_words_max no_sense }
+    {
+        self.senses.fill(NO_SENSE);
+    }
 }
 
 // The number of the hint of list m of range j. With more lists than hints some share one, which costs time and no truth.
 pub fn hint_number(j: usize, m: usize) -> usize
     requires range { j < 2 * question_words_max }
     requires few { m ≤ words_max }
-    ensures from { first_hint ≤ result }
-    ensures below { result < first_hint + hints_max }
+    ensures { result < hints_max }
 {
-    FIRST_HINT + (j + m) % HINTS
+    (j + m) % HINTS
 }
 
-// The regions of list m of a range: those of the first are kept, and the entries behind it are read.
-pub fn regions_in(index: &[u8], entries: Entries, m: usize) -> Regions
-    requires sound { Sound index.now }
-    requires among { EntriesIn index.now entries }
-    requires list { m < entries.count }
-    ensures { RegionsOf index.now (entries.first + m) result }
+// The indexes that a question is asked of.
+#[derive(Clone, Copy)]
+pub struct Indexes<'a> {
+    pub main: &'a [u8],
+    pub arrivals: &'a [u8],
+}
+
+impl<'a> Indexes<'a> {
+    // The index that a slot's range is of: the main one for half 0, and the arrivals for half 1.
+    pub fn half(self, half: usize) -> &'a [u8]
+        ensures { result.now ≡ half_of self.entry.main.now self.entry.arrivals.now half }
+    {
+        if half == 0 { self.main } else { self.arrivals }
+    }
+}
+
+// A list of a slot: of which half it is, and its number in the range of that half.
+#[derive(Clone, Copy)]
+pub struct ListAt {
+    pub half: usize,
+    pub m: usize,
+}
+
+// List n of a slot that has so many in the main index: these come first.
+pub fn list_at(mains: usize, n: usize) -> ListAt
+    ensures first { n < mains → (result.half ≡ 0) × (result.m ≡ n) }
+    ensures second { mains ≤ n → (result.half ≡ 1) × (result.m ≡ n - mains) }
 {
-    if m == 0 {
-        entries.regions
+    if n < mains {
+        ListAt { half: 0, m: n }
     } else {
-        regions_of(index, entries.first + m)
-    }
-}
-
-// The index that a slot's range is of: the main one for half 0, and the arrivals for half 1.
-pub fn half_of<'a>(main: &'a [u8], arrivals: &'a [u8], half: usize) -> &'a [u8]
-    ensures { result.now ≡ half_of main.now arrivals.now half }
-{
-    if half == 0 { main } else { arrivals }
-}
-
-// The sense that is kept of slot k.
-pub fn sense_of(row: &[usize], k: usize) -> Sense
-    requires long { length row.now ≡ row_long }
-    requires slot { k < question_words_max }
-    requires near { NearEnd (senses_in row.now) }
-    ensures until { result.until ≡ until_of (senses_in row.now) k }
-    ensures inside { result.inside ≡ inside_of (senses_in row.now) k }
-{
-    let sense = row[RANGES + k];
-    Sense {
-        inside: sense % 2 == 1,
-        until: (sense / 2) as u32,
-    }
-}
-
-fn pack(sense: Sense) -> usize
-    requires { sense.until ≤ record_max + 1 }
-    ensures { result ≡ packed sense }
-{
-    let twice = 2 * sense.until as usize;
-    if sense.inside { twice + 1 } else { twice }
-}
-
-pub fn keep_sense(row: &mut [usize], k: usize, sense: Sense)
-    requires long { length row.old ≡ row_long }
-    requires slot { k < question_words_max }
-    requires near { sense.until ≤ record_max + 1 }
-    ensures slots { SlotsStay row.old row.new }
-    ensures senses { senses_in row.new ≡ set (senses_in row.old) k (packed sense) }
-{
-    row[RANGES + k] = pack(sense);
-}
-
-// At first no sense says anything.
-pub fn forget_senses(row: &mut [usize])
-    requires { length row.old ≡ row_long }
-    ensures slots { SlotsStay row.old row.new }
-    ensures senses { senses_in row.new ≡ replicate question_words_max 0 }
-{
-    let mut k = 0;
-    while k < QUESTION_WORDS_MAX {
-        row[RANGES + k] = 0;
-        k += 1;
+        ListAt {
+            half: 1,
+            m: n - mains,
+        }
     }
 }

@@ -22,18 +22,16 @@ use mathlib.Core.List.{List, []}
 use lib.Dec.{leb}
 use lib.ListN.{length, take, drop}
 use lib.Seq.{take_at}
+use Rattle.std.specs.Prelude.{Result, Ok}
+use Rattle.refusal.specs.declared.Refusal.{Refusal}
 use Rattle.refusal.specs.declared.Refusal.TheVariants.{Room}
 use Rattle.list.specs.declared.answer.Tally.{Tally}
-use Rattle.list.specs.declared.answer.Answer.{Answer}
-use Rattle.list.specs.declared.answer.Answer.TheVariants.{Listed}
 use Rattle.list.specs.Interval.{names, intervals}
 use Rattle.list.specs.Front.{in_front}
 use Rattle.list.specs.Outcome.{writes, refused}
 use Rattle.list.specs.Answer.{tally_of, Gives}
 use Rattle.list.specs.Sweeps.{Listing}
 use Rattle.list.proofs.FewestLaws.{fewest-of}
-use Rattle.index.specs.declared.Checked.{Checked}
-use Rattle.index.specs.declared.Checked.TheVariants.{Good}
 use Rattle.question.specs.Token.{tokens}
 use Rattle.question.specs.Grammar.{Tree}
 use Rattle.question.specs.Rules.{rule_of}
@@ -51,17 +49,17 @@ use Rattle.source.proofs.AskLaws.{asks-good, answers-listing}
 use Rattle.source.proofs.SatisfyLaws.{clip, same-everywhere, same-within, satisfying-even, satisfying-same, same-satisfying}
 
 -- what is sound, and a question that is accepted: its list, or refusal 12
-asks-listing : {check : Checked} {a : Parsed} {t : Tree} {k : ℕ} (list : Tree → List ℕ) {out out' : List ℕ} {r : Answer} → check ≡ Good → a ≡ parses t k →
+asks-listing : {check : Result Unit Refusal} {a : Parsed} {t : Tree} {k : ℕ} (list : Tree → List ℕ) {out out' : List ℕ} {r : Result Tally Refusal} → check ≡ Ok tt → a ≡ parses t k →
     Lists check a list out out' r → Listing (list t) out out' r
 asks-listing {a = a} list e f l = answers-listing list f (asks-good a list e l)
 
 -- ---- what an answered question writes: the one proper list of its records
 
-module _ {check : Checked} {a : Parsed} (s : Source) (t : Tree) {out out' : List ℕ} {tally : Tally} (p : Answered check a s t out out' tally) where
+module _ {check : Result Unit Refusal} {a : Parsed} (s : Source) (t : Tree) {out out' : List ℕ} {tally : Tally} (p : Answered check a s t out out' tally) where
   abbrev cells : List ℕ
   cells = satisfying s t
 
-  by-room : (f : Bool) → Gives (cond f (writes cells) (refused (Room (intervals cells)))) out out' (Listed tally) →
+  by-room : (f : Bool) → Gives (cond f (writes cells) (refused (Room (intervals cells)))) out out' (Ok tally) →
       (tally ≡ tally_of cells) × (out' ≡ in_front cells out)
   by-room true g = (let e = g.answer in cc, g.cells)
   by-room false g = absurd (let e = g.answer in let z : ◌≡◌ {A = ℕ} 0 1 = cc in omega arith)
@@ -86,7 +84,7 @@ module _ {check : Checked} {a : Parsed} (s : Source) (t : Tree) {out out' : List
 
 -- ---- two answered questions
 
-module _ {check check' : Checked} {a b : Parsed} (s : Source) (t u : Tree) {out out' other other' : List ℕ} {tally tally' : Tally}
+module _ {check check' : Result Unit Refusal} {a b : Parsed} (s : Source) (t u : Tree) {out out' other other' : List ℕ} {tally tally' : Tally}
     (p : Answered check a s t out out' tally) (q : Answered check' b s u other other' tally') where
   pub same-cells : SameRecords s t u → (written tally out' ≡ written tally' other') × (tally ≡ tally')
   same-cells h =
@@ -100,7 +98,7 @@ module _ {check check' : Checked} {a b : Parsed} (s : Source) (t u : Tree) {out 
 
 -- ---- what any call writes, once nothing but room can refuse it
 
-module _ (cells : List ℕ) (even : 2 * intervals cells ≡ length cells) {out out' : List ℕ} {r : Answer} where
+module _ (cells : List ℕ) (even : 2 * intervals cells ≡ length cells) {out out' : List ℕ} {r : Result Tally Refusal} where
   call_step : (f : Bool) → Gives (cond f (writes cells) (refused (Room (intervals cells)))) out out' r →
       (written_by r out' ≡ cond f cells []) × OnlyWritten r out out' × ListOrRoom r
   call_step true p =
@@ -122,7 +120,7 @@ inside-asked rule before a behind t n accepted matched =
     let by = inside-accepted (rule_of rule) before a behind t n read.1 matched in
     (by.tree, asked-reads rule a read.0 ∙ by.accepted)
 
-module _ (check : Checked) (rule : ℕ) (s : Source) (before a b behind : List ℕ) where
+module _ (check : Result Unit Refusal) (rule : ℕ) (s : Source) (before a b behind : List ℕ) where
   exchanged : (e : Exchanging check rule s before a b behind) → Exchanged (rule_of rule) (clip s) e.tree (around before b behind)
   exchanged e =
       let parts : Exchangeable (rule_of rule) (clip s) a b =
@@ -193,7 +191,7 @@ asked-once : (rule : ℕ) (q : List ℕ) (t u : Tree) (n m : ℕ) → asked rule
 asked-once rule q t u n m e f = cc
 
 -- no premise is empty: any pair of brackets in an accepted question may be exchanged, for itself if for nothing else
-pub exchanging-itself : (check : Checked) (rule : ℕ) (s : Source) (before a behind : List ℕ) → check ≡ Good → (t : Tree) (n : ℕ) →
+pub exchanging-itself : (check : Result Unit Refusal) (rule : ℕ) (s : Source) (before a behind : List ℕ) → check ≡ Ok tt → (t : Tree) (n : ℕ) →
     asked rule (around before a behind) ≡ parses t n → Matched a →
     ExchangingPair check rule s before a a behind
 exchanging-itself check rule s before a behind sound t n accepted matched =

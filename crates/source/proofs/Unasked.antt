@@ -5,14 +5,14 @@ use mathlib.Core.Path.{◌≡◌, refl, ap, ◌∙◌}
 use mathlib.Core.Bool.{false}
 use mathlib.Core.List.{List}
 use lib.ListN.{length}
+use Rattle.std.specs.Prelude.{Result, Ok, Err}
+use Rattle.refusal.specs.declared.Refusal.{Refusal}
+use Rattle.list.specs.declared.answer.Tally.{Tally}
 use Rattle.word.specs.Word.{is_operator}
-use Rattle.list.specs.declared.answer.Answer.{Answer}
 use Rattle.list.specs.Stretches.{cells_of}
 use Rattle.list.specs.Answer.{in_room, Gives}
 use Rattle.list.proofs.ListingLaws.{gives-agree}
 use Rattle.list.proofs.StretchLaws.{cells_same}
-use Rattle.index.specs.declared.Checked.{Checked}
-use Rattle.index.specs.declared.Checked.TheVariants.{Good, Refused}
 use Rattle.index.specs.Format.{highest}
 use Rattle.index.specs.Check.{check_of}
 use Rattle.directory.specs.Has.{has}
@@ -36,23 +36,23 @@ module _ (rule : ℕ) (s other : Source) (same-highest : s.highest ≡ other.hig
       (asked-parsed rule question t n h).1)
       ∙ ap (cells_of (satisfies other.has t)) same-highest
 
-  by-reading : (check : Checked) (room : ℕ) (a : Parsed) → asked rule question ≡ a →
+  by-reading : (check : Result Unit Refusal) (room : ℕ) (a : Parsed) → asked rule question ≡ a →
       question_outcome check a (satisfying s) room ≡ question_outcome check a (satisfying other) room
-  by-reading (Refused r) room a h = refl
-  by-reading Good room (refuses r) h = refl
-  by-reading Good room (parses t n) h = ap (in_room room) (same-list t n h)
+  by-reading (Err r) room a h = refl
+  by-reading (Ok tt) room (refuses r) h = refl
+  by-reading (Ok tt) room (parses t n) h = ap (in_room room) (same-list t n h)
 
   -- whatever the check says
-  pub same_outcome : (check : Checked) (room : ℕ) →
+  pub same_outcome : (check : Result Unit Refusal) (room : ℕ) →
       question_outcome check (asked rule question) (satisfying s) room ≡ question_outcome check (asked rule question) (satisfying other) room
   same_outcome check room = by-reading check room (asked rule question) refl
 
 -- two sound indexes: the same answer, and the same cells
 pub same-calls : (rule : ℕ) (index other : List ℕ) → highest index ≡ highest other →
-    ((w : List ℕ) (x : ℕ) → is_operator w ≡ false → has index w x ≡ has other w x) → check_of index ≡ Good → check_of other ≡ Good →
-    (question out out' out'' : List ℕ) (r r' : Answer) → Asks rule index question out out' r → Asks rule other question out out'' r' → (r ≡ r') × (out' ≡ out'')
+    ((w : List ℕ) (x : ℕ) → is_operator w ≡ false → has index w x ≡ has other w x) → check_of index ≡ Ok tt → check_of other ≡ Ok tt →
+    (question out out' out'' : List ℕ) (r r' : Result Tally Refusal) → Asks rule index question out out' r → Asks rule other question out out'' r' → (r ≡ r') × (out' ≡ out'')
 same-calls rule index other same-highest same-words s s' question out out' out'' r r' a b =
-    let same = same_outcome rule (of_index index) (of_index other) same-highest (λ w x l u. same-words w x) question Good (length out / 2) in
-    let first : Gives (question_outcome Good (asked rule question) (satisfying (of_index index)) (length out / 2)) out out' r = rw s at a in
-    let second : Gives (question_outcome Good (asked rule question) (satisfying (of_index other)) (length out / 2)) out out'' r' = rw s' at b in
+    let same = same_outcome rule (of_index index) (of_index other) same-highest (λ w x l u. same-words w x) question (Ok tt) (length out / 2) in
+    let first : Gives (question_outcome (Ok tt) (asked rule question) (satisfying (of_index index)) (length out / 2)) out out' r = rw s at a in
+    let second : Gives (question_outcome (Ok tt) (asked rule question) (satisfying (of_index other)) (length out / 2)) out out'' r' = rw s' at b in
     gives-agree (rw same at first) second

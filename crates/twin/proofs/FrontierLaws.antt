@@ -1,17 +1,17 @@
 -- Laws of the upper bounds of the intervals that are next, one in each list: whose the least upper bound is, and what changes where that list moves on.
-use mathlib.Core.Path.{◌≡◌, refl, sym, ap, ◌∙◌}
-use Prim.Native.Nat.{ℕ, ◌+◌, ◌/◌, ◌%◌, ◌≤◌, ◌<◌}
+use mathlib.Core.Path.{◌≡◌, sym, ap, ◌∙◌}
+use Prim.Native.Nat.{ℕ, ◌/◌, ◌%◌, ◌≤◌, ◌<◌}
 use native.Mathlib.Omega.{arith}
 use native.Mathlib.Decide.{ℕ_discrete}
-use mathlib.Core.List.{List, [], ◌∷◌, ◌++◌}
+use mathlib.Core.List.{List}
 use lib.Dec.{eqb}
-use lib.ListN.{length, get_or, take, set, length-append, length-set, get_or-append}
-use lib.Seq.{get_or-append_seam, get_or-set_same, get_or-set_other}
-use Rattle.laws.proofs.Tests.{leb-cases}
+use lib.ListN.{length, get_or, take, set, length-set}
+use lib.Seq.{get_or-set_same, get_or-set_other}
 use Rattle.list.specs.declared.Place.{Place}
 use Rattle.list.specs.Ginix.{one}
-use Rattle.heap.specs.Heap.{count_of, Pushed, Replaced}
-use Rattle.heap.proofs.HeapLaws.{count-append, count_set, count_at, count-where, count_none, heap-none, least-front, front-counted}
+use Rattle.heap.specs.Heap.{count_of, Replaced}
+use Rattle.merge.specs.Keys.{Heaped}
+use Rattle.heap.proofs.HeapLaws.{count_set, count_at, count-where, least-front, front-counted}
 use Rattle.twin.specs.Twin.{next_upper, key_of, Frontier}
 
 -- the least upper bound, and whose it is
@@ -25,44 +25,13 @@ abbrev key_at : List ℕ → List ℕ → (ℕ → Place) → ℕ → ℕ
 key_at index entries at i = key_of (next_upper index entries i (at i)) i
 
 module _ {index entries : List ℕ} {at : ℕ → Place} where
-  pub frontier-start : {uppers : List ℕ} → Frontier index entries at 0 uppers
-  unfolding count_of
-  frontier-start {uppers} = record { heap = heap-none uppers; keys = []; long = refl; key = λ i h. absurd (omega arith); bag = λ y. count_none y uppers }
+  -- a heap of one key of each list
+  pub frontier-filled : {P : ℕ → ℕ → Type 0} {size : ℕ} {uppers : List ℕ} → Heaped P size uppers →
+      ((i x : ℕ) → i < size → P i x → x ≡ key_at index entries at i) → Frontier index entries at size uppers
+  frontier-filled h is =
+      record { heap = h.heap; keys = h.numbers; long = h.long; key = λ i g. is i (get_or h.numbers i 0) g (h.number i g); bag = h.bag }
 
   module _ {size : ℕ} {uppers : List ℕ} (f : Frontier index entries at size uppers) where
-    -- the same places by another function
-    pub frontier-same : {at' : ℕ → Place} → ((i : ℕ) → i < size → at i ≡ at' i) → Frontier index entries at' size uppers
-    frontier-same e = record {
-      heap = f.heap;
-      keys = f.keys;
-      long = f.long;
-      key = λ i h. f.key i h ∙ ap (λ (a : Place). key_of (next_upper index entries i a) i) (e i h);
-      bag = f.bag;
-    }
-
-    -- one list more
-    more-key : (i : ℕ) → i < size + 1 → get_or (f.keys ++ key_at index entries at size ∷ []) i 0 ≡ key_at index entries at i
-    more-key i h =
-        let l = f.long in
-        leb-cases size i
-        (λ g. let e : i ≡ length f.keys = omega arith in
-        let z : i ≡ size = omega arith in
-        ap (λ (k : ℕ). get_or (f.keys ++ key_at index entries at size ∷ []) k 0) e
-        ∙ get_or-append_seam f.keys (key_at index entries at size) [] 0
-        ∙ ap (key_at index entries at) (sym z))
-        (λ g. get_or-append f.keys (key_at index entries at size ∷ []) 0 i (omega arith) ∙ f.key i g)
-
-    pub frontier-more : {uppers' : List ℕ} → Pushed size (key_of (next_upper index entries size (at size)) size) uppers uppers' →
-        Frontier index entries at (size + 1) uppers'
-    unfolding count_of
-    frontier-more p = record {
-      heap = p.heap;
-      keys = f.keys ++ key_at index entries at size ∷ [];
-      long = let l = f.long in omega (arith, length-append f.keys (key_at index entries at size ∷ []));
-      key = more-key;
-      bag = λ y. omega (arith, p.bag y, f.bag y, count-append y f.keys (key_at index entries at size ∷ []));
-    }
-
     -- ---- whose the least upper bound is
 
     module _ (some : 0 < size) (few : size ≤ 16) (fits : size ≤ length uppers) where

@@ -10,7 +10,8 @@ use Rattle.laws.proofs.Tests.{leb-cases}
 use Rattle.limits.specs.Limits.{record_max}
 use Rattle.list.specs.declared.Place.{Place}
 use Rattle.heap.specs.Heap.{count_of, Pushed}
-use Rattle.heap.proofs.HeapLaws.{count_none, heap-none, least-front, front-counted, pushed-either, pushed-kept, pushed-new}
+use Rattle.merge.specs.Keys.{Heaped}
+use Rattle.heap.proofs.HeapLaws.{count_none, count_at, count-where, least-front, front-counted, pushed-either, pushed-kept, pushed-new}
 use Rattle.twin.specs.Twin.{next_lower, lack_of, Lowers}
 
 -- `largest` is the largest lower bound of the first `lists` lists
@@ -19,24 +20,22 @@ pub record Largest (index entries : List ℕ) (at : ℕ → Place) (lists larges
   pub reached : (i : ℕ) × (i < lists) × (next_lower index entries i (at i) ≡ largest)
 
 module _ {index entries : List ℕ} {at : ℕ → Place} where
-  pub lowers-start : {lowers : List ℕ} → Lowers index entries at 0 0 lowers
-  lowers-start {lowers} = record { heap = heap-none lowers; all = λ i h. absurd (omega arith); others = λ y h. absurd (omega (arith, count_none y lowers)) }
+  -- a heap of one lower bound of each list
+  pub lowers-filled : {P : ℕ → ℕ → Type 0} {lists : ℕ} {lowers : List ℕ} → Heaped P lists lowers →
+      ((i x : ℕ) → i < lists → P i x → x ≡ lack_of (next_lower index entries i (at i))) → Lowers index entries at lists lists lowers
+  lowers-filled {P} {lists} {lowers} h is = record {
+    heap = h.heap;
+    all = λ i g. let l = h.long in let c = rw (own i g) at (count_at h.numbers i (omega arith)) in omega (arith, h.bag (lack_of (next_lower index entries i (at i))));
+    others = λ y g.
+        let w = count-where y h.numbers (omega (arith, h.bag y)) in
+        let k : w.0 < lists = let l = h.long in let m = w.1 in omega arith in
+        (w.0, k, let e = own w.0 k in let v = w.2 in omega arith);
+  }
+    where
+      own : (i : ℕ) → i < lists → get_or h.numbers i 0 ≡ lack_of (next_lower index entries i (at i))
+      own i g = is i (get_or h.numbers i 0) g (h.number i g)
 
   module _ {lists size : ℕ} {lowers : List ℕ} (w : Lowers index entries at lists size lowers) where
-    -- one list more
-    pub lowers-more : {lowers' : List ℕ} → Pushed size (lack_of (next_lower index entries lists (at lists))) lowers lowers' →
-        Lowers index entries at (lists + 1) (size + 1) lowers'
-    lowers-more p = record {
-      heap = p.heap;
-      all = λ i h. leb-cases lists i
-          (λ g. let z : i ≡ lists = omega arith in rw z (pushed-new p))
-          (λ g. pushed-kept p (lack_of (next_lower index entries i (at i))) (w.all i g));
-      others = λ y h. ⊎_elim
-          (λ e. (lists, omega arith, omega arith))
-          (λ g. let o = w.others y g in let l = o.1 in (o.0, omega arith, o.2))
-          (pushed-either p y h);
-    }
-
     -- list j moves on
     module _ {at' : ℕ → Place} {lowers' : List ℕ} {j : ℕ} (h : j < lists) (same : (i : ℕ) → (i ≡ j → ⊥) → at' i ≡ at i)
         (rises : next_lower index entries j (at j) ≤ next_lower index entries j (at' j))

@@ -5,7 +5,7 @@ use native.Mathlib.Omega.{arith}
 use native.Mathlib.Decide.{ℕ_discrete}
 use mathlib.Core.Bool.{Bool, true, false}
 use mathlib.Core.List.{List, [], ◌∷◌}
-use lib.ListN.{length, get_or, replicate, get_or-replicate}
+use lib.ListN.{length, get_or, replicate}
 use lib.Dec.{leb}
 use borrow.Author.Tests.{le-leb, lt-leb}
 use Rattle.laws.proofs.Tests.{leb-cases}
@@ -21,14 +21,13 @@ use Rattle.merge.specs.Request.{SoundRequest, lists_of}
 use Rattle.merge.specs.Places.{used_up}
 use Rattle.merge.specs.Put.{Fitting, PutWhere}
 use Rattle.list.specs.Sweeps.{HasRoom, Sweeps}
-use Rattle.merge.proofs.ListsLaws.{asked_entry}
 use Rattle.merge.proofs.TallyLaws.{Tallied, Whole, tallied-start, tallied-skip, tallied-fits, tallied-put, tallied-end}
-use Rattle.merge.proofs.DueLaws.{AllRead, GoesAt, places_on, goes-start, goes_at, all-read-start, all-read-later, next-bounds, next-before}
+use Rattle.merge.proofs.DueLaws.{AllRead, GoesAt, places_on, go-start, goes_at, all-read-start, all-read-later, next-bounds, next-before}
 use Rattle.merge.proofs.DueLaws.{next-inside, next-behind, quiet-used, places-other, on-later, all-read-on}
 use Rattle.merge.specs.Every.{in_all}
 use Rattle.twin.specs.Twin.{next_lower, next_upper, key_of, lack_of, Standing, Frontier, Lowers}
 use Rattle.merge.proofs.EveryLaws.{every-out}
-use Rattle.twin.proofs.FrontierLaws.{least_of, whose, frontier-same, front-list, front-upper, front_below, frontier-moved, front-rises}
+use Rattle.twin.proofs.FrontierLaws.{least_of, whose, front-list, front-upper, front_below, frontier-moved, front-rises}
 use Rattle.twin.proofs.LowersLaws.{Largest, lowers-moved, front-small, lowers-largest}
 
 -- ---- records in every list of a request
@@ -56,22 +55,16 @@ standing : {index entries : List ℕ} {places : List Place} {most : ℕ} → All
 standing r g = record { goes = g; small = λ i h. let b = next-bounds (r.list i h) (g i h) in omega arith }
 
 module _ {index entries : List ℕ} (asked : SoundRequest index entries) where
-  goes_first : (i : ℕ) → i < length entries → GoesAt index entries (replicate 16 start) i
-  goes_first i h = let few = asked.few in rw (get_or-replicate 16 i start start (omega arith)) (goes-start (asked_entry asked i h))
-
-  pub standing-start : Standing index entries (λ i. get_or (replicate 16 start) i start)
-  standing-start = standing (all-read-start asked) goes_first
-
-  pub turning-start : {writing : Bool} {out uppers : List ℕ} → length uppers ≡ 16 → Frontier index entries (λ i. start) (length entries) uppers →
+  pub turning-start : {writing : Bool} {out uppers : List ℕ} → length uppers ≡ 16 → Frontier index entries (λ i. get_or (replicate 16 start) i start) (length entries) uppers →
       Turning index entries writing out out (replicate 16 start) uppers (record { intervals = 0; records = 0 })
   turning-start l f = record {
     x = 1;
     swept = tallied-start refl refl;
     read = all-read-later (all-read-start asked) (omega arith);
-    goes = goes_first;
-    later = λ i h. let b = next-bounds ((all-read-start asked).list i h) (goes_first i h) in omega arith;
-    frontier = frontier-same f (λ i h. let few = asked.few in sym (get_or-replicate 16 i start start (omega arith)));
-    past = (0, asked.some, (next-bounds ((all-read-start asked).list 0 asked.some) (goes_first 0 asked.some)).0);
+    goes = go-start asked;
+    later = λ i h. let b = next-bounds ((all-read-start asked).list i h) (go-start asked i h) in omega arith;
+    frontier = f;
+    past = (0, asked.some, (next-bounds ((all-read-start asked).list 0 asked.some) (go-start asked 0 asked.some)).0);
     long = l;
   }
 

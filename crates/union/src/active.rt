@@ -1,9 +1,8 @@
 // The union by an active interval: intervals come in the order of their lower bounds, and join the active one or are put apart from it.
-ghost use Rattle.std.specs.Prelude.{◌≡◌, true, max, ◌≤◌};
+ghost use Rattle.std.specs.Prelude.{◌≡◌, ◌≤◌};
 ghost use Rattle.limits.specs.Limits.{record_max};
 ghost use Rattle.list.specs.Ginix.{union_of};
 ghost use Rattle.merge.specs.Request.{SoundRequest, lists_of};
-ghost use Rattle.merge.specs.Put.{Fitting, PutWhere};
 ghost use Rattle.list.specs.Sweeps.{HasRoom, Sweeps};
 ghost use Rattle.union.specs.Active.{is_apart, Joined};
 
@@ -12,13 +11,7 @@ use list::answer::Tally;
 use list::reading::Interval;
 use merge::keys::{BOUND, LISTS, fill, refill};
 use merge::places::{all_at_start, moved_on, next_interval};
-use merge::put::put;
-
-fn larger(a: u32, b: u32) -> u32
-    ensures { result ≡ max a b }
-{
-    if a < b { b } else { a }
-}
+use merge::put::{put, put_where};
 
 // Whether the next interval neither overlaps the active one nor touches it.
 fn apart(active: Interval, next: Interval) -> bool
@@ -33,7 +26,7 @@ fn joined(active: Interval, next: Interval) -> Interval
     requires { active.upper ≤ record_max }
     ensures { Joined active next result }
 {
-    let upper = larger(active.upper, next.upper);
+    let upper = active.upper.max(next.upper);
     if apart(active, next) {
         Interval {
             lower: next.lower,
@@ -47,24 +40,6 @@ fn joined(active: Interval, next: Interval) -> Interval
     }
 }
 
-// Puts the active interval where the next one lies apart from it.
-fn put_before(
-    out: &mut [u32],
-    writing: bool,
-    tally: Tally,
-    active: Interval,
-    next: Interval,
-) -> Tally
-    requires high { active.upper ≤ record_max }
-    requires fits { is_apart active next ≡ true → Fitting writing out.old tally active }
-    ensures { PutWhere (is_apart active next) writing out.old out.new tally active result }
-{
-    if apart(active, next) {
-        return put(out, writing, tally, active);
-    }
-    tally
-}
-
 // Counts, and writes, the union of the lists of a request.
 pub fn sweep_active(index: &[u8], entries: &[u32], writing: bool, out: &mut [u32]) -> Tally
     requires sound { SoundRequest index.now entries.now }
@@ -75,21 +50,19 @@ pub fn sweep_active(index: &[u8], entries: &[u32], writing: bool, out: &mut [u32
     fill(index, entries, &mut keys);
     let mut size = entries.len();
     let mut places = all_at_start();
-    let mut tally = Tally {
-        intervals: 0,
-        records: 0,
-    };
+    let mut tally = Tally::default();
     // the least lower bound is in: the first interval joins it
     let first = keys[0] / BOUND;
     let mut active = Interval {
         lower: first,
         upper: first,
     };
+    // no `for`: a list that is not used up comes back into the heap, so how many turns there are no range says
     while 0 < size {
         let j = (keys[0] % LISTS) as usize;
         let entry = entries[j] as usize;
         let next = next_interval(index, entry, places[j]);
-        tally = put_before(out, writing, tally, active, next);
+        tally = put_where(apart(active, next), out, writing, tally, active);
         active = joined(active, next);
         places = moved_on(index, entry, places, j);
         size = refill(index, entry, places[j], j, &mut keys, size);

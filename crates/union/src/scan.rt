@@ -1,8 +1,7 @@
 // The union by the scan line: a counter goes up at each lower bound and down behind each upper one.
-ghost use Rattle.std.specs.Prelude.{◌≡◌, ◌≤◌, eqb};
+ghost use Rattle.std.specs.Prelude.{◌≡◌};
 ghost use Rattle.list.specs.Ginix.{union_of};
 ghost use Rattle.merge.specs.Request.{SoundRequest, lists_of};
-ghost use Rattle.merge.specs.Put.{Fitting, PutWhere, up_to};
 ghost use Rattle.list.specs.Sweeps.{HasRoom, Sweeps};
 ghost use Rattle.union.specs.Scan.{lower_from};
 
@@ -11,36 +10,13 @@ use list::answer::Tally;
 use list::reading::Interval;
 use merge::keys::{BOUND, LISTS, fill, refill, to_upper};
 use merge::places::{all_at_start, moved_on};
-use merge::put::put;
+use merge::put::put_where;
 
 // Where the open stretch begins, when a lower bound comes at x and `count` lists were in.
 fn begun(count: usize, lower: u32, x: u32) -> u32
     ensures { result ≡ lower_from count lower x }
 {
     if count == 0 { x } else { lower }
-}
-
-// Puts the open stretch where an upper bound came before x and no list is in any more.
-fn put_closed(
-    out: &mut [u32],
-    writing: bool,
-    tally: Tally,
-    count: usize,
-    lower: u32,
-    x: u32,
-) -> Tally
-    requires begun { 1 ≤ x }
-    requires fits { count ≡ 0 → Fitting writing out.old tally (up_to lower x) }
-    ensures { PutWhere (eqb count 0) writing out.old out.new tally (up_to lower x) result }
-{
-    if count == 0 {
-        let stretch = Interval {
-            lower,
-            upper: x - 1,
-        };
-        return put(out, writing, tally, stretch);
-    }
-    tally
 }
 
 // Counts, and writes, the union of the lists of a request.
@@ -53,12 +29,10 @@ pub fn sweep_scan(index: &[u8], entries: &[u32], writing: bool, out: &mut [u32])
     fill(index, entries, &mut keys);
     let mut size = entries.len();
     let mut places = all_at_start();
-    let mut tally = Tally {
-        intervals: 0,
-        records: 0,
-    };
+    let mut tally = Tally::default();
     let mut count = 0;
     let mut lower = 0;
+    // no `for`: a list that is not used up comes back into the heap, so how many turns there are no range says
     while 0 < size {
         let key = keys[0];
         let j = (key % LISTS) as usize;
@@ -69,7 +43,11 @@ pub fn sweep_scan(index: &[u8], entries: &[u32], writing: bool, out: &mut [u32])
             to_upper(index, entry, places[j], j, &mut keys, size);
         } else {
             count -= 1;
-            tally = put_closed(out, writing, tally, count, lower, key / BOUND);
+            let stretch = Interval {
+                lower,
+                upper: key / BOUND - 1,
+            };
+            tally = put_where(count == 0, out, writing, tally, stretch);
             places = moved_on(index, entry, places, j);
             size = refill(index, entry, places[j], j, &mut keys, size);
         }

@@ -1,13 +1,13 @@
 -- A window changed word by word: the loop's invariant, and what it leaves bit by bit.
-use mathlib.Core.Path.{◌≡◌, refl, sym, ap, ◌∙◌}
+use mathlib.Core.Path.{◌≡◌, refl, ap, ◌∙◌}
 use Prim.Native.Nat.{ℕ, ◌+◌, ◌/◌, ◌%◌, ◌≤◌, ◌<◌}
 use native.Mathlib.Decide.{ℕ_discrete}
 use native.Mathlib.Omega.{arith}
-use mathlib.Core.List.{List, []}
+use mathlib.Core.List.{List}
 use mathlib.Core.Bool.{Bool, true, false, ◌&&◌}
 use lib.Bits.{bit_and, bit_xor}
-use lib.ListN.{length, get_or, set, length-set, replicate, length-replicate, get_or-replicate}
-use lib.Seq.{get_or-set_same, get_or-set_other, ext_get_or}
+use lib.ListN.{length, get_or, set, length-set}
+use lib.Seq.{get_or-set_same, get_or-set_other}
 use Rattle.window.specs.Bit.{on}
 use Rattle.window.specs.Window.{bit_at, CombinedWord, Combined, without}
 use Rattle.window.proofs.BitLaws.{differs, on_and, on_xor}
@@ -46,13 +46,3 @@ on-without a b i = on_xor a (bit_and a b) i ∙ ap (differs (on a i)) (on_and a 
     less : (s t : Bool) → differs s (s && t) ≡ without s t
     less true t = refl
     less false t = refl
-
--- ---- all words zero
-
-abbrev pub Blank : ℕ → ℕ → ℕ → Type 0
-Blank a b w = w ≡ 0
-
-pub upto-blank : (xs zs : List ℕ) → Upto Blank xs [] (length xs) zs → zs ≡ replicate (length xs) 0
-upto-blank xs zs u =
-    ext_get_or 0 zs (replicate (length xs) 0) (u.long ∙ sym (length-replicate (length xs) 0))
-    (λ j h. let l = u.long in let g : j < length xs = omega arith in u.done j g ∙ sym (get_or-replicate (length xs) j 0 0 g))

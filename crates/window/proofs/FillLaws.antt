@@ -7,8 +7,10 @@ use mathlib.Core.List.{List}
 use mathlib.Core.Bool.{Bool, true, false, ◌||◌, ◌&&◌, and-true, and-false, or-true, or-false, or_assoc}
 use lib.Bits.{bit_and, bit_or}
 use lib.Dec.{leb, ltb}
-use lib.ListN.{length, get_or, set, length-set}
+use lib.ListN.{length, get_or, set, length-set, replicate}
 use lib.Seq.{get_or-set_same, get_or-set_other}
+use borrow.Rule.Slice.PartMut.{mid_of, put_mid}
+use Rattle.std.proofs.lemmas.Grind.{common_steps}
 use borrow.Author.Tests.{le-leb, lt-leb, lt-ltb, le-ltb}
 use Rattle.laws.proofs.Tests.{leb-cases}
 use Rattle.window.specs.Bit.{on}
@@ -113,12 +115,29 @@ fill-first ws a k l ea =
     fill-fresh ws a (64 * k + 64) k (first_mask a) l ea (omega arith) (omega arith)
     (λ i h. on-from (a % 64) i h ∙ on-first a k i ea h ∙ sym (rw (lt-ltb (64 * k + i) (64 * k + 64) (omega arith)) (and-true (leb a (64 * k + i)))))
 
--- one between
-pub fill-between : {ws₀ ws : List ℕ} {a : ℕ} (k : ℕ) → k < length ws₀ → a ≤ 64 * k → Filled ws₀ a (64 * k) ws →
-    Filled ws₀ a (64 * k + 64) (set ws k (2 ^ 64 - 1))
-fill-between {ws₀} {ws} {a} k l o f =
-    filled_more (2 ^ 64 - 1) f l o (omega arith) (omega arith) (omega arith)
-    (λ i h. on-ones 64 i h ∙ sym (rw (within_in a (64 * k + 64) (64 * k + i) (omega arith) (omega arith)) (or-true (bit_at ws₀ (64 * k + i)))))
+-- those between, which are the k words from i on
+pub fill-between : {xs ys : List ℕ} {a e : ℕ} (i k : ℕ) → a ≡ 64 * i → e ≡ 64 * (i + k) → i + k ≤ length xs →
+    ys ≡ replicate (length (mid_of i k xs)) (2 ^ 64 - 1) → Filled xs a e (put_mid i k xs ys)
+unfolding bit_at
+fill-between {xs} {ys} {a} {e} i k f g l v = record {
+  long = grind (arith, common_steps);
+  bits = λ n h. leb-cases i (n / 64) (λ p. leb-cases (i + k) (n / 64) (past n) (λ q. between n p q)) (before n);
+}
+  where
+    past : (n : ℕ) → i + k ≤ n / 64 → bit_at (put_mid i k xs ys) n ≡ bit_at xs n || within a e n
+    past n p =
+        let w : get_or (put_mid i k xs ys) (n / 64) 0 ≡ get_or xs (n / 64) 0 = grind (arith, common_steps) in
+        rw (w, within-past a e n (omega arith), or-false (bit_at xs n))
+
+    between : (n : ℕ) → i ≤ n / 64 → n / 64 < i + k → bit_at (put_mid i k xs ys) n ≡ bit_at xs n || within a e n
+    between n p q =
+        let w : get_or (put_mid i k xs ys) (n / 64) 0 ≡ 2 ^ 64 - 1 = grind (arith, common_steps) in
+        rw (w, within_in a e n (omega arith) (omega arith), or-true (bit_at xs n)) (on-ones 64 (n % 64) (omega arith))
+
+    before : (n : ℕ) → n / 64 < i → bit_at (put_mid i k xs ys) n ≡ bit_at xs n || within a e n
+    before n p =
+        let w : get_or (put_mid i k xs ys) (n / 64) 0 ≡ get_or xs (n / 64) 0 = grind (arith, common_steps) in
+        rw (w, within-before a e n (omega arith), or-false (bit_at xs n))
 
 -- the last
 pub fill-last : {ws₀ ws : List ℕ} {a : ℕ} (b k : ℕ) → k < length ws₀ → a ≤ 64 * k → b / 64 ≡ k → Filled ws₀ a (64 * k) ws →

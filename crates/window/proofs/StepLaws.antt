@@ -20,12 +20,6 @@ use Rattle.window.proofs.MemberLaws.{records-held}
 use Rattle.window.proofs.SweepLaws.{part-turn, window-part, jump-part}
 use Rattle.window.specs.Steps.{PutCells, Constant, Stepped}
 
--- ---- no cell put behind those that are done
-
-pub put-none : (k : ℕ) (writing : Bool) (out : List ℕ) → PutCells [] k writing out out k
-put-none k true out = record { count = omega arith; written = refl }
-put-none k false out = record { count = omega arith; written = refl }
-
 -- ---- a jump and a window as steps
 
 constant-records : (p : ℕ → Bool) (x y : ℕ) (v : Bool) → 1 ≤ x → x < y → Constant p x y v → length (records_from p x (y - x)) ≡ cond v (y - x) 0

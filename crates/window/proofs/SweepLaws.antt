@@ -1,9 +1,9 @@
 -- A sweep over the numbers, part by part: n are left from x on and k cells are written; the first m of them go by, and the rest is left.
 use mathlib.Core.Path.{◌≡◌, refl, sym, ap, ◌∙◌}
-use Prim.Native.Nat.{ℕ, ◌+◌, ◌-◌, ◌*◌, ◌%◌, ◌≤◌, ◌<◌}
+use Prim.Native.Nat.{ℕ, ◌+◌, ◌-◌, ◌*◌, ◌≤◌, ◌<◌}
 use native.Mathlib.Omega.{arith}
-use mathlib.Core.List.{List, [], ◌∷◌, ◌++◌}
-use mathlib.Core.Bool.{Bool, true, false}
+use mathlib.Core.List.{List, [], ◌++◌}
+use mathlib.Core.Bool.{Bool}
 use lib.ListN.{length}
 use Rattle.list.specs.Stretches.{turned, stretches}
 use Rattle.window.specs.Window.{Holds}
@@ -24,18 +24,3 @@ window-part p x k m ws e h = rw e (flips-held p (odd k) x (64 * length ws) ws (o
 
 pub jump-part : (p : ℕ → Bool) (v : Bool) (x k m : ℕ) → 1 ≤ m → ((i : ℕ) → i < m → p (x + i) ≡ v) → turned (odd k) v x [] ≡ flips p (odd k) x m
 jump-part p v x k m l h = sym (flips-constant p (odd k) v x m l h)
-
--- ---- the cell of a jump, by the parity
-
-module _ (k : ℕ) {v : Bool} (x : ℕ) where
-  pub stays-in : k % 2 ≡ 1 → v ≡ true → turned (odd k) v x [] ≡ []
-  stays-in e f = rw (e, f)
-
-  pub turns-in : (k % 2 ≡ 1 → ⊥) → v ≡ true → turned (odd k) v x [] ≡ x ∷ []
-  turns-in d f = let e : k % 2 ≡ 0 = omega arith in rw (e, f)
-
-  pub stays_out : k % 2 ≡ 0 → v ≡ false → turned (odd k) v x [] ≡ []
-  stays_out e f = rw (e, f)
-
-  pub turns-out : (k % 2 ≡ 0 → ⊥) → v ≡ false → turned (odd k) v x [] ≡ (x - 1) ∷ []
-  turns-out d f = let e : k % 2 ≡ 1 = omega arith in rw (e, f)

@@ -26,11 +26,7 @@ pub fn fill_range(ws: &mut [u64], a: u32, b: u32)
         return;
     }
     ws[i] = ws[i] | first;
-    let mut k = i + 1;
-    while k < j {
-        ws[k] = u64::MAX;
-        k += 1;
-    }
+    ws[i + 1..j].fill(u64::MAX);
     ws[j] = ws[j] | last;
 }
 
@@ -38,9 +34,5 @@ pub fn fill_range(ws: &mut [u64], a: u32, b: u32)
 pub fn clear(ws: &mut [u64])
     ensures { ws.new ≡ replicate (length ws.old) 0 }
 {
-    let mut i: usize = 0;
-    while i < ws.len() {
-        ws[i] = 0;
-        i += 1;
-    }
+    ws.fill(0);
 }

@@ -12,12 +12,9 @@ pub fn count_flips(ws: &[u64], k0: usize) -> usize
 {
     let mut k = k0;
     let mut c = (k0 % 2) as u64;
-    let mut i: usize = 0;
-    while i < ws.len() {
-        let w = ws[i];
+    for &w in ws {
         k += u64::count_ones(w ^ (c | (w << 1))) as usize;
         c = w >> 63;
-        i += 1;
     }
     k
 }
@@ -32,6 +29,7 @@ fn write_marks(x0: u64, base: u32, k0: usize, out: &mut [u32]) -> usize
 {
     let mut x = x0;
     let mut k = k0;
+    // no `for`: a turn clears the lowest bit that is set, and jumps over the clear ones
     while x != 0 {
         let t = u64::trailing_zeros(x);
         out[k] = base + t - (k % 2) as u32;
@@ -50,13 +48,10 @@ pub fn write_flips(ws: &[u64], base: u32, k0: usize, out: &mut [u32]) -> usize
 {
     let mut k = k0;
     let mut at = base;
-    let mut i: usize = 0;
-    while i < ws.len() {
-        let w = ws[i];
+    for &w in ws {
         let c = (k % 2) as u64;
         k = write_marks(w ^ (c | (w << 1)), at, k, out);
         at += 64;
-        i += 1;
     }
     k
 }

@@ -8,10 +8,8 @@ pub fn count_members(ws: &[u64]) -> usize
     ensures { (base : ℕ) → result ≡ length (members_of ws.now base) }
 {
     let mut n: usize = 0;
-    let mut i: usize = 0;
-    while i < ws.len() {
-        n += u64::count_ones(ws[i]) as usize;
-        i += 1;
+    for &w in ws {
+        n += u64::count_ones(w) as usize;
     }
     n
 }

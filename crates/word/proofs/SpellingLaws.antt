@@ -11,9 +11,10 @@ use lib.ListN.{length, get_or, length-map}
 use borrow.Author.Tests.{eqb-true, eq-eqb, leb-true, le-leb, not-true}
 use Rattle.laws.proofs.Tests.{true-false, and_both, both-and, by-test, same_test, leb-cases}
 use Rattle.limits.specs.Limits.{word_max}
-use Rattle.word.specs.declared.Operator.{Operator}
-use Rattle.word.specs.declared.Operator.TheVariants.{And, Or, Not, Neither}
-use Rattle.word.specs.Word.{between, all_word_bytes, same, small_letter, small_operator_of, operator_of, some, is_small_operator, is_operator, is_barred, is_word}
+use Rattle.std.specs.Prelude.{Option, Some, None, is_some}
+use Rattle.word.specs.declared.Op.{Op}
+use Rattle.word.specs.declared.Op.TheVariants.{And, Or, Not}
+use Rattle.word.specs.Word.{between, all_word_bytes, same, small_letter, small_operator_of, operator_of, is_small_operator, is_operator, is_barred, is_word}
 use Rattle.word.proofs.WordLaws.{same-equal, differ-length}
 
 -- ---- in small letters, by length and bytes
@@ -38,19 +39,19 @@ same-three (x ∷ y ∷ []) a b c h = absurd (omega arith)
 same-three (x ∷ y ∷ z ∷ []) a b c h = and-three (eqb x a) (eqb y b) (eqb z c)
 same-three (x ∷ y ∷ z ∷ u ∷ r) a b c h = absurd (omega arith)
 
-small-two : (w : List ℕ) → length w ≡ 2 → small_operator_of w ≡ cond (eqb (get_or w 0 0) 111 && eqb (get_or w 1 0) 114) Or Neither
+small-two : (w : List ℕ) → length w ≡ 2 → small_operator_of w ≡ cond (eqb (get_or w 0 0) 111 && eqb (get_or w 1 0) 114) (Some Or) None
 unfolding small_operator_of
 small-two w h =
     rw (differ-length w (97 ∷ 110 ∷ 100 ∷ []) (λ e. omega arith), differ-length w (110 ∷ 111 ∷ 116 ∷ []) (λ e. omega arith), same-two w 111 114 h)
 
 small-three : (w : List ℕ) → length w ≡ 3 →
     small_operator_of w
-    ≡ cond (eqb (get_or w 0 0) 97 && eqb (get_or w 1 0) 110 && eqb (get_or w 2 0) 100) And
-    (cond (eqb (get_or w 0 0) 110 && eqb (get_or w 1 0) 111 && eqb (get_or w 2 0) 116) Not Neither)
+    ≡ cond (eqb (get_or w 0 0) 97 && eqb (get_or w 1 0) 110 && eqb (get_or w 2 0) 100) (Some And)
+    (cond (eqb (get_or w 0 0) 110 && eqb (get_or w 1 0) 111 && eqb (get_or w 2 0) 116) (Some Not) None)
 unfolding small_operator_of
 small-three w h = rw (differ-length w (111 ∷ 114 ∷ []) (λ e. omega arith), same-three w 97 110 100 h, same-three w 110 111 116 h)
 
-small-other : (w : List ℕ) → (length w ≡ 2 → ⊥) → (length w ≡ 3 → ⊥) → small_operator_of w ≡ Neither
+small-other : (w : List ℕ) → (length w ≡ 2 → ⊥) → (length w ≡ 3 → ⊥) → small_operator_of w ≡ None
 unfolding small_operator_of
 small-other w n m = rw (differ-length w (97 ∷ 110 ∷ 100 ∷ []) m, differ-length w (111 ∷ 114 ∷ []) n, differ-length w (110 ∷ 111 ∷ 116 ∷ []) m)
 
@@ -63,7 +64,7 @@ letter_by every b = cond every (small_letter b) b
 abbrev spelt : Bool → List ℕ → List ℕ
 spelt every w = cond every (map small_letter w) w
 
-abbrev pub operator_by : Bool → List ℕ → Operator
+abbrev pub operator_by : Bool → List ℕ → Option Op
 operator_by every w = cond every (operator_of w) (small_operator_of w)
 
 -- ---- a letter with its bit 5 set: of the small letters it is set, of the capital ones it is not
@@ -137,33 +138,33 @@ module _ (every : Bool) (w : List ℕ) where
     letter-is : (i l : ℕ) → between 97 122 l ≡ true → eqb (get_or (spelt every w) i 0) l ≡ eqb (letter_at w bit i) l
     letter-is i l e = rw (spelt-at every w i, is) (sym (letter-by every (get_or w i 0) l e))
 
-    pub operator-two : length w ≡ 2 → (t : Bool) → are_two w bit 111 114 ≡ t → operator_by every w ≡ cond t Or Neither
+    pub operator-two : length w ≡ 2 → (t : Bool) → are_two w bit 111 114 ≡ t → operator_by every w ≡ cond t (Some Or) None
     operator-two h t e =
         by-spelt every w ∙ small-two (spelt every w) (spelt-length every w ∙ h)
         ∙ rw (letter-is 0 111 refl, letter-is 1 114 refl, e)
 
     pub operator-three : length w ≡ 3 → (s t : Bool) → are_three w bit 97 110 100 ≡ s → are_three w bit 110 111 116 ≡ t →
-        operator_by every w ≡ cond s And (cond t Not Neither)
+        operator_by every w ≡ cond s (Some And) (cond t (Some Not) None)
     operator-three h s t d e =
         by-spelt every w ∙ small-three (spelt every w) (spelt-length every w ∙ h)
         ∙ rw (letter-is 0 97 refl, letter-is 1 110 refl, letter-is 2 100 refl, letter-is 0 110 refl, letter-is 1 111 refl, letter-is 2 116 refl, d, e)
 
-  pub operator-other : (length w ≡ 2 → ⊥) → (length w ≡ 3 → ⊥) → operator_by every w ≡ Neither
+  pub operator-other : (length w ≡ 2 → ⊥) → (length w ≡ 3 → ⊥) → operator_by every w ≡ None
   operator-other n m =
       let l = spelt-length every w in
       by-spelt every w ∙ small-other (spelt every w) (λ e. n (sym l ∙ e)) (λ e. m (sym l ∙ e))
 
-  pub barred-some : is_barred every w ≡ some (operator_by every w)
+  pub barred-some : is_barred every w ≡ is_some (operator_by every w)
   unfolding is_operator is_small_operator
   barred-some = go every
     where
-      go : (t : Bool) → is_barred t w ≡ some (operator_by t w)
+      go : (t : Bool) → is_barred t w ≡ is_some (operator_by t w)
       go true = refl
       go false = refl
 
-pub neither-none : (w : List ℕ) → operator_of w ≡ Neither → is_operator w ≡ false
+pub neither-none : (w : List ℕ) → operator_of w ≡ None → is_operator w ≡ false
 unfolding is_operator
-neither-none w e = ap some e
+neither-none w e = ap is_some e
 
 -- ---- what bars every spelling bars the small letters'
 
@@ -173,7 +174,7 @@ unfolding is_small_operator is_operator operator_of small_operator_of small_lett
 small_any w e = go (same w (97 ∷ 110 ∷ 100 ∷ [])) (same w (111 ∷ 114 ∷ [])) (same w (110 ∷ 111 ∷ 116 ∷ [])) refl refl refl e
   where
     go : (a o n : Bool) → same w (97 ∷ 110 ∷ 100 ∷ []) ≡ a → same w (111 ∷ 114 ∷ []) ≡ o → same w (110 ∷ 111 ∷ 116 ∷ []) ≡ n →
-        some (cond a And (cond o Or (cond n Not Neither))) ≡ true → is_operator w ≡ true
+        is_some (cond a (Some And) (cond o (Some Or) (cond n (Some Not) None))) ≡ true → is_operator w ≡ true
     go true o n p q r e = rw (same-equal w (97 ∷ 110 ∷ 100 ∷ []) p)
     go false true n p q r e = rw (same-equal w (111 ∷ 114 ∷ []) q)
     go false false true p q r e = rw (same-equal w (110 ∷ 111 ∷ 116 ∷ []) r)

@@ -7,12 +7,13 @@ use mathlib.Core.List.{List, [], ◌∷◌, ◌++◌}
 use mathlib.Core.Bool.{Bool, true, false, not, cond, ◌&&◌, ◌||◌}
 use lib.Dec.{eqb, ltb}
 use lib.ListN.{length, get_or, drop}
-use borrow.Author.Tests.{eqb-true, eqb-false, ltb-true, ltb-false, lt-ltb, le-ltb, eq-eqb, ne_eqb, le-leb, lt-leb}
+use borrow.Author.Tests.{eqb-true, eqb-false, ltb-true, ltb-false, lt-ltb, le-ltb, eq-eqb, le-leb, lt-leb}
 use Rattle.laws.proofs.Tests.{true-false, and_both, both-and, or-either, by-test}
 use Rattle.laws.proofs.Lists.{drop-next, drop-none}
 use Rattle.limits.specs.Limits.{word_max}
-use Rattle.word.specs.declared.Order.{Order}
-use Rattle.word.specs.declared.Order.TheVariants.{Before, Same, Behind}
+use Rattle.std.specs.declared.cmp.Ordering.TheVariants.{Less, Equal, Greater}
+use Rattle.std.specs.Ordering.{ordering_then, nat_cmp, is_lt}
+use Rattle.std.specs.Cmp.Lexicographic.{slice_cmp}
 use Rattle.word.specs.Word.{is_word_byte, all_word_bytes, same, before, is_barred, is_word, order_of}
 
 -- ---- sameness is equality
@@ -48,22 +49,22 @@ before-irreflexive [] = refl
 before-irreflexive (x ∷ xs) = rw (le-ltb x x (omega arith), eq-eqb x x refl) (before-irreflexive xs)
 
 -- one byte more
-abbrev Less : ℕ → List ℕ → ℕ → List ℕ → Type 0
-Less x xs y ys = (x < y) ⊎ ((x ≡ y) × (before xs ys ≡ true))
+abbrev LessBytes : ℕ → List ℕ → ℕ → List ℕ → Type 0
+LessBytes x xs y ys = (x < y) ⊎ ((x ≡ y) × (before xs ys ≡ true))
 
-less-of : (x y : ℕ) (xs ys : List ℕ) → before (x ∷ xs) (y ∷ ys) ≡ true → Less x xs y ys
+less-of : (x y : ℕ) (xs ys : List ℕ) → before (x ∷ xs) (y ∷ ys) ≡ true → LessBytes x xs y ys
 unfolding before
 less-of x y xs ys h =
     ⊎_elim (λ l. inl (ltb-true x y l)) (λ l. let w = and_both (eqb x y) (before xs ys) l in inr (eqb-true x y w.0, w.1))
     (or-either (ltb x y) (eqb x y && before xs ys) h)
 
-of-less : (x y : ℕ) (xs ys : List ℕ) → Less x xs y ys → before (x ∷ xs) (y ∷ ys) ≡ true
+of-less : (x y : ℕ) (xs ys : List ℕ) → LessBytes x xs y ys → before (x ∷ xs) (y ∷ ys) ≡ true
 unfolding before
 of-less x y xs ys (inl h) = rw (lt-ltb x y h)
 of-less x y xs ys (inr h) = let e : x ≡ y = h.0 in rw (le-ltb x y (omega arith), eq-eqb x y e) h.1
 
-less-trans : (x y z : ℕ) (xs ys zs : List ℕ) → (before xs ys ≡ true → before ys zs ≡ true → before xs zs ≡ true) → Less x xs y ys → Less y ys z zs →
-    Less x xs z zs
+less-trans : (x y z : ℕ) (xs ys zs : List ℕ) → (before xs ys ≡ true → before ys zs ≡ true → before xs zs ≡ true) → LessBytes x xs y ys → LessBytes y ys z zs →
+    LessBytes x xs z zs
 less-trans x y z xs ys zs ih (inl h) (inl k) = inl (omega arith)
 less-trans x y z xs ys zs ih (inl h) (inr k) = let e : y ≡ z = k.0 in inl (omega arith)
 less-trans x y z xs ys zs ih (inr h) (inl k) = let e : x ≡ y = h.0 in inl (omega arith)
@@ -103,9 +104,6 @@ before-total (x ∷ xs) (y ∷ ys) = total-step x y xs ys (ltb x y) (eqb x y) re
 
 -- ---- the bytes, one after the other
 
-pub bytes-start : (s : List ℕ) → all_word_bytes s ≡ true && all_word_bytes (drop 0 s)
-bytes-start s = refl
-
 pub bytes-at : (s : List ℕ) (all : Bool) (i : ℕ) → i < length s →
     all && all_word_bytes (drop i s) ≡ all && is_word_byte (get_or s i 0) && all_word_bytes (drop (i + 1) s)
 unfolding all_word_bytes
@@ -129,80 +127,60 @@ bytes_next (a ∷ w) b e p =
     let both = and_both (is_word_byte a) (all_word_bytes w) e in
     both-and (is_word_byte a) (all_word_bytes (w ++ b ∷ [])) both.0 (bytes_next w b both.1 p)
 
--- ---- the order, place by place
+-- ---- the order, as the library compares bytes
 
-pub order-start : (a b : List ℕ) → order_of a b ≡ order_of (drop 0 a) (drop 0 b)
-order-start a b = refl
+order-step : (x y : ℕ) (xs ys : List ℕ) (s t : Bool) → ltb x y ≡ s → eqb x y ≡ t → order_of xs ys ≡ slice_cmp nat_cmp xs ys →
+    cond (t && same xs ys) Equal (cond (s || (t && before xs ys)) Less Greater) ≡ ordering_then (cond s Less (cond t Equal Greater)) (slice_cmp nat_cmp xs ys)
+unfolding order_of
+order-step x y xs ys true true p q ih = absurd (let l = ltb-true x y p in let e = eqb-true x y q in omega arith)
+order-step x y xs ys true false p q ih = refl
+order-step x y xs ys false true p q ih = ih
+order-step x y xs ys false false p q ih = refl
 
-pub order-equal : (a b : List ℕ) (i : ℕ) → i < length a → i < length b → get_or a i 0 ≡ get_or b i 0 →
-    order_of (drop i a) (drop i b) ≡ order_of (drop (i + 1) a) (drop (i + 1) b)
+pub order-is-cmp : (a b : List ℕ) → order_of a b ≡ slice_cmp nat_cmp a b
 unfolding order_of same before
-order-equal a b i h k e =
-    rw (drop-next a i h, drop-next b i k, eq-eqb (get_or a i 0) (get_or b i 0) e, le-ltb (get_or a i 0) (get_or b i 0) (omega arith))
-
-pub order-differ : (a b : List ℕ) (i : ℕ) → i < length a → i < length b → (get_or a i 0 ≡ get_or b i 0 → ⊥) →
-    order_of (drop i a) (drop i b) ≡ cond (ltb (get_or a i 0) (get_or b i 0)) Before Behind
-unfolding order_of same before
-order-differ a b i h k n = rw (drop-next a i h, drop-next b i k, ne_eqb (get_or a i 0) (get_or b i 0) n) (go (ltb (get_or a i 0) (get_or b i 0)))
-  where
-    go : (t : Bool) → cond (t || false) Before Behind ≡ cond t Before Behind
-    go true = refl
-    go false = refl
-
-pub order_same : (a b : List ℕ) (i : ℕ) → length a ≤ i → length b ≤ i → order_of (drop i a) (drop i b) ≡ Same
-unfolding order_of same
-order_same a b i h k = rw (drop-none a i h, drop-none b i k)
-
-pub order-prefix : (a b : List ℕ) (i : ℕ) → length a ≤ i → i < length b → order_of (drop i a) (drop i b) ≡ Before
-unfolding order_of same before
-order-prefix a b i h k = rw (drop-none a i h, drop-next b i k)
-
-pub order-longer : (a b : List ℕ) (i : ℕ) → i < length a → length b ≤ i → order_of (drop i a) (drop i b) ≡ Behind
-unfolding order_of same before
-order-longer a b i h k = rw (drop-next a i h, drop-none b i k)
+order-is-cmp [] [] = refl
+order-is-cmp [] (y ∷ ys) = refl
+order-is-cmp (x ∷ xs) [] = refl
+order-is-cmp (x ∷ xs) (y ∷ ys) = order-step x y xs ys (ltb x y) (eqb x y) refl refl (order-is-cmp xs ys)
 
 -- what an answer says
-pub order-is-same : (a b : List ℕ) → order_of a b ≡ Same → a ≡ b
+pub order-is-same : (a b : List ℕ) → order_of a b ≡ Equal → a ≡ b
 unfolding order_of
 order-is-same a b h = same-equal a b (go (same a b) (before a b) h)
   where
-    go : (s t : Bool) → cond s Same (cond t Before Behind) ≡ Same → s ≡ true
+    go : (s t : Bool) → cond s Equal (cond t Less Greater) ≡ Equal → s ≡ true
     go true t e = refl
     go false true e = absurd (let z : ◌≡◌ {A = ℕ} 0 1 = cc in omega arith)
     go false false e = absurd (let z : ◌≡◌ {A = ℕ} 0 1 = cc in omega arith)
 
 -- cited by nothing: it pins that the one answer left says the order the other way round
-pub order-is-behind : (a b : List ℕ) → order_of a b ≡ Behind → before b a ≡ true
+pub order-is-behind : (a b : List ℕ) → order_of a b ≡ Greater → before b a ≡ true
 unfolding order_of
 order-is-behind a b h = go (same a b) (before a b) (before b a) h (before-total a b)
   where
-    go : (s t u : Bool) → cond s Same (cond t Before Behind) ≡ Behind → t || s || u ≡ true → u ≡ true
+    go : (s t u : Bool) → cond s Equal (cond t Less Greater) ≡ Greater → t || s || u ≡ true → u ≡ true
     go true t u e f = absurd (let z : ◌≡◌ {A = ℕ} 0 1 = cc in omega arith)
     go false true u e f = absurd (let z : ◌≡◌ {A = ℕ} 0 1 = cc in omega arith)
     go false false u e f = f
 
 -- what an answer excludes
-equal-order : (a b : List ℕ) → a ≡ b → order_of a b ≡ Same
+equal-order : (a b : List ℕ) → a ≡ b → order_of a b ≡ Equal
 unfolding order_of
 equal-order a b e = rw (e, same_self b)
 
-pub order-before-differ : (a b : List ℕ) → order_of a b ≡ Before → a ≡ b → ⊥
+pub order-before-differ : (a b : List ℕ) → order_of a b ≡ Less → a ≡ b → ⊥
 order-before-differ a b o e = let z : ◌≡◌ {A = ℕ} 0 1 = cc (equal-order a b e) in omega arith
 
-pub order-behind-differ : (a b : List ℕ) → order_of a b ≡ Behind → a ≡ b → ⊥
+pub order-behind-differ : (a b : List ℕ) → order_of a b ≡ Greater → a ≡ b → ⊥
 order-behind-differ a b o e = let z : ◌≡◌ {A = ℕ} 0 1 = cc (equal-order a b e) in omega arith
 
--- whether an answer is that the first stands before the second
-abbrev pub ascends : Order → Bool
-ascends Before = true
-ascends Same = false
-ascends Behind = false
-
-pub before-ascends : (a b : List ℕ) → before a b ≡ ascends (order_of a b)
+-- the first stands before the second where it is the lesser
+pub before-less : (a b : List ℕ) → before a b ≡ is_lt (order_of a b)
 unfolding order_of
-before-ascends a b = go (same a b) (before a b) refl refl
+before-less a b = go (same a b) (before a b) refl refl
   where
-    go : (s t : Bool) → same a b ≡ s → before a b ≡ t → t ≡ ascends (cond s Same (cond t Before Behind))
+    go : (s t : Bool) → same a b ≡ s → before a b ≡ t → t ≡ is_lt (cond s Equal (cond t Less Greater))
     go true true p q = let e = same-equal a b p in true-false (sym q ∙ rw e (before-irreflexive b))
     go true false p q = refl
     go false true p q = refl

@@ -1,10 +1,10 @@
 -- Words: their bytes, their order, and the three that are operators. Reference 2.
-use Rattle.std.specs.Prelude.{ℕ, ◌+◌, Bool, true, false, not, cond, ◌&&◌, ◌||◌, List, [], ◌∷◌, map, eqb, leb, ltb, length}
+use Rattle.std.specs.Prelude.{ℕ, ◌+◌, Bool, true, false, not, cond, ◌&&◌, ◌||◌, List, [], ◌∷◌, map, eqb, leb, ltb, length, Option, Some, None, is_some}
 use Rattle.limits.specs.Limits.{word_max}
-use Rattle.word.specs.declared.Operator.{Operator}
-use Rattle.word.specs.declared.Operator.TheVariants.{And, Or, Not, Neither}
-use Rattle.word.specs.declared.Order.{Order}
-use Rattle.word.specs.declared.Order.TheVariants.{Before, Same, Behind}
+use Rattle.std.specs.declared.cmp.Ordering.{Ordering}
+use Rattle.std.specs.declared.cmp.Ordering.TheVariants.{Less, Equal, Greater}
+use Rattle.word.specs.declared.Op.{Op}
+use Rattle.word.specs.declared.Op.TheVariants.{And, Or, Not}
 
 abbrev pub between : ℕ → ℕ → ℕ → Bool
 between a b x = leb a x && leb x b
@@ -36,29 +36,22 @@ unfoldable pub small_letter : ℕ → ℕ
 small_letter b = cond (between 65 90 b) (b + 32) b
 
 -- Reference 2: which operator the bytes are in small letters, if any
-unfoldable pub small_operator_of : List ℕ → Operator
+unfoldable pub small_operator_of : List ℕ → Option Op
 small_operator_of w =
-    cond (same w (97 ∷ 110 ∷ 100 ∷ [])) And
-    (cond (same w (111 ∷ 114 ∷ [])) Or
-    (cond (same w (110 ∷ 111 ∷ 116 ∷ [])) Not Neither))
+    cond (same w (97 ∷ 110 ∷ 100 ∷ [])) (Some And)
+    (cond (same w (111 ∷ 114 ∷ [])) (Some Or)
+    (cond (same w (110 ∷ 111 ∷ 116 ∷ [])) (Some Not) None))
 
 -- Reference 2: which operator they are in any mixture of small and capital letters
-unfoldable pub operator_of : List ℕ → Operator
+unfoldable pub operator_of : List ℕ → Option Op
 operator_of w = small_operator_of (map small_letter w)
-
--- whether it is one at all
-abbrev pub some : Operator → Bool
-some And = true
-some Or = true
-some Not = true
-some Neither = false
 
 -- Reference 2: an operator in small letters, and one in any spelling
 unfoldable pub is_small_operator : List ℕ → Bool
-is_small_operator w = some (small_operator_of w)
+is_small_operator w = is_some (small_operator_of w)
 
 unfoldable pub is_operator : List ℕ → Bool
-is_operator w = some (operator_of w)
+is_operator w = is_some (operator_of w)
 
 -- Reference 2: what is barred from being a word: the operators in every spelling, or those in small letters
 abbrev pub is_barred : Bool → List ℕ → Bool
@@ -69,5 +62,5 @@ unfoldable pub is_word : Bool → List ℕ → Bool
 is_word every w = between 1 word_max (length w) && all_word_bytes w && not (is_barred every w)
 
 -- Reference 2: how the first stands to the second
-unfoldable pub order_of : List ℕ → List ℕ → Order
-order_of a b = cond (same a b) Same (cond (before a b) Before Behind)
+unfoldable pub order_of : List ℕ → List ℕ → Ordering
+order_of a b = cond (same a b) Equal (cond (before a b) Less Greater)

@@ -1,7 +1,7 @@
 // Words: their bytes, their order, and the three that are operators. Reference 2.
 #![tactic(auto)]
 
-ghost use Rattle.std.specs.Prelude.{◌≡◌, cond, min, ltb};
+ghost use Rattle.std.specs.Prelude.{◌≡◌, cond};
 ghost use Rattle.word.specs.Word.{
   is_word_byte,
   all_word_bytes,
@@ -11,25 +11,16 @@ ghost use Rattle.word.specs.Word.{
   is_word,
   order_of,
 };
-ghost use Rattle.word.specs.declared.Order.TheVariants.{Before, Behind};
 
 use limits::WORD_MAX;
+use std::cmp::Ordering;
 
-// Which of the operators some word bytes are, if any.
+// The operators of a question.
 #[derive(Clone, Copy)]
-pub enum Operator {
+pub enum Op {
     And,
     Or,
     Not,
-    Neither,
-}
-
-// How one word stands to another.
-#[derive(Clone, Copy)]
-pub enum Order {
-    Before,
-    Same,
-    Behind,
 }
 
 // Whether a byte is a word byte, without a branch.
@@ -44,10 +35,8 @@ pub fn word_bytes(s: &[u8]) -> bool
     ensures { result ≡ all_word_bytes s.now }
 {
     let mut all = true;
-    let mut i = 0;
-    while i < s.len() {
-        all = all & word_byte(s[i]);
-        i += 1;
+    for b in s {
+        all &= word_byte(*b);
     }
     all
 }
@@ -60,33 +49,33 @@ fn case_bit(every: bool) -> u8
 }
 
 // Which operator the bytes are: in small letters or, where `every` spelling counts, in any mixture of small and capital ones.
-fn operator_by(s: &[u8], every: bool) -> Operator
+fn operator_by(s: &[u8], every: bool) -> Option<Op>
     ensures { result ≡ cond every (operator_of s.now) (small_operator_of s.now) }
 {
     let bit = case_bit(every);
     if s.len() == 2 {
         if ((s[0] | bit) == b'o') & ((s[1] | bit) == b'r') {
-            return Operator::Or;
+            return Some(Op::Or);
         }
-        return Operator::Neither;
+        return None;
     }
     if s.len() != 3 {
-        return Operator::Neither;
+        return None;
     }
     let x = s[0] | bit;
     let y = s[1] | bit;
     let z = s[2] | bit;
     if (x == b'a') & (y == b'n') & (z == b'd') {
-        return Operator::And;
+        return Some(Op::And);
     }
     if (x == b'n') & (y == b'o') & (z == b't') {
-        return Operator::Not;
+        return Some(Op::Not);
     }
-    Operator::Neither
+    None
 }
 
 // Which operator a run of a question is: every spelling is one.
-pub fn operator_of(s: &[u8]) -> Operator
+pub fn operator_of(s: &[u8]) -> Option<Op>
     ensures { result ≡ operator_of s.now }
 {
     operator_by(s, true)
@@ -95,12 +84,7 @@ pub fn operator_of(s: &[u8]) -> Operator
 fn is_barred(s: &[u8], every: bool) -> bool
     ensures { result ≡ is_barred every s.now }
 {
-    match operator_by(s, every) {
-        Operator::And => true,
-        Operator::Or => true,
-        Operator::Not => true,
-        Operator::Neither => false,
-    }
+    operator_by(s, every).is_some()
 }
 
 // Whether the bytes may stand as a word in an index, from which `every` spelling of the operators is barred or those in small letters alone.
@@ -119,37 +103,9 @@ pub fn is_word(s: &[u8], every: bool) -> bool
     !is_barred(s, every)
 }
 
-fn smaller(a: usize, b: usize) -> usize
-    ensures { result ≡ min a b }
-{
-    if a < b { a } else { b }
-}
-
-// The order of two words at the first place where they differ.
-fn order_of_bytes(x: u8, y: u8) -> Order
-    ensures { result ≡ cond (ltb x y) Before Behind }
-{
-    if x < y { Order::Before } else { Order::Behind }
-}
-
-pub fn compare(a: &[u8], b: &[u8]) -> Order
+// The order of two words, byte by byte; the beginning of a word stands before the word.
+pub fn compare(a: &[u8], b: &[u8]) -> Ordering
     ensures { result ≡ order_of a.now b.now }
 {
-    let shared = smaller(a.len(), b.len());
-    let mut i = 0;
-    while i < shared {
-        let x = a[i];
-        let y = b[i];
-        if x != y {
-            return order_of_bytes(x, y);
-        }
-        i += 1;
-    }
-    if a.len() == b.len() {
-        return Order::Same;
-    }
-    if a.len() < b.len() {
-        return Order::Before;
-    }
-    Order::Behind
+    a.cmp(&b)
 }

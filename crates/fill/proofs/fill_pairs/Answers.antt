@@ -1,11 +1,10 @@
 use Prim.Native.Nat.{ℕ, ◌+◌, ◌*◌, ◌≤◌, ◌<◌}
 use native.Mathlib.Omega.{arith}
-use mathlib.Core.Path.{◌≡◌, ◌∙◌}
+use mathlib.Core.Path.{◌≡◌}
 use mathlib.Core.List.{List}
 use lib.ListN.{length}
 use Rattle.list.specs.Cell.{numbers_in}
 use Rattle.list.proofs.CellLaws.{numbers_in-length}
-use Rattle.fill.proofs.AddedLaws.{added-empty}
 use Rattle.fill.proofs.FillingLaws.{pairs-side, side-start, side-order, side-step, side-done, side-past, side-out}
 use Rattle.fill.proofs.fill_pairs.Goals as goal
 use Rattle.fill.proofs.fill_pairs.Goals.{After-number_at-u, In-loop-q}
@@ -14,7 +13,7 @@ use Rattle.fill.proofs.fill_pairs.Goals.{After-number_at-u, In-loop-q}
 abbrev Inside : List ℕ → List ℕ → ℕ → Type 0
 Inside lower upper q = (4 * q + 4 ≤ length lower) × (4 * q + 4 ≤ length upper) × (q < length (numbers_in lower))
 
-inside : (c : In-loop-q) → Inside c.args.lower.now c.args.upper.now c.loop-q.q.0
+inside : (c : In-loop-q) → Inside c.args.lower.now c.args.upper.now c.loop-q.q
 inside c =
     let long = numbers_in-length c.args.lower.now in
     let longer = numbers_in-length c.args.upper.now in
@@ -44,64 +43,25 @@ returns-then-end-u c =
     let apart = c.requires.apart in
     let up = c.number_at-u.ensures in
     side-out (pairs-side apart) c.loop-q.invariant (inside (goal.at.returns-then-end-u c).In-loop-q).2 c.number_at-l.ensures up
-    (λ more. omega (arith, apart.next c.loop-q.q.0 more)) (omega arith) (omega arith)
-    (rw c.above-a.ensures at c.fill_range.ensures)
+    (λ more. omega (arith, apart.next c.loop-q.q more)) (omega arith) (omega arith)
+    (rw c.saturating_sub-a.ensures at c.fill_range.ensures)
 
 pub loop-q-preserved : goal.loop-q-preserved
 loop-q-preserved c = side-step (pairs-side c.requires.apart) c.loop-q.invariant (inside (goal.at.loop-q-preserved c).In-loop-q).2
     c.number_at-l.ensures
-    c.number_at-u.ensures (rw c.above-a.ensures at c.fill_range-in-loop-q.ensures)
+    c.number_at-u.ensures (rw c.saturating_sub-a.ensures at c.fill_range-in-loop-q.ensures)
 
 pub returns : goal.returns
 returns c =
     let test = c.loop-q-test.false in
     side-done (pairs-side c.requires.apart) c.loop-q.invariant (omega (arith, numbers_in-length c.args.lower.now))
 
-pub returns-then-size-eq0 : goal.returns-then-size-eq0
-returns-then-size-eq0 c = added-empty (omega arith)
-
 pub loop-q-init : goal.loop-q-init
 loop-q-init c = side-start (pairs-side c.requires.apart) c.requires.begins
-
-pub number_at-l-requires : goal.number_at-l-requires
-number_at-l-requires c = (inside c).0
-
-pub shape_of-ws-then-end-l : goal.shape_of-ws-then-end-l
-shape_of-ws-then-end-l c = c.loop-q.invariant.filling.long
 
 pub number_at-u-requires : goal.number_at-u-requires
 number_at-u-requires c = (inside (goal.at.number_at-u-requires c).In-loop-q).1
 
-pub fill_range-requires-clause-order : goal.fill_range-requires-clause-order
-fill_range-requires-clause-order c =
-    let w = ahead (goal.at.fill_range-requires-clause-order c).After-number_at-u in
-    let long = same-long (goal.at.fill_range-requires-clause-order c).After-number_at-u in
-    omega arith
-
-pub fill_range-requires-clause-within : goal.fill_range-requires-clause-within
-fill_range-requires-clause-within c =
-    let w = ahead (goal.at.fill_range-requires-clause-within c).After-number_at-u in
-    let long = same-long (goal.at.fill_range-requires-clause-within c).After-number_at-u in
-    omega arith
-
-pub shape_of-ws-then-end-u : goal.shape_of-ws-then-end-u
-shape_of-ws-then-end-u c = c.fill_range.ensures.long ∙ same-long (goal.at.shape_of-ws-then-end-u c).After-number_at-u
-
 pub overflow_sub-u : goal.overflow_sub-u
 overflow_sub-u c =
     let w = ahead (goal.at.overflow_sub-u c).After-number_at-u in omega arith
-
-pub fill_range-requires-in-loop-q-clause-order : goal.fill_range-requires-in-loop-q-clause-order
-fill_range-requires-in-loop-q-clause-order c =
-    let w = ahead (goal.at.fill_range-requires-in-loop-q-clause-order c).After-number_at-u in
-    let long = same-long (goal.at.fill_range-requires-in-loop-q-clause-order c).After-number_at-u in
-    omega arith
-
-pub fill_range-requires-in-loop-q-clause-within : goal.fill_range-requires-in-loop-q-clause-within
-fill_range-requires-in-loop-q-clause-within c =
-    let w = ahead (goal.at.fill_range-requires-in-loop-q-clause-within c).After-number_at-u in
-    let long = same-long (goal.at.fill_range-requires-in-loop-q-clause-within c).After-number_at-u in
-    omega arith
-
-pub shape_of-ws : goal.shape_of-ws
-shape_of-ws c = c.loop-q.invariant.filling.long

@@ -4,4 +4,4 @@ use Rattle.naburain.specs.Result.{check_result}
 use Rattle.naburain.proofs.naburain_check.Goals as goal
 
 pub returns : goal.returns
-returns c = c.check_result.ensures ∙ ap check_result c.check_index.ensures
+returns c = c.from.ensures ∙ ap check_result c.check_index.ensures

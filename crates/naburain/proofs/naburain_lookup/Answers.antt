@@ -4,4 +4,4 @@ use Rattle.naburain.specs.Result.{lookup_result}
 use Rattle.naburain.proofs.naburain_lookup.Goals as goal
 
 pub returns : goal.returns
-returns c = c.lookup_result.ensures ∙ ap lookup_result c.look_up.ensures
+returns c = c.from.ensures ∙ ap lookup_result c.look_up.ensures

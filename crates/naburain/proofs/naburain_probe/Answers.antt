@@ -4,4 +4,4 @@ use Rattle.naburain.specs.Result.{probe_result}
 use Rattle.naburain.proofs.naburain_probe.Goals as goal
 
 pub returns : goal.returns
-returns c = c.probe_result.ensures ∙ ap probe_result c.probe_entry.ensures
+returns c = c.from.ensures ∙ ap probe_result c.probe_entry.ensures

@@ -5,16 +5,16 @@ use Rattle.naburain.proofs.naburain_word.Goals as goal
 
 pub sound_entry-found-requires : goal.sound_entry-found-requires
 sound_entry-found-requires c =
-    let good = sym c.entry_refusal.ensures ∙ c.in-Good.is in
+    let good = sym c.entry_refusal.ensures ∙ c.in-Ok.is in
     entry-good c.args.index.now c.args.entry good
 
-pub returns-in-Good : goal.returns-in-Good
-returns-in-Good c =
-    let good = sym c.entry_refusal.ensures ∙ c.in-Good.is in
+pub returns-in-Ok : goal.returns-in-Ok
+returns-in-Ok c =
+    let good = sym c.entry_refusal.ensures ∙ c.in-Ok.is in
     let e = c.sound_entry-found.ensures.is in
     rw (good, e.word-start, e.word-length)
 
-pub returns-in-Refused : goal.returns-in-Refused
-returns-in-Refused c =
-    let bad = sym c.entry_refusal.ensures ∙ c.in-Refused.is in
+pub returns-in-Err : goal.returns-in-Err
+returns-in-Err c =
+    let bad = sym c.entry_refusal.ensures ∙ c.in-Err.is in
     rw (bad, c.number_of.ensures, c.value_of.ensures)

@@ -1,14 +1,12 @@
 -- What is pending is put piece by piece.
 use Prim.Native.Nat.{◌+◌, ◌-◌}
-use mathlib.Core.Path.{◌≡◌}
-use lib.ListN.{length}
 use Rattle.merge.specs.Every.{in_all}
 use Rattle.probing.proofs.ProbingLaws.{Cut}
 use Rattle.probing.proofs.put_within.Given as goal
 
 abbrev pub invariant-loop-x : goal.invariant-loop-x
 invariant-loop-x l =
-    (length l.hints ≡ length l.initial.hints) × Cut (in_all l.index l.entries) l.initial.x l.b l.writing l.initial.out l.initial.tally l.out l.tally l.piece.«open» l.piece.lower l.x
+    Cut (in_all l.index l.entries) l.initial.x l.b l.writing l.initial.out l.initial.tally l.out l.tally l.piece l.x
 
 abbrev pub decreases-loop-x : goal.decreases-loop-x
 decreases-loop-x l = l.b + 1 - l.x

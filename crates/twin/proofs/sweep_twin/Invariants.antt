@@ -6,9 +6,9 @@ use Rattle.twin.specs.Twin.{AllLowers}
 use Rattle.twin.proofs.TwinLaws.{Turning}
 use Rattle.twin.proofs.sweep_twin.Given as goal
 
-abbrev pub invariant-loop-uppers : goal.invariant-loop-uppers
-invariant-loop-uppers l =
+abbrev pub invariant-loop-places : goal.invariant-loop-places
+invariant-loop-places l =
     Turning l.index l.entries l.writing l.initial.out l.out l.places l.uppers l.tally × AllLowers l.index l.entries l.places l.size l.lowers × (length l.lowers ≡ 32)
 
-abbrev pub decreases-loop-uppers : goal.decreases-loop-uppers
-decreases-loop-uppers l = 268435456 - get_or l.uppers 0 0
+abbrev pub decreases-loop-places : goal.decreases-loop-places
+decreases-loop-places l = 268435456 - get_or l.uppers 0 0

@@ -1,21 +1,8 @@
--- By what the operator's test found.
-use mathlib.Core.Path.{◌≡◌, sym, ap, ◌∙◌}
-use Rattle.word.specs.Word.{some, is_barred}
+-- It is barred where it is an operator.
+use Rattle.std.proofs.Common.{sym, ap, ◌∙◌}
+use Rattle.std.specs.Prelude.{is_some}
 use Rattle.word.proofs.SpellingLaws.{barred-some}
 use Rattle.word.proofs.is_barred.Goals as goal
-use Rattle.word.proofs.is_barred.Goals.{After-operator_by}
 
-said : (c : After-operator_by) → is_barred c.args.every c.args.s.now ≡ some c.operator_by.result
-said c = let a = c.args in barred-some a.every a.s.now ∙ ap some (sym c.operator_by.ensures)
-
-pub returns-in-And : goal.returns-in-And
-returns-in-And c = sym (said (goal.at.returns-in-And c).After-operator_by ∙ ap some c.in-And.is)
-
-pub returns-in-Or : goal.returns-in-Or
-returns-in-Or c = sym (said (goal.at.returns-in-Or c).After-operator_by ∙ ap some c.in-Or.is)
-
-pub returns-in-Not : goal.returns-in-Not
-returns-in-Not c = sym (said (goal.at.returns-in-Not c).After-operator_by ∙ ap some c.in-Not.is)
-
-pub returns-in-Neither : goal.returns-in-Neither
-returns-in-Neither c = sym (said (goal.at.returns-in-Neither c).After-operator_by ∙ ap some c.in-Neither.is)
+pub returns : goal.returns
+returns c = c.is_some.ensures ∙ sym (barred-some c.args.every c.args.s.now ∙ ap is_some (sym c.operator_by.ensures))

@@ -2,19 +2,20 @@
 use mathlib.Core.Path.{◌≡◌, refl, sym}
 use mathlib.Core.Bool.{Bool, true, false, cond}
 use lib.ListN.{length}
-use Rattle.word.specs.declared.Operator.TheVariants.{And, Or, Not, Neither}
+use Rattle.std.specs.Prelude.{Some, None}
+use Rattle.word.specs.declared.Op.TheVariants.{And, Or, Not}
 use Rattle.word.proofs.SpellingLaws.{operator_by, are_two, are_three, operator-two, operator-three, operator-other}
 use Rattle.word.proofs.operator_by.Goals as goal
 use Rattle.word.proofs.operator_by.Goals.{After-case_bit-bit}
 
 -- what two letters say, and what three say
 two : (c : After-case_bit-bit) (t : Bool) → let a = c.args in
-    length a.s.now ≡ 2 → are_two a.s.now c.case_bit-bit.result 111 114 ≡ t → operator_by a.every a.s.now ≡ cond t Or Neither
+    length a.s.now ≡ 2 → are_two a.s.now c.case_bit-bit.result 111 114 ≡ t → operator_by a.every a.s.now ≡ cond t (Some Or) None
 two c t h e = let a = c.args in operator-two a.every a.s.now _ c.case_bit-bit.ensures h t e
 
 three : (c : After-case_bit-bit) (s t : Bool) → let a = c.args in
     length a.s.now ≡ 3 → are_three a.s.now c.case_bit-bit.result 97 110 100 ≡ s → are_three a.s.now c.case_bit-bit.result 110 111 116 ≡ t →
-    operator_by a.every a.s.now ≡ cond s And (cond t Not Neither)
+    operator_by a.every a.s.now ≡ cond s (Some And) (cond t (Some Not) None)
 three c s t h d e = let a = c.args in operator-three a.every a.s.now _ c.case_bit-bit.ensures h s t d e
 
 pub returns-then-s-bit : goal.returns-then-s-bit

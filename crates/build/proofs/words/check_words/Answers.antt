@@ -2,23 +2,18 @@ use mathlib.Core.Path.{sym, ◌∙◌}
 use Prim.Native.Nat.{◌<◌}
 use native.Mathlib.Omega.{arith}
 use lib.ListN.{length}
-use Rattle.laws.proofs.Tests.{leb-cases}
-use Rattle.build.proofs.WordsLaws.{pass-start, pass-end, pass-open, pass-full, pass-bad, pass-next}
+use Rattle.build.proofs.WordsLaws.{pass-start, pass-end, pass-over, pass-bad, pass-next}
 use Rattle.build.proofs.words.check_words.Goals as goal
 use Rattle.build.proofs.words.check_words.Goals.{Else-end-words}
 
 pub returns-then-end-words : goal.returns-then-end-words
-returns-then-end-words c = rw (pass-open c.loop-start.invariant c.part_end-end.ensures.place c.loop-start-test.true c.if-end-words.true)
+returns-then-end-words c =
+    let end = c.part_end-end.ensures in
+    rw (pass-over c.loop-start.invariant end.place c.loop-start-test.true (omega arith) c.then-end-words.either)
 
 -- the word of the turn is ended
 ended : (c : Else-end-words) → c.part_end-end.result < length c.args.words.now
-ended c =
-    let words = c.args.words.now in
-    let end = c.part_end-end in
-    leb-cases (length words) end.result (λ g. absurd (c.if-end-words.false (omega (arith, end.ensures.within)))) (λ g. g)
-
-pub returns-then-count-eq-WORDS_MAX : goal.returns-then-count-eq-WORDS_MAX
-returns-then-count-eq-WORDS_MAX c = rw (pass-full c.loop-start.invariant c.part_end-end.ensures.place (ended (goal.at.returns-then-count-eq-WORDS_MAX c).Else-end-words) c.if-count-eq-WORDS_MAX.true)
+ended c = omega arith
 
 pub returns-then-not-word_good : goal.returns-then-not-word_good
 returns-then-not-word_good c = rw (pass-bad c.loop-start.invariant c.part_end-end.ensures.place (ended (goal.at.returns-then-not-word_good c).Else-end-words)
@@ -35,6 +30,3 @@ returns c =
 
 pub loop-start-init : goal.loop-start-init
 loop-start-init c = pass-start c.args.words.now
-
-pub loop-start-smaller : goal.loop-start-smaller
-loop-start-smaller c = omega (arith, ended (goal.at.loop-start-smaller c).Else-end-words, c.part_end-end.ensures.onward)

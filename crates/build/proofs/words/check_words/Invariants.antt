@@ -5,7 +5,7 @@ use Rattle.build.proofs.WordsLaws.{Passing}
 use Rattle.build.proofs.words.check_words.Given as goal
 
 abbrev pub invariant-loop-start : goal.invariant-loop-start
-invariant-loop-start l = Passing l.words l.prior l.prior_end l.start l.count
+invariant-loop-start l = Passing l.words l.prior l.start l.count
 
 abbrev pub decreases-loop-start : goal.decreases-loop-start
 decreases-loop-start l = length l.words - l.start

@@ -1,6 +1,5 @@
 -- The invariant: what is to be written is what is left to write. Rests on one word of the pass (EnterLaws).
 use mathlib.Core.Path.{◌≡◌}
-use Prim.Native.Nat.{◌-◌}
 use mathlib.Core.List.{[]}
 use lib.ListN.{length, drop}
 use Rattle.build.specs.Lent.{words_from, lists_from}
@@ -13,6 +12,3 @@ invariant-loop-i l =
     (length l.out ≡ length l.initial.out)
     × Entering l.words l.counts l.numbers (length l.initial.out) l.at l.start l.first l.i
     × (lent_entered l.initial.out l.initial.at l.words l.counts l.numbers ≡ all_entered l.out l.at (words_from [] (drop l.start l.words)) (lists_from (drop l.i l.counts) (drop l.first l.numbers)))
-
-abbrev pub decreases-loop-i : goal.decreases-loop-i
-decreases-loop-i l = length l.counts - l.i

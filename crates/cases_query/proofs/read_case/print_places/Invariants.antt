@@ -3,8 +3,8 @@ use Prim.Native.Nat.{◌-◌, ◌≤◌}
 use lib.ListN.{length}
 use Rattle.cases_query.proofs.read_case.print_places.Given as goal
 
-abbrev pub invariant-loop-at : goal.invariant-loop-at
-invariant-loop-at l = l.at ≤ length l.question
+abbrev pub invariant-loop-out : goal.invariant-loop-out
+invariant-loop-out g l = l.at ≤ length l.question
 
-abbrev pub decreases-loop-at : goal.decreases-loop-at
-decreases-loop-at l = length l.question - l.at
+abbrev pub decreases-loop-out : goal.decreases-loop-out
+decreases-loop-out g l = length l.question - l.at

@@ -1,20 +1,39 @@
 -- By the code: an `or`, a bracket that opens or closes, or another. Before each the same two calls have written the code, and a bracket before it.
-use mathlib.Core.Path.{refl}
-use Rattle.codes.proofs.PassLaws.{group-or, group-open, group-close, group-else}
+use mathlib.Core.Path.{refl, sym, ap, ◌∙◌}
+use Rattle.std.proofs.lemmas.Option.{slice_get-get_or}
+use Rattle.word.specs.declared.Op.TheVariants.{Or}
+use Rattle.codes.specs.declared.code.Code.TheVariants as kind
+use Rattle.codes.proofs.PassLaws.{only-or, never-or, group-or, group-open, group-close, group-else}
 use Rattle.codes.proofs.group.group_code.Goals as goal
 
-pub returns-then-code-eq-OR_CODE : goal.returns-then-code-eq-OR_CODE
-returns-then-code-eq-OR_CODE c = group-or c.requires.within c.args.at refl c.ends_group.ensures c.put_code-begun.ensures
-    c.put_code-count.ensures c.if-code-eq-OR_CODE.true c.is_wide-wide.ensures c.put_code.ensures
+pub returns-then-binds_first : goal.returns-then-binds_first
+returns-then-binds_first c =
+    let here = slice_get-get_or c.args.codes.now c.args.i kind.Word c.requires.within in
+    group-else c.requires.within c.args.at here c.ends_group.ensures c.put_code-begun.ensures
+    c.put_code-count.ensures (never-or c.in-Op.is (sym c.binds_first.ensures ∙ c.if-binds_first.true))
+    (λ e. let g = c.in-Op.is in absurd (cc)) (λ e. let g = c.in-Op.is in absurd (cc))
 
-pub returns-then-code-eq-OPEN_CODE : goal.returns-then-code-eq-OPEN_CODE
-returns-then-code-eq-OPEN_CODE c = group-open c.requires.within c.args.at refl c.ends_group.ensures c.put_code-begun.ensures
-    c.put_code-count.ensures c.if-code-eq-OPEN_CODE.true c.enter.ensures
+pub returns-else-binds_first : goal.returns-else-binds_first
+returns-else-binds_first c =
+    let here = slice_get-get_or c.args.codes.now c.args.i kind.Word c.requires.within in
+    group-or c.requires.within c.args.at here c.ends_group.ensures c.put_code-begun.ensures
+    c.put_code-count.ensures (c.in-Op.is ∙ ap kind.Op (only-or c.in-Op.op (sym c.binds_first.ensures ∙ c.if-binds_first.false)))
+    c.is_wide-wide.ensures c.put_code.ensures
 
-pub returns-then-code-eq-CLOSE_CODE : goal.returns-then-code-eq-CLOSE_CODE
-returns-then-code-eq-CLOSE_CODE c = group-close c.requires.within c.args.at refl c.ends_group.ensures c.put_code-begun.ensures
-    c.put_code-count.ensures c.if-code-eq-CLOSE_CODE.true refl refl
+pub returns-in-Open : goal.returns-in-Open
+returns-in-Open c =
+    let here = slice_get-get_or c.args.codes.now c.args.i kind.Word c.requires.within in
+    group-open c.requires.within c.args.at here c.ends_group.ensures c.put_code-begun.ensures
+    c.put_code-count.ensures c.in-Open.is c.enter.ensures
 
-pub returns : goal.returns
-returns c = group-else c.requires.within c.args.at refl c.ends_group.ensures c.put_code-begun.ensures
-    c.put_code-count.ensures c.if-code-eq-OR_CODE.false c.if-code-eq-OPEN_CODE.false c.if-code-eq-CLOSE_CODE.false
+pub returns-in-Close : goal.returns-in-Close
+returns-in-Close c =
+    let here = slice_get-get_or c.args.codes.now c.args.i kind.Word c.requires.within in
+    group-close c.requires.within c.args.at here c.ends_group.ensures c.put_code-begun.ensures
+    c.put_code-count.ensures c.in-Close.is refl refl
+
+pub returns-in_default : goal.returns-in_default
+returns-in_default c =
+    let here = slice_get-get_or c.args.codes.now c.args.i kind.Word c.requires.within in
+    group-else c.requires.within c.args.at here c.ends_group.ensures c.put_code-begun.ensures
+    c.put_code-count.ensures (c.in_default.not-Op Or) c.in_default.not-Open c.in_default.not-Close

@@ -2,7 +2,7 @@ use mathlib.Core.Path.{◌≡◌, ◌∙◌}
 use Prim.Native.Nat.{ℕ}
 use native.Mathlib.Omega.{arith}
 use mathlib.Core.List.{List, ◌∷◌}
-use lib.ListN.{drop, get_or}
+use lib.ListN.{length, drop, get_or}
 use Rattle.limits.specs.Limits.{record_max}
 use Rattle.convert.specs.Runs.{RunAt}
 use Rattle.convert.proofs.NumberLaws.{good-number-small}
@@ -51,4 +51,6 @@ loop-next-preserved c =
     )
 
 pub returns : goal.returns
-returns c = ended (goal.at.returns c).At-loop-next (runs_from-end (lower (goal.at.returns c).At-loop-next) c.loop-next.upper (xs (goal.at.returns c).At-loop-next) c.loop-next.next c.loop-next-test.false)
+returns c =
+    let e : c.loop-next.next ≡ length c.args.numbers.now = omega arith in
+    rw (← e) (ended (goal.at.returns c).At-loop-next (runs_from-end (lower (goal.at.returns c).At-loop-next) c.loop-next.upper (xs (goal.at.returns c).At-loop-next) c.loop-next.next c.loop-next-test.false))

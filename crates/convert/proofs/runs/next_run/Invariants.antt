@@ -13,6 +13,3 @@ invariant-loop-next l =
     × (l.upper ≤ record_max)
     × (l.next ≡ l.i + (l.upper + 1 - l.lower))
     × (runs (drop l.i l.numbers) ≡ runs_from l.lower l.upper (drop l.next l.numbers))
-
-abbrev pub decreases-loop-next : goal.decreases-loop-next
-decreases-loop-next l = length l.numbers - l.next

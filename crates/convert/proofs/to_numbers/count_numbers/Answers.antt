@@ -1,37 +1,30 @@
+use mathlib.Core.Path.{◌∙◌}
 use native.Mathlib.Omega.{arith}
-use borrow.Author.Rules.{rules}
 use Rattle.limits.specs.Limits.{record_max}
-use Rattle.convert.proofs.IntervalLaws.{Next, good-proper, good-proper-from, proper-next, next-rest}
-use Rattle.convert.proofs.SpanLaws.{records-at, records-end, records-small}
+use Rattle.convert.proofs.IntervalLaws.{Pair, good-proper, good-proper-from, proper-pair, pair-rest}
+use Rattle.convert.proofs.SpanLaws.{records-pair, records-none, records-small}
 use Rattle.convert.proofs.to_numbers.count_numbers.Goals as goal
-use Rattle.convert.proofs.to_numbers.count_numbers.Goals.{In-loop-i}
+use Rattle.convert.proofs.to_numbers.count_numbers.Goals.{In-Some}
 
-pub loop-i-init : goal.loop-i-init
-loop-i-init c =
+pub loop-pair-init : goal.loop-pair-init
+loop-pair-init c =
     let cells = c.args.cells.now in
-    (search rules, good-proper-from cells c.requires, omega arith, records-small record_max cells (good-proper cells c.requires))
+    let made = c.chunks_exact-pair-items.ensures in
+    rw (c.into_iter-pair-iterator.ensures.into_iter_gives, made.rest)
+    (made.size, good-proper-from cells c.requires, omega arith, records-small record_max cells (good-proper cells c.requires))
 
 -- the interval of the turn
-next : (c : In-loop-i) → Next record_max 0 c.loop-i.i c.args.cells.now
-next c = proper-next (omega arith) c.loop-i.invariant.1
+next : (c : In-Some) → Pair record_max 0 c.loop-pair.pair-iterator.rest.now c.in-Some.pair.now c.next.new.self.rest.now
+next c =
+    let steps = c.in-Some.ensures.steps in
+    proper-pair c.in-Some.pair.now c.next.new.self.rest.now steps.1.0 (steps.1.1 ∙ c.loop-pair.invariant.0) c.loop-pair.invariant.1
 
-pub loop-i-preserved : goal.loop-i-preserved
-loop-i-preserved c =
-    let w = next (goal.at.loop-i-preserved c).In-loop-i in
-    (omega arith, next-rest w, omega (arith, records-at w), c.loop-i.invariant.3)
+pub loop-pair-preserved : goal.loop-pair-preserved
+loop-pair-preserved c =
+    let w = next (goal.at.loop-pair-preserved c).In-Some in
+    (c.in-Some.ensures.steps.0 ∙ c.loop-pair.invariant.0, pair-rest w, omega (arith, records-pair w), c.loop-pair.invariant.3)
 
 pub returns : goal.returns
-returns c = omega (arith, records-end c.args.cells.now c.loop-i.i c.loop-i-test.false)
-
-pub bounds-cells-i : goal.bounds-cells-i
-bounds-cells-i c = omega (arith, (next (goal.at.bounds-cells-i c).In-loop-i).whole)
-
-pub overflow_sub-n : goal.overflow_sub-n
-overflow_sub-n c = omega (arith, (next (goal.at.overflow_sub-n c).In-loop-i).forward)
-
-pub overflow_add-n-in-loop-i : goal.overflow_add-n-in-loop-i
-overflow_add-n-in-loop-i c = omega (arith, (next (goal.at.overflow_add-n-in-loop-i c).In-loop-i).within)
-
-pub overflow_add-n-in-loop-i-2 : goal.overflow_add-n-in-loop-i-2
-overflow_add-n-in-loop-i-2 c =
-    let w = next (goal.at.overflow_add-n-in-loop-i-2 c).In-loop-i in omega (arith, records-at w)
+returns c =
+    let left = c.loop-pair.pair-iterator.rest.now in
+    omega (arith, records-none left (omega (arith, c.in-None.ensures.steps, c.loop-pair.invariant.0)))

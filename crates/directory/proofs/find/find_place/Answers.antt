@@ -10,9 +10,6 @@ loop-low-init c =
     let w = (place-splits c.args.index.now c.requires c.args.word.now).within in
     (omega arith, rw n w, rw n (omega arith), c.word_count-high.ensures.few)
 
-pub stands_before-requires : goal.stands_before-requires
-stands_before-requires c = record { sound = c.requires; below = omega (arith, c.loop-low.invariant.2) }
-
 pub loop-low-preserved-then-stands_before : goal.loop-low-preserved-then-stands_before
 loop-low-preserved-then-stands_before c =
     let l = c.loop-low in
@@ -28,6 +25,3 @@ loop-low-preserved c =
     let e = sym c.stands_before.ensures ∙ c.if-stands_before.false in
     let g = place-not-behind c.args.index.now c.requires c.args.word.now middle e in
     (l.invariant.0, g, omega (arith, l.invariant.2), omega (arith, l.invariant.3))
-
-pub word_count-high-requires : goal.word_count-high-requires
-word_count-high-requires c = c.requires

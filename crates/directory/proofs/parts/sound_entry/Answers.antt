@@ -10,17 +10,6 @@ read_entry-requires-clause-framed c =
     let is = c.read_trailer-trailer.ensures in
     framed index c.read_trailer-trailer.result (sound-length index e.sound).1 is e.sound.trailer
 
-pub read_entry-requires-clause-number : goal.read_entry-requires-clause-number
-read_entry-requires-clause-number c =
-    let e = c.requires in
-    let is = c.read_trailer-trailer.ensures in
-    rw is.count e.below
-
-pub returns-clause-is : goal.returns-clause-is
-returns-clause-is c =
-    let is = c.read_entry.ensures in
-    is
-
 pub returns-clause-word : goal.returns-clause-word
 returns-clause-word c =
     let index = c.args.index.now in

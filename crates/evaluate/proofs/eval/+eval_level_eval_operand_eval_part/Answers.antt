@@ -9,87 +9,82 @@ use Rattle.slots.specs.Having.{having}
 use Rattle.slots.proofs.RowLaws.{moved_none, moved-both, moved-having, read_again}
 use Rattle.codes.proofs.ReadsLaws.{Here, code_here, operator-here, level-start, level-step, level-end, operand-none, operand-word, operand-many, operand-deep, operand-part, operand-unclosed}
 use Rattle.evaluate.proofs.EvalLaws.{front-blank, front-back, evaluated-none, sensed-moved, reads-out, holds-word, holds-part, holds-pair}
-use Rattle.codes.specs.Code.{word_code, open_code, close_code, op_code, op_of}
+use Rattle.codes.specs.declared.code.Code.TheVariants as kind
+use Rattle.laws.proofs.Tests.{true-false}
 use Rattle.codes.proofs.CodeLaws.{operator-none}
 use Rattle.evaluate.proofs.eval.+eval_level_eval_operand_eval_part.Goals as goal
-use Rattle.evaluate.proofs.eval.+eval_level_eval_operand_eval_part.Goals.{eval_level-Else-not-is_operator, eval_level-Then-word_out, eval_level-After-eval_operand-next-else-word_out, eval_operand-Else-code_at-ne-WORD_CODE, eval_part-Else-code_at-ne-OPEN_CODE, eval_part-Else-code_at-ne-CLOSE_CODE}
+use Rattle.evaluate.proofs.eval.+eval_level_eval_operand_eval_part.Goals.{eval_level-In-Some, eval_level-Then-word_out, eval_level-After-eval_operand-next-else-word_out, eval_operand-Else-not-word_at, eval_part-Else-not-opening_at, eval_part-Else-not-closing_at}
 
 -- ---- a level
 
 pub eval_level-eval_operand-next-requires : goal.eval_level-eval_operand-next-requires
 eval_level-eval_operand-next-requires t c = (omega arith, c.requires)
 
-pub eval_level-loop-next-init : goal.eval_level-loop-next-init
-eval_level-loop-next-init t c =
+pub eval_level-loop-op-init : goal.eval_level-loop-op-init
+eval_level-loop-op-init t c =
     let a = c.args in
     let r = c.eval_operand-next in
     let e = r.ensures.reads in
     let started = level-start a.codes.now a.d a.at.slot a.at.code r.result.code r.result.slot _ e.reads in
-    (e.ahead, e.inside, moved_none _, refl, rw (moved-having a.main.now a.arrivals.now r.ensures.moved) started)
+    (e.ahead, e.inside, moved_none _, refl, rw (moved-having a.over.main.now a.over.arrivals.now r.ensures.moved) started)
 
 -- where the loop goes on an operator stands
-operator : (t : ℕ) (c : eval_level-Else-not-is_operator t) → Here c.args.codes.now c.loop-next.next.code (op_code (op_of c.code_at-code.result))
-operator t c =
-    operator-here c.args.codes.now c.loop-next.next.code c.code_at-code.ensures (sym c.is_operator.ensures ∙ c.if-not-is_operator.false)
+operator : (t : ℕ) (c : eval_level-In-Some t) → Here c.args.codes.now c.loop-op.next.code (kind.Op c.in-Some.op)
+operator t c = operator-here c.args.codes.now c.loop-op.next.code (sym c.operator_at.ensures ∙ c.in-Some.is)
 
 -- of what is lent hints alone were moved
-pub eval_level-returns-then-not-is_operator-clause-moved :
-    goal.eval_level-returns-then-not-is_operator-clause-moved
-eval_level-returns-then-not-is_operator-clause-moved t c = moved-both c.eval_operand-next.ensures.moved c.loop-next.invariant.2
+pub eval_level-returns-clause-moved :
+    goal.eval_level-returns-clause-moved
+eval_level-returns-clause-moved t c = moved-both c.eval_operand-next.ensures.moved c.loop-op.invariant.2
 
 -- so the slots have before the loop what they had at the start
-pub eval_level-returns-then-not-is_operator-clause-reads :
-    goal.eval_level-returns-then-not-is_operator-clause-reads
-eval_level-returns-then-not-is_operator-clause-reads t c =
+pub eval_level-returns-clause-reads :
+    goal.eval_level-returns-clause-reads
+eval_level-returns-clause-reads t c =
     let a = c.args in
-    let l = c.loop-next in
-    let none = operator-none c.code_at-code.result (sym c.is_operator.ensures ∙ c.if-not-is_operator.true) in
+    let l = c.loop-op in
+    let none = operator-none _ (sym c.operator_at.ensures ∙ c.in_default.is) in
     record {
       ahead = l.invariant.0;
       inside = l.invariant.1;
-      reads = rw (moved-having a.main.now a.arrivals.now c.eval_operand-next.ensures.moved) at
+      reads = rw (moved-having a.over.main.now a.over.arrivals.now c.eval_operand-next.ensures.moved) at
           (level-end a.codes.now a.d a.at.slot a.at.code l.next.code l.next.slot _ l.invariant.4
-          (λ o h. none o (c.code_at-code.ensures ∙ h)));
+          none);
     }
 
-pub eval_level-word_out-requires-clause-senses : goal.eval_level-word_out-requires-clause-senses
-eval_level-word_out-requires-clause-senses t c =
-    let moves = moved-both c.eval_operand-next.ensures.moved c.loop-next.invariant.2 in
-    rw moves.senses c.requires.sensed.near
-
 -- a word behind the operator that is out for the window
-word-behind : (t : ℕ) (c : eval_level-Then-word_out t) → Here c.args.codes.now (c.loop-next.next.code + 1) word_code
+word-behind : (t : ℕ) (c : eval_level-Then-word_out t) → Here c.args.codes.now (c.loop-op.next.code + 1) kind.Word
 word-behind t c =
-    code_here c.args.codes.now (c.loop-next.next.code + 1) refl (c.word_out.ensures.word c.if-word_out.true) (omega arith)
+    code_here c.args.codes.now (c.loop-op.next.code + 1) (c.word_out.ensures.word c.if-word_out.true)
 
-pub eval_level-loop-next-smaller-then-word_out : goal.eval_level-loop-next-smaller-then-word_out
-eval_level-loop-next-smaller-then-word_out t c =
-    omega (arith, (word-behind t (goal.at.eval_level-loop-next-smaller-then-word_out t c).Then-word_out).1)
+pub eval_level-loop-op-smaller-then-word_out : goal.eval_level-loop-op-smaller-then-word_out
+eval_level-loop-op-smaller-then-word_out t c =
+    omega (arith, (word-behind t (goal.at.eval_level-loop-op-smaller-then-word_out t c).Then-word_out).1)
 
-pub eval_level-loop-next-preserved-then-word_out :
-    goal.eval_level-loop-next-preserved-then-word_out
-eval_level-loop-next-preserved-then-word_out t c =
-    let at = goal.at.eval_level-loop-next-preserved-then-word_out t c in
+pub eval_level-loop-op-preserved-then-word_out :
+    goal.eval_level-loop-op-preserved-then-word_out
+eval_level-loop-op-preserved-then-word_out t c =
+    let at = goal.at.eval_level-loop-op-preserved-then-word_out t c in
     let behind = word-behind t at.Then-word_out in
     let a = c.args in
-    let l = c.loop-next in
+    let l = c.loop-op in
     let row = c.eval_operand-next.new.row in
-    let o = op_of c.code_at-code.result in
+    let o = c.in-Some.op in
     let out = c.word_out.ensures.out c.if-word_out.true in
     let both = c.combine_blank.ensures in
     let size-here : length c.eval_operand-next.new.ws ≡ length l.ws = sym l.invariant.3 in
     let moves = moved-both c.eval_operand-next.ensures.moved l.invariant.2 in
-    let sensed = sensed-moved a.main.now a.arrivals.now c.requires.sensed moves in (
+    let sensed = sensed-moved a.over.main.now a.over.arrivals.now c.requires.sensed moves in (
       omega (arith, l.invariant.0),
       omega (arith, behind.1),
       l.invariant.2,
       both.long ∙ l.invariant.3,
       level-step a.codes.now a.d a.at.slot a.at.code l.next.code l.next.slot (l.next.code + 1 + 1) (l.next.slot + 1) _ _ _ o
-          (operator t at.Else-not-is_operator).0 l.invariant.4
-          (rw (moved-having a.main.now a.arrivals.now l.invariant.2) at
-          (reads-out (having a.main.now a.arrivals.now l.row) l.next.slot sensed a.codes.now a.d (l.next.code + 1) (length l.ws)
+          (operator t at.In-Some).0 l.invariant.4
+          (rw (moved-having a.over.main.now a.over.arrivals.now l.invariant.2) at
+          (reads-out (having a.over.main.now a.over.arrivals.now l.row) l.next.slot sensed a.codes.now a.d (l.next.code + 1) (length l.ws)
           (rw size-here at out) behind))
-          (λ u v g h m. holds-pair (having a.main.now a.arrivals.now row) a.at.slot o u v g (length-replicate {A = ℕ} (length l.ws) 0) both h m),
+          (λ u v g h m. holds-pair (having a.over.main.now a.over.arrivals.now row) a.at.slot o u v g (length-replicate {A = ℕ} (length l.ws) 0) both h m),
     )
 
 pub eval_level-eval_operand-next-requires-else-word_out :
@@ -98,8 +93,8 @@ eval_level-eval_operand-next-requires-else-word_out t c =
     let p = c.requires in
     let size = length c.eval_operand-next.new.ws in
     let most : size ≤ window_most = omega (arith, c.eval_operand-next.ensures.long, p.size) in
-    let moves = moved-both c.eval_operand-next.ensures.moved c.loop-next.invariant.2 in
-    let here = operator t (goal.at.eval_level-eval_operand-next-requires-else-word_out t c).Else-not-is_operator in (
+    let moves = moved-both c.eval_operand-next.ensures.moved c.loop-op.invariant.2 in
+    let here = operator t (goal.at.eval_level-eval_operand-next-requires-else-word_out t c).In-Some in (
       omega arith,
       record {
         lent = read_again p.lent moves.stay;
@@ -119,20 +114,20 @@ right-long t c =
     c.eval_operand-next-else-word_out.ensures.long
     ∙ length-take-le (size - 0) (replicate window_most 0) (omega (arith, c.eval_operand-next.ensures.long, c.requires.size))
 
-pub eval_level-loop-next-smaller : goal.eval_level-loop-next-smaller
-eval_level-loop-next-smaller t c =
+pub eval_level-loop-op-smaller : goal.eval_level-loop-op-smaller
+eval_level-loop-op-smaller t c =
     let e = c.eval_operand-next-else-word_out.ensures.reads in
-    omega (arith, (operator t (goal.at.eval_level-loop-next-smaller t c).Else-not-is_operator).1, e.ahead, e.inside)
+    omega (arith, (operator t (goal.at.eval_level-loop-op-smaller t c).In-Some).1, e.ahead, e.inside)
 
-pub eval_level-loop-next-preserved : goal.eval_level-loop-next-preserved
-eval_level-loop-next-preserved t c =
-    let at = goal.at.eval_level-loop-next-preserved t c in
+pub eval_level-loop-op-preserved : goal.eval_level-loop-op-preserved
+eval_level-loop-op-preserved t c =
+    let at = goal.at.eval_level-loop-op-preserved t c in
     let a = c.args in
-    let l = c.loop-next in
-    let o = op_of c.code_at-code.result in
+    let l = c.loop-op in
+    let o = c.in-Some.op in
     let first = c.eval_operand-next in
     let r = c.eval_operand-next-else-word_out in
-    let f = rw (moved-having a.main.now a.arrivals.now l.invariant.2) at r.ensures.reads in
+    let f = rw (moved-having a.over.main.now a.over.arrivals.now l.invariant.2) at r.ensures.reads in
     let long = right-long t at.After-eval_operand-next-else-word_out in
     let both = rw (front-back (length first.new.ws - 0) r.new.ws _ long) at c.combine_into.ensures in
     let w = l.invariant.3 in (
@@ -141,77 +136,77 @@ eval_level-loop-next-preserved t c =
       moved-both l.invariant.2 r.ensures.moved,
       both.long ∙ w,
       level-step a.codes.now a.d a.at.slot a.at.code l.next.code l.next.slot r.result.code r.result.slot _ _ _ o
-          (operator t at.Else-not-is_operator).0 l.invariant.4 f.reads
-          (λ u v g h m. holds-pair (having a.main.now a.arrivals.now first.new.row) a.at.slot o u v g (omega arith) both h m),
+          (operator t at.In-Some).0 l.invariant.4 f.reads
+          (λ u v g h m. holds-pair (having a.over.main.now a.over.arrivals.now first.new.row) a.at.slot o u v g (omega arith) both h m),
     )
 
 -- ---- an operand
 
 -- where it is no part, a word stands there
-word-here : (t : ℕ) (c : eval_operand-Else-code_at-ne-WORD_CODE t) → Here c.args.codes.now c.args.at.code word_code
-word-here t c = code_here c.args.codes.now c.args.at.code c.code_at.ensures c.if-code_at-ne-WORD_CODE.false (omega arith)
+word-here : (t : ℕ) (c : eval_operand-Else-not-word_at t) → Here c.args.codes.now c.args.at.code kind.Word
+word-here t c = code_here c.args.codes.now c.args.at.code (c.word_at.ensures.0 c.if-not-word_at.false)
 
 pub eval_operand-eval_part-requires : goal.eval_operand-eval_part-requires
 eval_operand-eval_part-requires t c =
-    (omega arith, (c.requires, λ e. c.if-code_at-ne-WORD_CODE.true (c.code_at.ensures ∙ e)))
+    (omega arith, (c.requires, λ e. true-false (sym (c.word_at.ensures.1 e) ∙ c.if-not-word_at.true)))
 
-pub eval_operand-returns-then-k-ge-QUESTION_WORDS_MAX-clause-reads :
-    goal.eval_operand-returns-then-k-ge-QUESTION_WORDS_MAX-clause-reads
-eval_operand-returns-then-k-ge-QUESTION_WORDS_MAX-clause-reads t c =
+pub eval_operand-returns-then-at-ge-QUESTION_WORDS_MAX-clause-reads :
+    goal.eval_operand-returns-then-at-ge-QUESTION_WORDS_MAX-clause-reads
+eval_operand-returns-then-at-ge-QUESTION_WORDS_MAX-clause-reads t c =
     let a = c.args in
-    let here = word-here t (goal.at.eval_operand-returns-then-k-ge-QUESTION_WORDS_MAX-clause-reads t c).Else-code_at-ne-WORD_CODE in
+    let here = word-here t (goal.at.eval_operand-returns-then-at-ge-QUESTION_WORDS_MAX-clause-reads t c).Else-not-word_at in
     (evaluated-none {row = a.row.now} c.requires.inside
-    (λ n. operand-many a.codes.now n a.d a.at.slot a.at.code here.0 a.at.code a.at.slot _ c.if-k-ge-QUESTION_WORDS_MAX.true)).1.1
+    (λ n. operand-many a.codes.now n a.d a.at.slot a.at.code here.0 a.at.code a.at.slot _ c.if-at-ge-QUESTION_WORDS_MAX.true)).1.1
 
 pub eval_operand-returns-clause-reads : goal.eval_operand-returns-clause-reads
 eval_operand-returns-clause-reads t c =
     let a = c.args in
-    let here = word-here t (goal.at.eval_operand-returns-clause-reads t c).Else-code_at-ne-WORD_CODE in
+    let here = word-here t (goal.at.eval_operand-returns-clause-reads t c).Else-not-word_at in
     let f = c.fill_slot.ensures in
     record {
       ahead = omega arith;
       inside = omega (arith, here.1);
       reads = λ n. operand-word a.codes.now n a.d a.at.slot a.at.code here.0 _
-          (λ u. holds-word (having a.main.now a.arrivals.now a.row.now) a.at.slot u c.requires.blank f.adds);
+          (λ u. holds-word (having a.over.main.now a.over.arrivals.now a.row.now) a.at.slot u c.requires.blank f.adds);
     }
 
 -- ---- a part
 
 -- where one can stand, its bracket opens there
-open-here : (t : ℕ) (c : eval_part-Else-code_at-ne-OPEN_CODE t) → Here c.args.codes.now c.args.at.code open_code
-open-here t c = code_here c.args.codes.now c.args.at.code c.code_at.ensures c.if-code_at-ne-OPEN_CODE.false (omega arith)
+open-here : (t : ℕ) (c : eval_part-Else-not-opening_at t) → Here c.args.codes.now c.args.at.code kind.Open
+open-here t c = code_here c.args.codes.now c.args.at.code (c.opening_at.ensures.0 c.if-not-opening_at.false)
 
 -- and closes where the level in it ends
-close-here : (t : ℕ) (c : eval_part-Else-code_at-ne-CLOSE_CODE t) → Here c.args.codes.now c.eval_level-inside.result.code close_code
+close-here : (t : ℕ) (c : eval_part-Else-not-closing_at t) → Here c.args.codes.now c.eval_level-inside.result.code kind.Close
 close-here t c =
-    code_here c.args.codes.now c.eval_level-inside.result.code c.code_at-2.ensures c.if-code_at-ne-CLOSE_CODE.false (omega arith)
+    code_here c.args.codes.now c.eval_level-inside.result.code (c.closing_at.ensures.0 c.if-not-closing_at.false)
 
-pub eval_part-returns-then-code_at-ne-OPEN_CODE-clause-reads :
-    goal.eval_part-returns-then-code_at-ne-OPEN_CODE-clause-reads
-eval_part-returns-then-code_at-ne-OPEN_CODE-clause-reads t c =
+pub eval_part-returns-then-not-opening_at-clause-reads :
+    goal.eval_part-returns-then-not-opening_at-clause-reads
+eval_part-returns-then-not-opening_at-clause-reads t c =
     let a = c.args in
     (evaluated-none {row = a.row.now} c.requires.ready.inside
     (λ n. operand-none a.codes.now n a.d a.at.slot a.at.code a.at.code a.at.slot _ c.requires.wordless
-    (λ e. c.if-code_at-ne-OPEN_CODE.true (c.code_at.ensures ∙ e)))).1.1
+    (λ e. true-false (sym (c.opening_at.ensures.1 e) ∙ c.if-not-opening_at.true)))).1.1
 
 pub eval_part-returns-then-d-eq0-clause-reads : goal.eval_part-returns-then-d-eq0-clause-reads
 eval_part-returns-then-d-eq0-clause-reads t c =
     let a = c.args in
-    let here = open-here t (goal.at.eval_part-returns-then-d-eq0-clause-reads t c).Else-code_at-ne-OPEN_CODE in
+    let here = open-here t (goal.at.eval_part-returns-then-d-eq0-clause-reads t c).Else-not-opening_at in
     (evaluated-none {row = a.row.now} c.requires.ready.inside
     (λ n. operand-deep a.codes.now n a.d a.at.slot a.at.code here.0 a.at.code a.at.slot _ c.if-d-eq0.true)).1.1
 
 pub eval_part-eval_level-inside-requires : goal.eval_part-eval_level-inside-requires
 eval_part-eval_level-inside-requires t c =
-    let here = open-here t (goal.at.eval_part-eval_level-inside-requires t c).Else-code_at-ne-OPEN_CODE in
+    let here = open-here t (goal.at.eval_part-eval_level-inside-requires t c).Else-not-opening_at in
     let p = c.requires.ready in
     (omega arith, record { lent = p.lent; sensed = p.sensed; inside = omega (arith, here.1); blank = p.blank; size = p.size; near = omega arith })
 
-pub eval_part-returns-then-code_at-ne-CLOSE_CODE-clause-reads :
-    goal.eval_part-returns-then-code_at-ne-CLOSE_CODE-clause-reads
-eval_part-returns-then-code_at-ne-CLOSE_CODE-clause-reads t c =
+pub eval_part-returns-then-not-closing_at-clause-reads :
+    goal.eval_part-returns-then-not-closing_at-clause-reads
+eval_part-returns-then-not-closing_at-clause-reads t c =
     let a = c.args in
-    let here = open-here t (goal.at.eval_part-returns-then-code_at-ne-CLOSE_CODE-clause-reads t c).Else-code_at-ne-OPEN_CODE in
+    let here = open-here t (goal.at.eval_part-returns-then-not-closing_at-clause-reads t c).Else-not-opening_at in
     let r = c.eval_level-inside in
     let e = r.ensures.reads in
     record {
@@ -219,13 +214,13 @@ eval_part-returns-then-code_at-ne-CLOSE_CODE-clause-reads t c =
       inside = c.requires.ready.inside;
       reads = λ n. operand-unclosed a.codes.now n a.d a.at.slot a.at.code here.0 r.result.code r.result.slot _ e.reads a.at.code
           a.at.slot _
-          (λ h. c.if-code_at-ne-CLOSE_CODE.true (c.code_at-2.ensures ∙ h));
+          (λ h. true-false (sym (c.closing_at.ensures.1 h) ∙ c.if-not-closing_at.true));
     }
 
 pub eval_part-returns-clause-reads : goal.eval_part-returns-clause-reads
 eval_part-returns-clause-reads t c =
     let a = c.args in
-    let here = open-here t (goal.at.eval_part-returns-clause-reads t c).Else-code_at-ne-OPEN_CODE in
+    let here = open-here t (goal.at.eval_part-returns-clause-reads t c).Else-not-opening_at in
     let r = c.eval_level-inside in
     let e = r.ensures.reads in
     record {
@@ -233,5 +228,5 @@ eval_part-returns-clause-reads t c =
       inside = omega (arith, (close-here t c).1);
       reads = λ n. operand-part a.codes.now n a.d a.at.slot a.at.code here.0 r.result.code r.result.slot _ e.reads _
           (close-here t c).0
-          (λ u h. holds-part (having a.main.now a.arrivals.now a.row.now) a.at.slot u h);
+          (λ u h. holds-part (having a.over.main.now a.over.arrivals.now a.row.now) a.at.slot u h);
     }

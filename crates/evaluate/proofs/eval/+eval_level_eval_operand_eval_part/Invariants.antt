@@ -18,10 +18,10 @@ decreases-eval_operand l = 3 * l.d + 1
 abbrev pub decreases-eval_part : goal.decreases-eval_part
 decreases-eval_part l = 3 * l.d
 
-abbrev pub invariant-eval_level-loop-next : goal.invariant-eval_level-loop-next
-invariant-eval_level-loop-next l =
-    (l.i ≤ l.next.code) × (l.next.code ≤ length l.codes) × HintsMoved l.initial.row l.row × (length l.ws ≡ length l.initial.ws)
-    × Level l.codes l.d l.k l.i l.next.code l.next.slot (λ t. Holds (slot_satisfies (having l.main l.arrivals l.initial.row) t l.k) l.base l.ws)
+abbrev pub invariant-eval_level-loop-op : goal.invariant-eval_level-loop-op
+invariant-eval_level-loop-op l =
+    (l.fn.at.code ≤ l.next.code) × (l.next.code ≤ length l.codes) × HintsMoved l.initial.row l.row × (length l.ws ≡ length l.initial.ws)
+    × Level l.codes l.d l.fn.at.slot l.fn.at.code l.next.code l.next.slot (λ t. Holds (slot_satisfies (having l.over.main.now l.over.arrivals.now l.initial.row) t l.fn.at.slot) l.base l.ws)
 
-abbrev pub decreases-eval_level-loop-next : goal.decreases-eval_level-loop-next
-decreases-eval_level-loop-next l = length l.codes - l.next.code
+abbrev pub decreases-eval_level-loop-op : goal.decreases-eval_level-loop-op
+decreases-eval_level-loop-op l = length l.codes - l.next.code

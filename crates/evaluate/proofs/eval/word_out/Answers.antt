@@ -3,14 +3,14 @@ use mathlib.Core.Path.{sym}
 use Rattle.laws.proofs.Tests.{true-false}
 use Rattle.evaluate.proofs.eval.word_out.Goals as goal
 
-pub returns-then-code_at-ne-WORD_CODE-clause-word : goal.returns-then-code_at-ne-WORD_CODE-clause-word
-returns-then-code_at-ne-WORD_CODE-clause-word c = λ e. true-false (sym e)
+pub returns-then-not-word_at-clause-word : goal.returns-then-not-word_at-clause-word
+returns-then-not-word_at-clause-word c = λ e. true-false (sym e)
 
-pub returns-then-code_at-ne-WORD_CODE-clause-slot : goal.returns-then-code_at-ne-WORD_CODE-clause-slot
-returns-then-code_at-ne-WORD_CODE-clause-slot c = λ e. true-false (sym e)
+pub returns-then-not-word_at-clause-slot : goal.returns-then-not-word_at-clause-slot
+returns-then-not-word_at-clause-slot c = λ e. true-false (sym e)
 
-pub returns-then-code_at-ne-WORD_CODE-clause-out : goal.returns-then-code_at-ne-WORD_CODE-clause-out
-returns-then-code_at-ne-WORD_CODE-clause-out c = λ e. true-false (sym e)
+pub returns-then-not-word_at-clause-out : goal.returns-then-not-word_at-clause-out
+returns-then-not-word_at-clause-out c = λ e. true-false (sym e)
 
 pub returns-then-k-ge-QUESTION_WORDS_MAX-clause-word : goal.returns-then-k-ge-QUESTION_WORDS_MAX-clause-word
 returns-then-k-ge-QUESTION_WORDS_MAX-clause-word c = λ e. true-false (sym e)

@@ -12,4 +12,4 @@ returns-then-is_out-clause-moved c =
 pub returns-then-is_out-clause-adds : goal.returns-then-is_out-clause-adds
 returns-then-is_out-clause-adds c =
     let a = c.args in
-    added_out (having a.main.now a.arrivals.now a.row.now) a.k c.requires.sensed (c.is_out.ensures c.if-is_out.true)
+    added_out (having a.over.main.now a.over.arrivals.now a.row.now) a.k c.requires.sensed (c.is_out.ensures c.if-is_out.true)

@@ -1,9 +1,10 @@
 use Prim.Native.Nat.{ℕ, ◌<◌}
-use mathlib.Core.Path.{◌≡◌, sym, ◌∙◌}
+use mathlib.Core.Path.{◌≡◌, sym, ap, ◌∙◌}
 use mathlib.Core.Bool.{not, false}
 use mathlib.Core.List.{List}
 use native.Mathlib.Omega.{arith}
 use borrow.Author.Rules.{rules}
+use Rattle.std.specs.Prelude.{Some}
 use Rattle.index.specs.Format.{word_count}
 use Rattle.index.specs.Sound.{bad_directory, bad_word}
 use Rattle.index.proofs.RuleLaws.{told-bad, told-good}
@@ -49,12 +50,12 @@ loop-i-preserved c = rw c.list_length-lists.ensures
 pub returns-then-lists-trailer : goal.returns-then-lists-trailer
 returns-then-lists-trailer c =
     let is = c.requires.is in
-    sym (going-lists-short c.loop-i.invariant (omega arith) (λ e. c.if-lists-trailer.true (e ∙ sym is.words)))
+    ap Some is.count ∙ sym (going-lists-short c.loop-i.invariant (omega arith) (λ e. c.if-lists-trailer.true (e ∙ sym is.words)))
 
 pub returns-then-words-trailer : goal.returns-then-words-trailer
 returns-then-words-trailer c =
     let is = c.requires.is in
-    sym (going-words-short c.loop-i.invariant (omega arith) (omega arith) (λ e. c.if-words-trailer.true (e ∙ sym is.directory)))
+    ap Some is.count ∙ sym (going-words-short c.loop-i.invariant (omega arith) (omega arith) (λ e. c.if-words-trailer.true (e ∙ sym is.directory)))
 
 pub returns : goal.returns
 returns c = sym (going-whole c.loop-i.invariant (omega arith) (omega arith) (omega arith))

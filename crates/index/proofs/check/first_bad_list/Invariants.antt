@@ -9,6 +9,3 @@ use Rattle.index.proofs.check.first_bad_list.Given as goal
 abbrev pub invariant-loop-k : goal.invariant-loop-k
 invariant-loop-k l =
     (l.k ≤ word_count l.index) × (first (bad_list l.index) (word_count l.index) ≡ first_from (bad_list l.index) l.k (word_count l.index - l.k))
-
-abbrev pub decreases-loop-k : goal.decreases-loop-k
-decreases-loop-k l = l.trailer.count - l.k

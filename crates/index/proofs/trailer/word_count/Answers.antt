@@ -2,11 +2,6 @@
 use Rattle.index.proofs.SoundLaws.{sound-length, sound-trailer}
 use Rattle.index.proofs.trailer.word_count.Goals as goal
 
-pub returns-clause-is : goal.returns-clause-is
-returns-clause-is c =
-    let n = c.read_trailer-trailer.ensures.count in
-    n
-
 pub returns-clause-few : goal.returns-clause-few
 returns-clause-few c =
     let index = c.args.index.now in

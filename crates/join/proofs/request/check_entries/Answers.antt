@@ -13,14 +13,14 @@ returns-then-count-gt-JOIN_MAX c =
     let args = c.args in
     sym (entries-many args.index.now args.entries.now c.if-count-gt-JOIN_MAX.true)
 
-pub returns-in-At : goal.returns-in-At
-returns-in-At c =
+pub returns-in-Some : goal.returns-in-Some
+returns-in-Some c =
     let args = c.args in
     sym (entries-bad args.index.now args.entries.now _ c.if-count-eq0.false c.if-count-gt-JOIN_MAX.false
-    (sym c.first_bad_number.ensures ∙ c.in-At.is))
+    (sym c.first_bad_number.ensures ∙ c.in-Some.is))
 
-pub returns-in-Nowhere : goal.returns-in-Nowhere
-returns-in-Nowhere c =
+pub returns-in-None : goal.returns-in-None
+returns-in-None c =
     let args = c.args in
     sym (entries-good args.index.now args.entries.now c.if-count-eq0.false c.if-count-gt-JOIN_MAX.false
-    (sym c.first_bad_number.ensures ∙ c.in-Nowhere.is))
+    (sym c.first_bad_number.ensures ∙ c.in-None.is))

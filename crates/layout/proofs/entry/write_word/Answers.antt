@@ -7,7 +7,7 @@ use borrow.Rule.Slice.PartMut.{put_mid}
 use Rattle.convert.specs.Convert.{intervals_of}
 use Rattle.layout.specs.Layout.{kept_bytes}
 use Rattle.layout.proofs.KeptBytesLaws.{kept-length}
-use Rattle.layout.proofs.WriteLaws.{tail-sets, word-entered, tail-length}
+use Rattle.layout.proofs.WriteLaws.{part-sets, tail-sets, word-entered, tail-length}
 use Rattle.layout.proofs.entry.write_word.Goals as goal
 use Rattle.layout.proofs.entry.write_word.Goals.{After-count_kept-kept}
 
@@ -26,14 +26,10 @@ returns-clause-enters c =
     let room = c.requires.within in
     let kept = c.count_kept-kept in
     let list = c.write_list in
-    let bytes = c.write_bytes in
-    let long = kept-length cells in
-    let size : c.list_size.result ≡ length (kept_bytes cells) =
-    omega (arith, kept.ensures.singles, kept.ensures.pairs, c.list_size.ensures) in
     let with-list = put_mid at.list (length out - at.list) out list.new.out in
     let e = tail-sets at.list out (kept_bytes cells) (omega (arith, room.list, room.bytes, room.entry)) list.ensures in
     let same = tail-length at.list out list.new.out (kept_bytes cells) e in
-    let f = tail-sets at.word with-list word (omega (arith, same, room.bytes, room.entry)) bytes.ensures in
+    let f = part-sets at.word (at.word + length word - at.word) with-list word (omega arith) (omega (arith, same, room.bytes, room.entry)) c.copy_from_slice.ensures.after in
     let put = c.put_five.ensures in
     word-entered out at word cells kept.ensures.singles kept.ensures.pairs e f put
 
@@ -43,10 +39,7 @@ returns-clause-moves c =
     let at = c.args.at in
     let word = c.args.word.now in
     let cells = intervals_of c.args.numbers.now in
-    let room = c.requires.within in
     let kept = c.count_kept-kept in
-    let list = c.write_list in
-    let bytes = c.write_bytes in
     let long = kept-length cells in
     let size : c.list_size.result ≡ length (kept_bytes cells) =
     omega (arith, kept.ensures.singles, kept.ensures.pairs, c.list_size.ensures) in

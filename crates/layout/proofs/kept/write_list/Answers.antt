@@ -1,19 +1,14 @@
 use mathlib.Core.Path.{refl, sym, ap, ◌∙◌}
-use Prim.Native.Nat.{ℕ, ◌≤◌, ◌+◌, ◌*◌}
+use Prim.Native.Nat.{ℕ}
 use native.Mathlib.Omega.{arith}
 use mathlib.Core.List.{List, ◌∷◌}
 use lib.Dec.{eqb}
 use lib.ListN.{length, drop}
 use Rattle.convert.specs.Convert.{intervals_of}
 use Rattle.convert.proofs.RunLaws.{intervals-none}
-use Rattle.layout.proofs.KeptBytesLaws.{kept-length}
 use Rattle.layout.proofs.WriteLaws.{kept_plan, PlacedFor, kept-laid, placed_on, laid-length, kept-done, placed-start, kept-start}
 use Rattle.layout.proofs.kept.write_list.Goals as goal
 use Rattle.layout.proofs.kept.write_list.Goals.{After-next_run-run, Start}
-
--- the regions lie within the output
-within : (s : Start) → 4 * (s.args.kept.singles + s.args.kept.pairs) ≤ length s.args.out.now
-within s = omega (arith, kept-length (intervals_of s.args.numbers.now), s.requires.counted.singles, s.requires.counted.pairs, s.requires.room)
 
 pub loop-i-init : goal.loop-i-init
 loop-i-init c =
@@ -58,16 +53,3 @@ returns c =
     let is = c.requires.counted in
     sym (at.invariant.3 ∙ ap (kept_plan at.out at.at) (intervals-none xs at.i c.loop-i-test.false) ∙ kept-done at.out at.at)
     ∙ kept-start (intervals_of xs) kept.singles kept.pairs is.singles is.pairs c.args.out.now c.requires.room
-
-pub overflow_mul-at : goal.overflow_mul-at
-overflow_mul-at c = omega (arith, within (goal.at.overflow_mul-at c).Start)
-
-pub overflow_add-at : goal.overflow_add-at
-overflow_add-at c = omega (arith, within (goal.at.overflow_add-at c).Start)
-
-pub overflow_mul-at-2 : goal.overflow_mul-at-2
-overflow_mul-at-2 c = omega (arith, within (goal.at.overflow_mul-at-2 c).Start)
-
-pub loop-i-smaller : goal.loop-i-smaller
-loop-i-smaller c =
-    let is = c.next_run-run.ensures in omega (arith, is.forward, is.width)

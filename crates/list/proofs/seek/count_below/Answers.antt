@@ -11,39 +11,18 @@ pub loop-hi-init : goal.loop-hi-init
 loop-hi-init c =
     let a = c.args in (c.requires.low, omega arith, omega (arith, region-within a.region.now a.x), refl)
 
-pub halve-requires-clause-ascends : goal.halve-requires-clause-ascends
-halve-requires-clause-ascends c = c.requires.ascends
-
-pub halve-requires-clause-within : goal.halve-requires-clause-within
-halve-requires-clause-within c =
-    let g = region-under c.args.region.now c.args.x c.loop-hi.hi _ c.requires.ascends (omega arith) c.number_at.ensures c.if-x-number_at.true in
-    omega arith
-
-pub halve-requires-clause-low : goal.halve-requires-clause-low
-halve-requires-clause-low c = c.loop-hi.invariant.0
-
 pub halve-requires-clause-high : goal.halve-requires-clause-high
 halve-requires-clause-high c =
-    let g = region-under c.args.region.now c.args.x c.loop-hi.hi _ c.requires.ascends (omega arith) c.number_at.ensures c.if-x-number_at.true in
-    g
+    region-under c.args.region.now c.args.x c.loop-hi.hi _ c.requires.ascends (omega arith) c.number_at.ensures (omega (arith, c.if-x-number_at.true))
 
 -- the count is past a number below x
 passed : (c : Else-x-number_at) →
     c.loop-hi.hi < count_below c.args.x (numbers_in c.args.region.now)
 passed c =
-    region-over c.args.region.now c.args.x c.loop-hi.hi _ c.requires.ascends (omega arith) c.number_at.ensures c.if-x-number_at.false
-
-pub halve-requires-2-clause-ascends : goal.halve-requires-2-clause-ascends
-halve-requires-2-clause-ascends c = c.requires.ascends
-
-pub halve-requires-2-clause-low : goal.halve-requires-2-clause-low
-halve-requires-2-clause-low c = c.loop-hi.invariant.0
+    region-over c.args.region.now c.args.x c.loop-hi.hi _ c.requires.ascends (omega arith) c.number_at.ensures (omega (arith, c.if-x-number_at.false))
 
 pub halve-requires-2-clause-high : goal.halve-requires-2-clause-high
 halve-requires-2-clause-high c = omega (arith, region-within c.args.region.now c.args.x)
-
-pub returns-then-x-number_at : goal.returns-then-x-number_at
-returns-then-x-number_at c = c.halve.ensures
 
 pub loop-hi-preserved-then-n-lo : goal.loop-hi-preserved-then-n-lo
 loop-hi-preserved-then-n-lo c =
@@ -52,6 +31,3 @@ loop-hi-preserved-then-n-lo c =
 pub loop-hi-preserved : goal.loop-hi-preserved
 loop-hi-preserved c =
     let g = passed (goal.at.loop-hi-preserved c).Else-x-number_at in (omega arith, omega arith, omega arith, omega arith)
-
-pub returns : goal.returns
-returns c = c.halve-2.ensures

@@ -16,6 +16,3 @@ loop-lo-preserved c =
     let g = region-under c.args.region.now c.args.x (l.lo + (l.hi - l.lo) / 2) _ c.requires.ascends (omega arith)
     c.number_at.ensures c.if-number_at-x.false in
     (omega arith, g, omega arith)
-
-pub number_at-requires : goal.number_at-requires
-number_at-requires c = omega arith

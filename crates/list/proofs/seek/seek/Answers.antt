@@ -24,22 +24,6 @@ over c = ltb-true _ _ (sym c.past.ensures ∙ c.if-past.true)
 under : (c : Else-past) → count (goal.at.Else-past c).Start ≤ c.args.hint
 under c = ltb-false _ _ (sym c.past.ensures ∙ c.if-past.false)
 
-pub returns-then-hint-eq0-clause-is : goal.returns-then-hint-eq0-clause-is
-returns-then-hint-eq0-clause-is c =
-    let u = under (goal.at.returns-then-hint-eq0-clause-is c).Else-past in
-    omega arith
-
-pub returns-then-hint-eq0-clause-within : goal.returns-then-hint-eq0-clause-within
-returns-then-hint-eq0-clause-within c =
-    let u = under (goal.at.returns-then-hint-eq0-clause-within c).Else-past in
-    omega arith
-
-pub returns-then-past-2-clause-is : goal.returns-then-past-2-clause-is
-returns-then-past-2-clause-is c =
-    let u = under (goal.at.returns-then-past-2-clause-is c).Else-past in
-    let o : c.args.hint - 1 < count (goal.at.returns-then-past-2-clause-is c).Start = ltb-true _ _ (sym c.past-2.ensures ∙ c.if-past-2.true) in
-    omega (arith, c.if-hint-eq0.false)
-
 pub returns-then-past-2-clause-within : goal.returns-then-past-2-clause-within
 returns-then-past-2-clause-within c =
     let u = under (goal.at.returns-then-past-2-clause-within c).Else-past in
@@ -48,9 +32,3 @@ returns-then-past-2-clause-within c =
 
 pub overflow_add-hint : goal.overflow_add-hint
 overflow_add-hint c = omega (arith, over c, most (goal.at.overflow_add-hint c).Start)
-
-pub count_below-requires-clause-ascends : goal.count_below-requires-clause-ascends
-count_below-requires-clause-ascends c = c.requires
-
-pub count_below-requires-clause-low : goal.count_below-requires-clause-low
-count_below-requires-clause-low c = omega (arith, over c)

@@ -1,48 +1,16 @@
-use mathlib.Core.Path.{◌≡◌, ◌∙◌}
-use native.Mathlib.Omega.{arith}
-use lib.ListN.{length}
-use Rattle.merge.proofs.ListsLaws.{asked_entry}
-use Rattle.merge.proofs.KeysLaws.{fill_start, fill_step}
-use Rattle.merge.proofs.DueLaws.{goes-start, due-start}
+use Rattle.std.proofs.Common.{arith, rules}
+use Rattle.merge.proofs.KeysLaws.{keys-filled}
+use Rattle.merge.proofs.DueLaws.{go-start, first_high, due-goes}
 use Rattle.merge.proofs.keys.fill.Goals as goal
 
-pub lower_key-key-requires-clause-entry : goal.lower_key-key-requires-clause-entry
-lower_key-key-requires-clause-entry c =
-    let asked = c.requires.sound in
-    let e = asked_entry asked c.loop-j.j c.loop-j-test.true in
-    e
+pub push_each-requires-clause-goes : goal.push_each-requires-clause-goes
+push_each-requires-clause-goes c = rw c.all_at_start.ensures (go-start c.requires.sound)
 
-pub lower_key-key-requires-clause-goes : goal.lower_key-key-requires-clause-goes
-lower_key-key-requires-clause-goes c =
-    let asked = c.requires.sound in
-    let e = asked_entry asked c.loop-j.j c.loop-j-test.true in
-    goes-start e
-
-pub lower_key-key-requires-clause-list : goal.lower_key-key-requires-clause-list
-lower_key-key-requires-clause-list c =
-    let asked = c.requires.sound in
-    let e = asked_entry asked c.loop-j.j c.loop-j-test.true in
-    omega (arith, asked.few)
-
-pub loop-j-preserved : goal.loop-j-preserved
-loop-j-preserved c =
-    let pushed = c.push.ensures in
-    let due = due-start c.requires.sound c.loop-j.j c.loop-j-test.true in
-    (omega arith, pushed.room ∙ c.loop-j.invariant.1, fill_step c.loop-j.invariant.2 due c.lower_key-key.ensures pushed)
-
-pub returns-clause-keeps : goal.returns-clause-keeps
-returns-clause-keeps c = c.loop-j.invariant.1
+pub push_each-requires-clause-may : goal.push_each-requires-clause-may
+push_each-requires-clause-may c = rw c.all_at_start.ensures
+    (λ j h. let few = c.requires.sound.few in ((first_high c.requires.sound j h).0, omega arith))
 
 pub returns-clause-fills : goal.returns-clause-fills
 returns-clause-fills c =
-    let e : c.loop-j.j ≡ length c.args.entries.now = omega arith in
-    rw e at c.loop-j.invariant.2
-
-pub loop-j-init : goal.loop-j-init
-loop-j-init c = (omega arith, c.requires.room, fill_start)
-
-pub overflow_cast-entries : goal.overflow_cast-entries
-overflow_cast-entries c = omega (arith, c.shared_slice_known-in-loop-j-1.given c.loop-j.j)
-
-pub shape_of-keys : goal.shape_of-keys
-shape_of-keys c = omega (arith, c.requires.room, c.loop-j.invariant.1)
+    keys-filled (rw c.all_at_start.ensures at c.push_each.ensures.pushes)
+    (λ j x h e. (_, due-goes _ _ _ (go-start c.requires.sound j h), search rules))

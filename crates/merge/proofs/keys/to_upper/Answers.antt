@@ -2,18 +2,12 @@
 use Prim.Native.Nat.{◌≤◌}
 use native.Mathlib.Omega.{arith}
 use Rattle.limits.specs.Limits.{record_max}
-use Rattle.merge.proofs.KeysLaws.{refilled_by}
 use Rattle.merge.proofs.DueLaws.{bounds-high}
 use Rattle.merge.proofs.keys.to_upper.Goals as goal
 use Rattle.merge.proofs.keys.to_upper.Goals.{After-next_interval-next}
 
 high : (c : After-next_interval-next) → c.next_interval-next.result.upper ≤ record_max
 high c = let asked = c.requires in omega (arith, bounds-high asked.entry asked.goes, c.next_interval-next.ensures.upper)
-
-pub returns : goal.returns
-returns c =
-    let upper = c.next_interval-next.ensures.upper in
-    refilled_by (omega arith) c.replace_least.ensures
 
 pub overflow_add-key : goal.overflow_add-key
 overflow_add-key c = omega (arith, high (goal.at.overflow_add-key c).After-next_interval-next)

@@ -6,7 +6,6 @@ use Rattle.question.specs.Rules.{rule_of}
 use Rattle.question.proofs.ParsedLaws.{accepted-within, asked-parsed}
 use Rattle.source.specs.Source.{satisfying}
 use Rattle.source.proofs.AskLaws.{listing-answers}
-use Rattle.slots.proofs.RowLaws.{zeros-blank}
 use Rattle.query.proofs.AskLaws.{compiled-short, compiled-asked, compiled-ready, halves-source}
 use Rattle.query.proofs.ask.answer_accepted.Goals as goal
 
@@ -34,9 +33,6 @@ compile-compiled-requires-clause-room c =
     (asked-parsed a.rule a.question.now is.tree is.words is.is).1 in
     omega arith
 
-pub compile-compiled-requires-clause-long : goal.compile-compiled-requires-clause-long
-compile-compiled-requires-clause-long c = refl
-
 pub compile-compiled-requires-clause-few : goal.compile-compiled-requires-clause-few
 compile-compiled-requires-clause-few c =
     let a = c.args in
@@ -52,7 +48,7 @@ answer_codes-requires-clause-asked c =
     let over = c.requires.halves in
     let is = c.requires.asked in
     let made = c.compile-compiled.ensures in
-    compiled-asked (made.codes, made.slots) over a.rule is.tree is.words is.is refl zeros-blank
+    compiled-asked (made.codes, made.slots) over a.rule is.tree is.words is.is c.blank-row.ensures
 
 pub answer_codes-requires-clause-short : goal.answer_codes-requires-clause-short
 answer_codes-requires-clause-short c =
@@ -68,12 +64,12 @@ answer_codes-requires-clause-ready c =
     let over = c.requires.halves in
     let is = c.requires.asked in
     let made = c.compile-compiled.ensures in
-    let of = halves-source a.halves a.main.now a.arrivals.now in
+    let of = halves-source a.halves a.over.main.now a.over.arrivals.now in
     record {
       source = of.0;
       last = of.1.last;
       tree = is.tree;
-      ready = compiled-ready (made.codes, made.slots) over a.rule is.tree is.words is.is zeros-blank of.0 of.1;
+      ready = compiled-ready (made.codes, made.slots) over a.rule is.tree is.words is.is c.blank-row.ensures of.0 of.1;
     }
 
 pub returns : goal.returns
@@ -83,4 +79,4 @@ returns c source of =
     let made = c.compile-compiled.ensures in
     listing-answers (satisfying source) is.is
     (c.answer_codes.ensures source of.last is.tree
-    (compiled-ready (made.codes, made.slots) c.requires.halves a.rule is.tree is.words is.is zeros-blank source of))
+    (compiled-ready (made.codes, made.slots) c.requires.halves a.rule is.tree is.words is.is c.blank-row.ensures source of))

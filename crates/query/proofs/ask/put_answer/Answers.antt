@@ -10,7 +10,7 @@ use Rattle.query.proofs.AskLaws.{having-ends, prepared-swept, prepared-length}
 use Rattle.query.proofs.ask.put_answer.Goals as goal
 use Rattle.query.proofs.ask.put_answer.Goals.{After-highest_of-n}
 
-limit : (c : After-highest_of-n) → last_of c.args.main.now c.args.arrivals.now ≡ c.highest_of-n.result
+limit : (c : After-highest_of-n) → last_of c.args.over.main.now c.args.over.arrivals.now ≡ c.highest_of-n.result
 limit c = sym c.highest_of-n.ensures
 
 pub sweep_question-requires-clause-asked : goal.sweep_question-requires-clause-asked
@@ -65,7 +65,7 @@ sweep_question-requires-2-clause-room c =
     let is = c.requires.prepared in
     let last = is.last ∙ limit (goal.at.sweep_question-requires-2-clause-room c).After-highest_of-n in
     let stays = c.sweep_question-needed.ensures.slots in
-    let same = stay-having a.main.now a.arrivals.now stays in
+    let same = stay-having a.over.main.now a.over.arrivals.now stays in
     let tallied = prepared-swept last is.prepared (c.sweep_question-needed.ensures.tallies is.tree is.prepared.reads) in
     let fits = counted-room tallied (satisfying-even is.source is.tree) c.if-room-needed.false in
     rw same (record { tree = is.tree; reads = is.prepared.reads; room = λ w. omega (arith, prepared-length last is.prepared, fits) })
@@ -73,7 +73,7 @@ sweep_question-requires-2-clause-room c =
 pub returns : goal.returns
 returns c s last t prepared =
     let a = c.args in
-    let same = stay-having a.main.now a.arrivals.now c.sweep_question-needed.ensures.slots in
+    let same = stay-having a.over.main.now a.over.arrivals.now c.sweep_question-needed.ensures.slots in
     let e = last ∙ limit (goal.at.returns c).After-highest_of-n in
     counted-listed (prepared-swept e prepared (c.sweep_question-needed.ensures.tallies t prepared.reads))
     c.if-room-needed.false

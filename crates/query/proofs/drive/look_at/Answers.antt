@@ -1,5 +1,4 @@
 -- The senses of all the words of each tree that the codes read as are known at x.
-use mathlib.Core.Path.{◌∙◌}
 use Rattle.slots.specs.Having.{having}
 use Rattle.query.proofs.TestLaws.{tree-steady}
 use Rattle.query.proofs.drive.look_at.Goals as goal
@@ -26,12 +25,6 @@ renew_senses-requires-clause-sensed c =
     let slotted = pre.slotted in
     slotted.sensed
 
-pub look_level-requires-clause-long : goal.look_level-requires-clause-long
-look_level-requires-clause-long c = c.renew_senses.ensures.slots.long ∙ c.requires.lends.long
-
-pub look_level-requires-clause-near : goal.look_level-requires-clause-near
-look_level-requires-clause-near c = c.renew_senses.ensures.sensed.near
-
 pub returns-clause-slots : goal.returns-clause-slots
 returns-clause-slots c =
     let renewed = c.renew_senses.ensures in
@@ -46,5 +39,5 @@ pub returns-clause-steady : goal.returns-clause-steady
 returns-clause-steady c =
     let a = c.args in
     let renewed = c.renew_senses.ensures in
-    λ t o. tree-steady o (having a.main.now a.arrivals.now a.row.now) a.slots a.x c.requires.slotted.all renewed.known
+    λ t o. tree-steady o (having a.over.main.now a.over.arrivals.now a.row.now) a.slots a.x c.requires.slotted.all renewed.known
     c.look_level.ensures

@@ -17,7 +17,7 @@ stood c = c.requires.stands
 
 -- what the slots have
 abbrev had : After-look_at-sight → ℕ → ℕ → Bool
-had c = let a = c.args in having a.main.now a.arrivals.now a.row.now
+had c = let a = c.args in having a.over.main.now a.over.arrivals.now a.row.now
 
 window-stood : (c : After-take_window-done) → let a = c.args in Stands a.pass.n a.at
 window-stood c = stood (goal.at.After-take_window-done c).After-look_at-sight
@@ -38,8 +38,8 @@ take_jump-done-requires-clause-room c =
     let a = c.args in
     let stands = stood (goal.at.take_jump-done-requires-clause-room c).After-look_at-sight in
     let roomy = c.requires.room in
-    let y = c.smaller-y.result in
-    let until = c.smaller-y.ensures in
+    let y = c.min-y.result in
+    let until = c.min-y.ensures in
     let p = test_of (had (goal.at.take_jump-done-requires-clause-room c).After-look_at-sight) roomy.tree in
     let steady = c.look_at-sight.ensures.steady roomy.tree roomy.reads in
     let constant = steady-constant p a.at.x y _ _ steady (omega arith) in
@@ -59,8 +59,8 @@ returns-then-x-y-clause-sensed c =
     let a = c.args in
     let stands = stood (goal.at.returns-then-x-y-clause-sensed c).After-look_at-sight in
     let look = c.look_at-sight.ensures in
-    let y = c.smaller-y.result in
-    let until = c.smaller-y.ensures in
+    let y = c.min-y.result in
+    let until = c.min-y.ensures in
     let taken = c.if-x-y.true in
     sensed-later (had (goal.at.returns-then-x-y-clause-sensed c).After-look_at-sight) _ a.at.x look.sensed y (omega arith)
 
@@ -69,8 +69,8 @@ returns-then-x-y-clause-moves c =
     let a = c.args in
     let stands = stood (goal.at.returns-then-x-y-clause-moves c).After-look_at-sight in
     let look = c.look_at-sight.ensures in
-    let y = c.smaller-y.result in
-    let until = c.smaller-y.ensures in
+    let y = c.min-y.result in
+    let until = c.min-y.ensures in
     let taken = c.if-x-y.true in
     λ t o.
     let p = test_of (had (goal.at.returns-then-x-y-clause-moves c).After-look_at-sight) t in
@@ -90,7 +90,7 @@ pub take_window-done-requires-clause-sensed : goal.take_window-done-requires-cla
 take_window-done-requires-clause-sensed c =
     let a = c.args in
     let stays = c.look_at-sight.ensures.slots in
-    rw (stay-having a.main.now a.arrivals.now stays) c.look_at-sight.ensures.sensed
+    rw (stay-having a.over.main.now a.over.arrivals.now stays) c.look_at-sight.ensures.sensed
 
 pub take_window-done-requires-clause-within : goal.take_window-done-requires-clause-within
 take_window-done-requires-clause-within c =
@@ -104,7 +104,7 @@ pub take_window-done-requires-clause-room : goal.take_window-done-requires-claus
 take_window-done-requires-clause-room c =
     let a = c.args in
     let stays = c.look_at-sight.ensures.slots in
-    rw (stay-having a.main.now a.arrivals.now stays) c.requires.room
+    rw (stay-having a.over.main.now a.over.arrivals.now stays) c.requires.room
 
 -- the window is lent back as long as it was
 pub shape_of-ws : goal.shape_of-ws
@@ -125,8 +125,8 @@ returns-clause-sensed c =
     let stands = stood (goal.at.returns-clause-sensed c).After-look_at-sight in
     let look = c.look_at-sight.ensures in
     let window = c.take_window-done.ensures in
-    let next = c.smaller.ensures in
-    rw window.moved.senses (sensed-later (had (goal.at.returns-clause-sensed c).After-look_at-sight) _ a.at.x look.sensed c.smaller.result (omega arith))
+    let next = c.min.ensures in
+    rw window.moved.senses (sensed-later (had (goal.at.returns-clause-sensed c).After-look_at-sight) _ a.at.x look.sensed c.min.result (omega arith))
 
 pub returns-clause-some : goal.returns-clause-some
 returns-clause-some c =
@@ -139,13 +139,13 @@ returns-clause-moves c =
     let stands = stood (goal.at.returns-clause-moves c).After-look_at-sight in
     let look = c.look_at-sight.ensures in
     let window = c.take_window-done.ensures in
-    let next = c.smaller.ensures in
+    let next = c.min.ensures in
     λ t o.
     record {
       far = 64 * a.at.width;
       some = omega arith;
       to = next;
-      step = rw (stay-having a.main.now a.arrivals.now look.slots) at window.steps t o;
+      step = rw (stay-having a.over.main.now a.over.arrivals.now look.slots) at window.steps t o;
     }
 
 pub overflow_add-n : goal.overflow_add-n

@@ -15,7 +15,7 @@ use Rattle.query.proofs.drive.sweep.Goals as goal
 use Rattle.query.proofs.drive.sweep.Goals.{At-loop-at}
 
 abbrev had : At-loop-at → ℕ → ℕ → Bool
-had c = let a = c.args in having a.main.now a.arrivals.now a.row.now
+had c = let a = c.args in having a.over.main.now a.over.arrivals.now a.row.now
 
 abbrev fit : (c : At-loop-at) → let a = c.args in Fits a.codes.now (had c) a.pass a.out.now
 fit c = c.requires.room
@@ -31,12 +31,12 @@ above c t y h = test-above c.requires.ends t y h
 pub loop-at-init : goal.loop-at-init
 loop-at-init c =
     let a = c.args in (
-      record { long = refl; slots = refl },
+      record { slots = refl },
       c.requires.window,
       omega arith,
       omega arith,
       c.requires.slotted.sensed,
-      λ t o. swept-start (test_of (having a.main.now a.arrivals.now a.row.now) t) a.pass.n a.pass.writing a.out.now,
+      λ t o. swept-start (test_of (having a.over.main.now a.over.arrivals.now a.row.now) t) a.pass.n a.pass.writing a.out.now,
     )
 
 stands : (c : At-loop-at) → c.loop-at.at.x ≤ c.args.pass.n → Stands c.args.pass.n c.loop-at.at
@@ -65,20 +65,20 @@ step-at-requires-clause-slotted c =
     let a = c.args in
     let slotted = c.requires.slotted in
     let inv = c.loop-at.invariant in
-    let same = stay-having a.main.now a.arrivals.now inv.0 in
+    let same = stay-having a.over.main.now a.over.arrivals.now inv.0 in
     rw same (record { few = slotted.few; all = slotted.all; sensed = inv.4 })
 
 pub step-at-requires-clause-stands : goal.step-at-requires-clause-stands
 step-at-requires-clause-stands c =
-    let more = c.loop-at-test.true in
-    stands (goal.at.step-at-requires-clause-stands c).At-loop-at more
+    let begun = (swept (goal.at.step-at-requires-clause-stands c).At-loop-at).near.0 in
+    stands (goal.at.step-at-requires-clause-stands c).At-loop-at (omega (arith, begun, c.loop-at-test.true))
 
 pub step-at-requires-clause-room : goal.step-at-requires-clause-room
 step-at-requires-clause-room c =
     let a = c.args in
     let slotted = c.requires.slotted in
     let inv = c.loop-at.invariant in
-    let same = stay-having a.main.now a.arrivals.now inv.0 in
+    let same = stay-having a.over.main.now a.over.arrivals.now inv.0 in
     let more = c.loop-at-test.true in
     rw same
     (record {
@@ -91,7 +91,7 @@ pub loop-at-smaller : goal.loop-at-smaller
 loop-at-smaller c =
     let a = c.args in
     let more = c.loop-at-test.true in
-    let moves = rw (stay-having a.main.now a.arrivals.now c.loop-at.invariant.0) at c.step-at.ensures.moves in
+    let moves = rw (stay-having a.over.main.now a.over.arrivals.now c.loop-at.invariant.0) at c.step-at.ensures.moves in
     let moved = moves (fit (goal.at.loop-at-smaller c).At-loop-at).tree (fit (goal.at.loop-at-smaller c).At-loop-at).reads in
     omega (arith, moved.to, moved.some, (swept (goal.at.loop-at-smaller c).At-loop-at).near)
 
@@ -99,7 +99,7 @@ pub loop-at-preserved : goal.loop-at-preserved
 loop-at-preserved c =
     let a = c.args in
     let inv = c.loop-at.invariant in
-    let same = stay-having a.main.now a.arrivals.now inv.0 in
+    let same = stay-having a.over.main.now a.over.arrivals.now inv.0 in
     let more = c.loop-at-test.true in
     let e = c.step-at.ensures in
     let moves = rw same at e.moves in (
@@ -159,9 +159,6 @@ returns-clause-tallies c =
     let yours = swept-close (rw e at (l.invariant.5 t o)) last in
     let y = swept-count yours in
     swept-tallied yours (λ w. let room = fits.room w in omega arith)
-
-pub shape_of-row : goal.shape_of-row
-shape_of-row c = c.loop-at.invariant.0.long
 
 pub shape_of-ws : goal.shape_of-ws
 shape_of-ws c = c.loop-at.invariant.1 ∙ sym c.requires.window

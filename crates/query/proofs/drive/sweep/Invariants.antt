@@ -4,7 +4,7 @@ use Prim.Native.Nat.{◌+◌, ◌-◌, ◌≤◌}
 use lib.ListN.{length}
 use Rattle.list.proofs.SweepLaws.{Swept}
 use Rattle.window.specs.Flips.{odd}
-use Rattle.slots.specs.Row.{senses_in, SlotsStay}
+use Rattle.slots.specs.Row.{SlotsStay}
 use Rattle.slots.specs.Having.{having}
 use Rattle.senses.specs.Senses.{Sensed}
 use Rattle.window.specs.Tuning.{window_most}
@@ -13,8 +13,8 @@ use Rattle.query.proofs.drive.sweep.Given as goal
 
 abbrev pub invariant-loop-at : goal.invariant-loop-at
 invariant-loop-at l =
-    SlotsStay l.initial.row l.row × (length l.ws ≡ window_most) × (1 ≤ l.at.width) × (l.at.width ≤ window_most) × Sensed (having l.main l.arrivals l.initial.row) (senses_in l.row) l.at.x ×
-    OfEach l.codes (having l.main l.arrivals l.initial.row) (λ p. Swept p l.pass.n l.pass.writing l.initial.out l.out (odd l.at.cells) l.at.x l.at.cells l.at.records)
+    SlotsStay l.initial.row l.row × (length l.ws ≡ window_most) × (1 ≤ l.at.width) × (l.at.width ≤ window_most) × Sensed (having l.over.main.now l.over.arrivals.now l.initial.row) l.row.senses l.at.x ×
+    OfEach l.codes (having l.over.main.now l.over.arrivals.now l.initial.row) (λ p. Swept p l.pass.n l.pass.writing l.initial.out l.out (odd l.at.cells) l.at.x l.at.cells l.at.records)
 
 abbrev pub decreases-loop-at : goal.decreases-loop-at
 decreases-loop-at l = l.pass.n + 1 - l.at.x

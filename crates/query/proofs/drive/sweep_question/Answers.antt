@@ -18,7 +18,7 @@ pub sweep-requires-clause-ends : goal.sweep-requires-clause-ends
 sweep-requires-clause-ends c =
     let a = c.args in
     let stays = c.forget_senses.ensures.slots in
-    let same = stay-having a.main.now a.arrivals.now stays in
+    let same = stay-having a.over.main.now a.over.arrivals.now stays in
     rw same c.requires.ends
 
 pub sweep-requires-clause-slotted : goal.sweep-requires-clause-slotted
@@ -26,15 +26,15 @@ sweep-requires-clause-slotted c =
     let a = c.args in
     let by = c.requires.asked in
     let stays = c.forget_senses.ensures.slots in
-    let same = stay-having a.main.now a.arrivals.now stays in
-    let none = sensed-none (having a.main.now a.arrivals.now a.row.now) 16 1 in
+    let same = stay-having a.over.main.now a.over.arrivals.now stays in
+    let none = sensed-none (having a.over.main.now a.over.arrivals.now a.row.now) 16 1 in
     rw (same, c.forget_senses.ensures.senses) (record { few = by.few; all = by.all; sensed = none })
 
 pub sweep-requires-clause-room : goal.sweep-requires-clause-room
 sweep-requires-clause-room c =
     let a = c.args in
     let stays = c.forget_senses.ensures.slots in
-    let same = stay-having a.main.now a.arrivals.now stays in
+    let same = stay-having a.over.main.now a.over.arrivals.now stays in
     rw same c.requires.room
 
 pub returns-clause-slots : goal.returns-clause-slots
@@ -48,4 +48,4 @@ returns-clause-tallies c =
     let swept = c.sweep.ensures in
     let a = c.args in
     let stays = c.forget_senses.ensures.slots in
-    rw (stay-having a.main.now a.arrivals.now stays) at swept.tallies
+    rw (stay-having a.over.main.now a.over.arrivals.now stays) at swept.tallies

@@ -45,7 +45,7 @@ put_flips-cells-requires-clause-room c =
     let within = c.requires.within in
     let roomy = c.requires.room in
     let holds = tree-holds roomy.reads c.eval_level.ensures.reads in
-    λ w. window-room (test_of (having a.main.now a.arrivals.now a.row.now) roomy.tree) a.at.x a.at.cells _ a.out.now holds
+    λ w. window-room (test_of (having a.over.main.now a.over.arrivals.now a.row.now) roomy.tree) a.at.x a.at.cells _ a.out.now holds
     (roomy.room w _ (omega arith))
 
 pub count_members-requires : goal.count_members-requires
@@ -79,6 +79,6 @@ returns-clause-steps c =
     let evaluated = c.eval_level.ensures in
     let same = evaluated-length a.ws.now evaluated.long c.clear.ensures in
     λ t o. rw (ap (λ (m : ℕ). 64 * m) (same ∙ c.requires.within.wide)) at
-    (stepped-window (test_of (having a.main.now a.arrivals.now a.row.now) t) a.at.x a.at.cells a.at.records _ a.writing a.out.now _ _ _
+    (stepped-window (test_of (having a.over.main.now a.over.arrivals.now a.row.now) t) a.at.x a.at.cells a.at.records _ a.writing a.out.now _ _ _
     (tree-holds o evaluated.reads) c.put_flips-cells.ensures
     (ap (λ (m : ℕ). a.at.records + m) (c.count_members.ensures a.at.x)))

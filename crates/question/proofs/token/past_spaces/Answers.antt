@@ -1,23 +1,15 @@
-use Prim.Native.Nat.{◌<◌}
-use native.Mathlib.Omega.{arith}
-use borrow.Author.Tests.{eq-eqb, ne_eqb}
-use lib.ListN.{length, get_or}
-use Rattle.question.proofs.RunLaws.{spaces-end, spaces-stop, spaces-more}
+use mathlib.Core.Path.{ap}
+use mathlib.Core.Bool.{not}
+use Prim.Native.Nat.{◌+◌}
+use lib.Dec.{eqb}
+use Rattle.std.proofs.Common.{rules, tests}
+use Rattle.std.proofs.lemmas.List.{take_rest}
+use Rattle.std.proofs.lemmas.Iterator.{YieldsList-from_slice}
+use Rattle.std.proofs.lemmas.Iterator.Search.{position_from_yields_List}
+use Rattle.question.proofs.RunLaws.{spaces-found}
 use Rattle.question.proofs.token.past_spaces.Goals as goal
 
-pub returns-then-s-i-ne32 : goal.returns-then-s-i-ne32
-returns-then-s-i-ne32 c =
-    let s = c.args.s.now in
-    let i = c.loop-i.i in
-    let h : i < length s = omega arith in
-    omega (arith, spaces-stop s i h (ne_eqb (get_or s i 0) 32 c.if-s-i-ne32.true))
-
-pub loop-i-preserved : goal.loop-i-preserved
-loop-i-preserved c =
-    let s = c.args.s.now in
-    let i = c.loop-i.i in
-    let h : i < length s = omega arith in
-    omega (arith, spaces-more s i h (eq-eqb (get_or s i 0) 32 c.if-s-i-ne32.false))
-
-pub returns : goal.returns
-returns c = omega (arith, spaces-end c.args.s.now c.loop-i.i c.loop-i-test.false)
+pub returns-clause-ends : goal.returns-clause-ends
+returns-clause-ends c =
+    let found = position_from_yields_List (λ b. not (eqb b 32)) _ _ c.position.result c.position.ensures.ran (YieldsList-from_slice _ c.iter.ensures.rest) (λ x b q k. search (rules, tests)) in
+    ap (λ n. c.args.at + n) (spaces-found c.args.s.now c.args.at found c.unwrap_or.ensures (take_rest c.args.s.now c.args.at))

@@ -1,23 +1,15 @@
-use Prim.Native.Nat.{◌<◌}
-use mathlib.Core.Path.{sym, ◌∙◌}
-use native.Mathlib.Omega.{arith}
-use lib.ListN.{length}
-use Rattle.question.proofs.RunLaws as laws
+use mathlib.Core.Path.{ap}
+use mathlib.Core.Bool.{not}
+use Prim.Native.Nat.{◌+◌}
+use Rattle.std.proofs.Common.{rules, tests}
+use Rattle.std.proofs.lemmas.List.{take_rest}
+use Rattle.std.proofs.lemmas.Iterator.{YieldsList-from_slice}
+use Rattle.std.proofs.lemmas.Iterator.Search.{position_from_yields_List}
+use Rattle.word.specs.Word.{is_word_byte}
+use Rattle.question.proofs.RunLaws.{run-found}
 use Rattle.question.proofs.token.run_end.Goals as goal
 
-pub returns-then-not-word_byte : goal.returns-then-not-word_byte
-returns-then-not-word_byte c =
-    let s = c.args.s.now in
-    let i = c.loop-i.i in
-    let h : i < length s = omega arith in
-    omega (arith, laws.run-stop s i h (sym c.word_byte.ensures ∙ c.if-not-word_byte.true))
-
-pub loop-i-preserved : goal.loop-i-preserved
-loop-i-preserved c =
-    let s = c.args.s.now in
-    let i = c.loop-i.i in
-    let h : i < length s = omega arith in
-    omega (arith, laws.run_more s i h (sym c.word_byte.ensures ∙ c.if-not-word_byte.false))
-
-pub returns : goal.returns
-returns c = omega (arith, laws.run_end c.args.s.now c.loop-i.i c.loop-i-test.false)
+pub returns-clause-ends : goal.returns-clause-ends
+returns-clause-ends c =
+    let found = position_from_yields_List (λ b. not (is_word_byte b)) _ _ c.position.result c.position.ensures.ran (YieldsList-from_slice _ c.iter.ensures.rest) (λ x b q k. search (rules, tests)) in
+    ap (λ n. c.args.at + n) (run-found c.args.s.now c.args.at found c.unwrap_or.ensures (take_rest c.args.s.now c.args.at))

@@ -1,7 +1,6 @@
 -- The measure is the brackets that may still open; in the loop, what is left of the codes.
 use Prim.Native.Nat.{◌+◌, ◌-◌, ◌*◌, ◌≤◌}
 use lib.ListN.{length}
-use Rattle.slots.specs.Row.{senses_in}
 use Rattle.senses.specs.Look.{Tells}
 use Rattle.codes.proofs.ReadsLaws.{Level}
 use Rattle.senses.proofs.look.+look_level_look_operand_look_part.Given as goal
@@ -15,9 +14,9 @@ decreases-look_operand l = 3 * l.d + 1
 abbrev pub decreases-look_part : goal.decreases-look_part
 decreases-look_part l = 3 * l.d
 
-abbrev pub invariant-look_level-loop-i : goal.invariant-look_level-loop-i
-invariant-look_level-loop-i l =
-    (l.i ≤ l.at) × (l.at ≤ length l.codes) × Level l.codes l.d l.k l.i l.at l.slot (Tells (senses_in l.row) l.k l.inside l.until)
+abbrev pub invariant-look_level-loop-op : goal.invariant-look_level-loop-op
+invariant-look_level-loop-op l =
+    (l.i ≤ l.at) × (l.at ≤ length l.codes) × Level l.codes l.d l.k l.i l.at l.slot (Tells l.row.senses l.k l.inside l.until)
 
-abbrev pub decreases-look_level-loop-i : goal.decreases-look_level-loop-i
-decreases-look_level-loop-i l = length l.codes - l.at
+abbrev pub decreases-look_level-loop-op : goal.decreases-look_level-loop-op
+decreases-look_level-loop-op l = length l.codes - l.at

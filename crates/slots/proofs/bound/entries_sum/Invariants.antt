@@ -6,9 +6,5 @@ use Rattle.slots.proofs.bound.entries_sum.Given as goal
 
 abbrev pub invariant-loop-m : goal.invariant-loop-m
 invariant-loop-m l =
-    (l.m ≤ l.entries.count)
-    × (l.sum ≤ 4194304 * l.m)
+    (l.sum ≤ 4194304 * l.m)
     × (l.sum + range_intervals l.index (l.entries.first + l.m) (l.entries.count - l.m) ≡ entries_intervals l.index l.entries)
-
-abbrev pub decreases-loop-m : goal.decreases-loop-m
-decreases-loop-m l = l.entries.count - l.m

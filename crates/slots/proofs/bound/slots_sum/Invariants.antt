@@ -2,15 +2,10 @@
 use Prim.Native.Nat.{◌+◌, ◌-◌, ◌*◌, ◌≤◌}
 use mathlib.Core.Path.{◌≡◌}
 use Rattle.limits.specs.Limits.{words_max}
-use Rattle.slots.specs.Row.{slots_in}
 use Rattle.slots.specs.Bound.{slots_intervals}
 use Rattle.slots.proofs.bound.slots_sum.Given as goal
 
 abbrev pub invariant-loop-k : goal.invariant-loop-k
 invariant-loop-k l =
-    (l.k ≤ l.count)
-    × (l.sum ≤ 2 * words_max * 4194304 * l.k)
-    × (l.sum + slots_intervals l.main l.arrivals (slots_in l.row) l.k (l.count - l.k) ≡ slots_intervals l.main l.arrivals (slots_in l.row) 0 l.count)
-
-abbrev pub decreases-loop-k : goal.decreases-loop-k
-decreases-loop-k l = l.count - l.k
+    (l.sum ≤ 2 * words_max * 4194304 * l.k)
+    × (l.sum + slots_intervals l.over.main.now l.over.arrivals.now l.row.ranges l.k (l.count - l.k) ≡ slots_intervals l.over.main.now l.over.arrivals.now l.row.ranges 0 l.count)

@@ -1,7 +1,6 @@
 use Prim.Native.Nat.{◌<◌}
 use native.Mathlib.Omega.{arith}
 use lib.ListN.{length}
-use mathlib.Core.Path.{◌∙◌}
 use Rattle.question.specs.Token.{tokens}
 use Rattle.question.specs.Limits.{token_words}
 use Rattle.slots.proofs.CompileLaws.{NextWord, NextOther, next_word, next-other, next-none}
@@ -12,7 +11,7 @@ use Rattle.slots.proofs.compile.compile.Goals.{In-Word, In_default}
 pub loop-start-init : goal.loop-start-init
 loop-start-init c =
     let a = c.args in
-    compile-start a.halves a.main.now a.arrivals.now a.question.now a.codes.now a.row.now
+    compile-start a.halves a.over.main.now a.over.arrivals.now a.question.now a.codes.now a.row.now
 
 pub returns-in-End-clause-codes : goal.returns-in-End-clause-codes
 returns-in-End-clause-codes c =
@@ -31,37 +30,17 @@ word c = next_word c.next_token-token.ensures c.in-Word.is
 slot : (c : In-Word) → c.loop-start.slots < length (token_words (tokens c.args.question.now))
 slot c = slot-left c.loop-start.invariant (word c).words
 
-pub fill_halves-requires-clause-main : goal.fill_halves-requires-clause-main
-fill_halves-requires-clause-main c =
-    let pre = c.requires in
-    pre.main
-
-pub fill_halves-requires-clause-arrivals : goal.fill_halves-requires-clause-arrivals
-fill_halves-requires-clause-arrivals c =
-    let pre = c.requires in
-    pre.arrivals
-
-pub fill_halves-requires-clause-both : goal.fill_halves-requires-clause-both
-fill_halves-requires-clause-both c =
-    let pre = c.requires in
-    pre.both
-
 pub fill_halves-requires-clause-slot : goal.fill_halves-requires-clause-slot
 fill_halves-requires-clause-slot c =
     let pre = c.requires in
     omega (arith, slot (goal.at.fill_halves-requires-clause-slot c).In-Word, pre.few)
-
-pub fill_halves-requires-clause-long : goal.fill_halves-requires-clause-long
-fill_halves-requires-clause-long c =
-    let pre = c.requires in
-    c.loop-start.invariant.row-long ∙ pre.long
 
 pub loop-start-preserved-in-Word : goal.loop-start-preserved-in-Word
 loop-start-preserved-in-Word c =
     let filled = c.fill_halves.ensures in
     let found = word (goal.at.loop-start-preserved-in-Word c).In-Word in
     let pre = c.requires in
-    compile-word c.loop-start.invariant pre.room found.coded pre.both found.words filled.long filled.stand filled.others
+    compile-word c.loop-start.invariant pre.room found.coded pre.both found.words filled.stand filled.others
 
 -- the token of a turn that is neither a word nor the end
 other : (c : In_default) → NextOther c.args.question.now c.loop-start.at c.next_token-token.result

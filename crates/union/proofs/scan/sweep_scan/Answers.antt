@@ -1,8 +1,9 @@
+use Rattle.std.proofs.Common.{rules}
 use Prim.Native.Nat.{ℕ, ◌+◌, ◌%◌, ◌≤◌, ◌<◌}
 use mathlib.Core.Path.{refl}
 use native.Mathlib.Omega.{arith}
 use lib.ListN.{length, get_or}
-use Rattle.merge.proofs.TallyLaws.{tallied-length}
+use borrow.Author.Tests.{eqb-true}
 use Rattle.merge.proofs.ListsLaws.{asked_entry}
 use Rattle.merge.proofs.DueLaws.{GoesAt, on_fits, left_less}
 use Rattle.union.proofs.ScanLaws.{scan-start, scan-list, lower-goes, lower-few, lower-step, upper-goes, upper-some, upper_fits, upper-step, scan-end}
@@ -27,7 +28,7 @@ goes c = upper-goes c.requires.sound c.loop-size.invariant c.loop-size-test.true
 pub loop-size-init : goal.loop-size-init
 loop-size-init c =
     let filled = c.fill.ensures in
-    scan-start c.requires.sound filled.keeps filled.fills refl c.all_at_start-places.ensures refl refl refl
+    scan-start c.requires.sound filled.keeps filled.fills refl c.all_at_start-places.ensures (search rules) (search rules) refl
 
 pub to_upper-requires-clause-entry : goal.to_upper-requires-clause-entry
 to_upper-requires-clause-entry c =
@@ -41,30 +42,6 @@ to_upper-requires-clause-goes c =
     let some = c.loop-size-test.true in
     lower-goes a inv some c.if-key-eq0.true
 
-pub to_upper-requires-clause-list : goal.to_upper-requires-clause-list
-to_upper-requires-clause-list c =
-    let a = c.requires.sound in
-    let inv = c.loop-size.invariant in
-    let some = c.loop-size-test.true in
-    omega arith
-
-pub to_upper-requires-clause-some : goal.to_upper-requires-clause-some
-to_upper-requires-clause-some c =
-    let some = c.loop-size-test.true in
-    some
-
-pub to_upper-requires-clause-within : goal.to_upper-requires-clause-within
-to_upper-requires-clause-within c =
-    let a = c.requires.sound in
-    let inv = c.loop-size.invariant in
-    let some = c.loop-size-test.true in
-    omega (arith, inv.small, inv.long)
-
-pub to_upper-requires-clause-ordered : goal.to_upper-requires-clause-ordered
-to_upper-requires-clause-ordered c =
-    let inv = c.loop-size.invariant in
-    inv.queue.heap
-
 pub loop-size-preserved-then-key-eq0 : goal.loop-size-preserved-then-key-eq0
 loop-size-preserved-then-key-eq0 c = lower-step c.requires.sound c.loop-size.invariant c.loop-size-test.true c.if-key-eq0.true
     c.begun-lower.ensures c.to_upper.ensures
@@ -72,11 +49,11 @@ loop-size-preserved-then-key-eq0 c = lower-step c.requires.sound c.loop-size.inv
 pub overflow_sub-count : goal.overflow_sub-count
 overflow_sub-count c = omega (arith, upper-some c.requires.sound c.loop-size.invariant c.loop-size-test.true c.if-key-eq0.false)
 
-pub put_closed-tally-requires-clause-begun : goal.put_closed-tally-requires-clause-begun
-put_closed-tally-requires-clause-begun c = (upper_fits c.requires.sound c.loop-size.invariant c.loop-size-test.true c.if-key-eq0.false c.requires.room).0
+pub overflow_sub-stretch : goal.overflow_sub-stretch
+overflow_sub-stretch c = (upper_fits c.requires.sound c.loop-size.invariant c.loop-size-test.true c.if-key-eq0.false c.requires.room).0
 
-pub put_closed-tally-requires-clause-fits : goal.put_closed-tally-requires-clause-fits
-put_closed-tally-requires-clause-fits c = (upper_fits c.requires.sound c.loop-size.invariant c.loop-size-test.true c.if-key-eq0.false c.requires.room).1
+pub put_where-tally-requires : goal.put_where-tally-requires
+put_where-tally-requires c = λ e. (upper_fits c.requires.sound c.loop-size.invariant c.loop-size-test.true c.if-key-eq0.false c.requires.room).1 (eqb-true _ 0 e)
 
 pub refill-size-requires-clause-entry : goal.refill-size-requires-clause-entry
 refill-size-requires-clause-entry c =
@@ -90,28 +67,6 @@ refill-size-requires-clause-place c =
     let on = on_fits a inv.over.read (j (goal.at.refill-size-requires-clause-place c).In-loop-size) (list (goal.at.refill-size-requires-clause-place c).In-loop-size) (goes (goal.at.refill-size-requires-clause-place c).Else-key-eq0) c.moved_on-places.ensures in
     on
 
-pub refill-size-requires-clause-list : goal.refill-size-requires-clause-list
-refill-size-requires-clause-list c =
-    let a = c.requires.sound in
-    let inv = c.loop-size.invariant in
-    let on = on_fits a inv.over.read (j (goal.at.refill-size-requires-clause-list c).In-loop-size) (list (goal.at.refill-size-requires-clause-list c).In-loop-size) (goes (goal.at.refill-size-requires-clause-list c).Else-key-eq0) c.moved_on-places.ensures in
-    omega arith
-
-pub refill-size-requires-clause-some : goal.refill-size-requires-clause-some
-refill-size-requires-clause-some c = c.loop-size-test.true
-
-pub refill-size-requires-clause-within : goal.refill-size-requires-clause-within
-refill-size-requires-clause-within c =
-    let a = c.requires.sound in
-    let inv = c.loop-size.invariant in
-    let on = on_fits a inv.over.read (j (goal.at.refill-size-requires-clause-within c).In-loop-size) (list (goal.at.refill-size-requires-clause-within c).In-loop-size) (goes (goal.at.refill-size-requires-clause-within c).Else-key-eq0) c.moved_on-places.ensures in
-    omega (arith, inv.small, inv.long)
-
-pub refill-size-requires-clause-ordered : goal.refill-size-requires-clause-ordered
-refill-size-requires-clause-ordered c =
-    let inv = c.loop-size.invariant in
-    inv.queue.heap
-
 pub loop-size-smaller : goal.loop-size-smaller
 loop-size-smaller c =
     let less = left_less c.requires.sound c.loop-size.invariant.over.read (j (goal.at.loop-size-smaller c).In-loop-size) (list (goal.at.loop-size-smaller c).In-loop-size) (goes (goal.at.loop-size-smaller c).Else-key-eq0)
@@ -121,7 +76,7 @@ loop-size-smaller c =
 pub loop-size-preserved : goal.loop-size-preserved
 loop-size-preserved c = upper-step c.requires.sound c.loop-size.invariant c.loop-size-test.true
     c.if-key-eq0.false
-    c.put_closed-tally.ensures c.moved_on-places.ensures
+    c.put_where-tally.ensures c.moved_on-places.ensures
     c.refill-size.ensures
 
 pub returns : goal.returns
@@ -129,9 +84,6 @@ returns c = scan-end c.requires.sound c.loop-size.invariant c.loop-size-test.fal
 
 pub bounds-entries-j : goal.bounds-entries-j
 bounds-entries-j c = list (goal.at.bounds-entries-j c).In-loop-size
-
-pub overflow_cast-entry : goal.overflow_cast-entry
-overflow_cast-entry c = omega (arith, c.shared_slice_known-in-loop-size-1.given (j (goal.at.overflow_cast-entry c).In-loop-size))
 
 pub overflow_add-count : goal.overflow_add-count
 overflow_add-count c = omega (arith, few (goal.at.overflow_add-count c).Then-key-eq0)
@@ -144,6 +96,3 @@ moved_on-places-requires-clause-entry c = asked_entry c.requires.sound (j (goal.
 
 pub moved_on-places-requires-clause-goes : goal.moved_on-places-requires-clause-goes
 moved_on-places-requires-clause-goes c = goes (goal.at.moved_on-places-requires-clause-goes c).Else-key-eq0
-
-pub shape_of-out : goal.shape_of-out
-shape_of-out c = tallied-length c.loop-size.invariant.stretch.below

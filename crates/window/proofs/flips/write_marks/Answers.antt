@@ -1,12 +1,10 @@
 use Prim.Native.Nat.{◌+◌, ◌<◌}
-use mathlib.Core.Path.{◌≡◌, refl, sym, ◌∙◌}
+use mathlib.Core.Path.{◌≡◌, sym, ◌∙◌}
 use native.Mathlib.Omega.{arith}
 use lib.ListN.{length, length-set}
-use lib.Count.{trailing_le}
 use Rattle.window.specs.Flips.{marks}
 use Rattle.window.proofs.MarkLaws.{cleared, cleared-less}
 use Rattle.window.proofs.WordFlips.{mark-count, mark-write, mark-write-end, mark-count-end}
-use borrow.Author.Rules.{rules}
 use Rattle.window.proofs.flips.write_marks.Goals as goal
 use Rattle.window.proofs.flips.write_marks.Goals.{In-loop-x}
 
@@ -37,23 +35,5 @@ returns-clause-counts c =
     let e : l.x ≡ 0 = c.loop-x-test.false in
     sym (sym l.invariant.2 ∙ rw e (mark-count-end l.k))
 
-pub loop-x-init : goal.loop-x-init
-loop-x-init c = (refl, search rules, refl, refl)
-
-pub overflow_add-out : goal.overflow_add-out
-overflow_add-out c = omega (arith, trailing_le 64 c.loop-x.x)
-
-pub overflow_sub-out : goal.overflow_sub-out
-overflow_sub-out c = omega arith
-
 pub bounds-out-k : goal.bounds-out-k
 bounds-out-k c = omega (arith, taken c)
-
-pub overflow_add-k : goal.overflow_add-k
-overflow_add-k c = omega (arith, taken c)
-
-pub loop-x-smaller : goal.loop-x-smaller
-loop-x-smaller c = cleared-less c.loop-x.x (omega arith)
-
-pub shape_of-out : goal.shape_of-out
-shape_of-out c = c.loop-x.invariant.0
