@@ -7,7 +7,7 @@ use native.Mathlib.Numerals.{add-one}
 use native.Mathlib.Decide.{ℕ_discrete}
 use mathlib.Core.List.{List, [], ◌∷◌, ◌++◌}
 use lib.Dec.{eqb}
-use lib.ListN.{length, get_or, take, set, length-take}
+use lib.ListN.{length, get_or, take, set}
 use lib.Seq.{get_or-take, take-set-lt, take-suc, length-take-le}
 use borrow.Author.Tests.{eqb-true, eq-eqb}
 use Rattle.laws.proofs.Tests.{by-test}
@@ -68,9 +68,6 @@ count_none y [] = refl
 count_none y (x ∷ xs) = refl
 
 -- ---- the least is at the front
-
-pub heap-none : (xs : List ℕ) → IsHeap (take 0 xs)
-heap-none xs i h g = absurd (omega (arith, length-take 0 xs))
 
 -- from any cell up to the first, in at most k steps
 front-from : (xs : List ℕ) → IsHeap xs → (k i : ℕ) → i ≤ k → i < length xs → get_or xs 0 0 ≤ get_or xs i 0

@@ -1,6 +1,6 @@
 -- Laws of sums over the lists, and of the heap of their keys: the front is the least mark, and says whose it is.
 use mathlib.Core.Path.{◌≡◌, refl, sym, ap, subst, ◌∙◌}
-use Prim.Native.Nat.{ℕ, zero, suc, ◌+◌, ◌-◌, ◌*◌, ◌/◌, ◌%◌, ◌≤◌, ◌<◌}
+use Prim.Native.Nat.{ℕ, zero, suc, ◌+◌, ◌*◌, ◌/◌, ◌%◌, ◌≤◌, ◌<◌}
 use native.Mathlib.Omega.{arith}
 use native.Mathlib.Numerals.{add-one}
 use native.Mathlib.Decide.{ℕ_discrete}
@@ -11,8 +11,8 @@ use lib.Seq.{get_or-append_seam, take_all}
 use borrow.Author.Tests.{eqb-true, eq-eqb, leb-true, leb-false}
 use Rattle.laws.proofs.Tests.{by-test}
 use Rattle.list.specs.Ginix.{one}
-use Rattle.heap.specs.Heap.{count_of, Pushed, Replaced, Dropped}
-use Rattle.heap.proofs.HeapLaws.{count_none, count-append, count-more, heap-none, least-front, front-counted}
+use Rattle.heap.specs.Heap.{count_of, Pushed}
+use Rattle.heap.proofs.HeapLaws.{count_none, count-append, count-more, least-front, front-counted}
 use Rattle.merge.specs.Keys.{sum_of, is_key, Heaped, Keys, Refilled}
 
 -- ---- sums
@@ -103,20 +103,20 @@ module _ {n size : ℕ} {cells : List ℕ} {due : ℕ → List ℕ} (few : n ≤
       go [] q = q
       go (m ∷ r) q = absurd (let c = rw e at (counted i m r h q) in omega (arith, count_none (m * 16 + i) cells))
 
-  -- the list at the front goes on
-  pub keys-refill : {size' : ℕ} {cells' : List ℕ} {due' : ℕ → List ℕ} → Front n (get_or cells 0 0) due
-      → Refilled (get_or cells 0 0 % 16) (due' (get_or cells 0 0 % 16)) size cells size' cells'
-      → ((i : ℕ) → (i ≡ get_or cells 0 0 % 16 → ⊥) → due i ≡ due' i)
+  -- the list at the front, whose key is y, goes on
+  pub keys-refill : {size' y : ℕ} {cells' : List ℕ} {due' : ℕ → List ℕ} → y ≡ get_or cells 0 0 → Front n y due
+      → Refilled (y % 16) (due' (y % 16)) size cells size' cells'
+      → ((i : ℕ) → (i ≡ y % 16 → ⊥) → due i ≡ due' i)
       → Keys n size' cells' due'
-  keys-refill {size'} {cells'} {due'} f r same = record {
+  keys-refill {size'} {y} {cells'} {due'} e f r same = record {
     heap = r.heap;
-    bag = λ y.
-        let j = get_or cells 0 0 % 16 in
-        let c = sum-change (λ i. one (is_key y i (due i))) (λ i. one (is_key y i (due' i))) n j f.list
-        (λ i h ne. ap (λ (ms : List ℕ). one (is_key y i ms)) (same i ne)) in
-        let own : one (is_key y j (due j)) ≡ one (eqb y (get_or cells 0 0)) =
-        ap (λ (ms : List ℕ). one (is_key y j ms)) f.mark ∙ ap (λ (z : ℕ). one (eqb y z)) (omega arith) in
-        omega (arith, r.bag y, k.bag y);
+    bag = λ z.
+        let j = y % 16 in
+        let c = sum-change (λ i. one (is_key z i (due i))) (λ i. one (is_key z i (due' i))) n j f.list
+        (λ i h ne. ap (λ (ms : List ℕ). one (is_key z i ms)) (same i ne)) in
+        let own : one (is_key z j (due j)) ≡ one (eqb z (get_or cells 0 0)) =
+        ap (λ (ms : List ℕ). one (is_key z j ms)) f.mark ∙ ap (λ (k : ℕ). one (eqb z k)) (omega arith) in
+        omega (arith, r.bag z, k.bag z);
   }
 
 -- ---- filling

@@ -92,9 +92,6 @@ module _ {index entries : List ℕ} {x b until k : ℕ} (r : Looked index entrie
   unfolding in_every
   looked-end h m = let c = r.near in record { later = r.later; near = omega arith; same = λ y f g. r.left y f g ∙ rw (lists-end index entries k h) }
 
-pub within-later : {index entries : List ℕ} {j a b x : ℕ} → a ≤ x → StandsIn index entries j a b → StandsIn index entries j x b
-within-later h w = record { asked = w.asked; list = w.list; high = w.high; covers = λ y f g. w.covers y (omega arith) g }
-
 -- ---- what is left to put: putting the cells c behind a tally is putting the cells c₀ behind the one before
 
 record Left (writing : Bool) (out₀ : List ℕ) (t₀ : Tally) (c₀ out : List ℕ) (t : Tally) (c : List ℕ) : Type 0 where

@@ -3,7 +3,6 @@
 
 ghost use Rattle.std.specs.Prelude.{◌≡◌, true, ◌+◌, ◌*◌, ◌≤◌, ◌<◌, is_some, length, get_or};
 ghost use Rattle.std.specs.Option.{unwrap_or};
-ghost use Rattle.limits.specs.Limits.{record_max};
 ghost use Rattle.list.specs.Ginix.{intersection_of};
 ghost use Rattle.list.specs.Interval.{names};
 ghost use Rattle.list.specs.Sense.{Steady};

@@ -69,14 +69,14 @@ module _ {index entries : List ℕ} {at : ℕ → Place} where
 
     -- ---- the front
 
-    module _ (some : 0 < lists) (fits : size ≤ length lowers) (small : (i : ℕ) → i < lists → next_lower index entries i (at i) ≤ record_max) where
-      lowers-some : 0 < size
-      lowers-some = leb-cases 1 size (λ g. g)
-          (λ g. let z : size ≡ 0 = omega arith in
-          absurd (omega (arith, rw z at (w.all 0 some), count_none (lack_of (next_lower index entries 0 (at 0))) lowers)))
+    pub lowers-some : 0 < lists → 0 < size
+    lowers-some some = leb-cases 1 size (λ g. g)
+        (λ g. let z : size ≡ 0 = omega arith in
+        absurd (omega (arith, rw z at (w.all 0 some), count_none (lack_of (next_lower index entries 0 (at 0))) lowers)))
 
+    module _ (some : 0 < lists) (fits : size ≤ length lowers) (small : (i : ℕ) → i < lists → next_lower index entries i (at i) ≤ record_max) where
       front_above : (i : ℕ) → i < lists → get_or lowers 0 0 ≤ lack_of (next_lower index entries i (at i))
-      front_above i h = least-front (lack_of (next_lower index entries i (at i))) size lowers lowers-some w.heap (w.all i h)
+      front_above i h = least-front (lack_of (next_lower index entries i (at i))) size lowers (lowers-some some) w.heap (w.all i h)
 
       pub front-small : get_or lowers 0 0 ≤ record_max + 1
       front-small = let a = front_above 0 some in omega arith
@@ -85,7 +85,7 @@ module _ {index entries : List ℕ} {at : ℕ → Place} where
       lowers-largest = record {
         most = λ i h. let a = front_above i h in let s = small i h in omega arith;
         reached =
-            let o = w.others (get_or lowers 0 0) (front-counted size lowers lowers-some fits) in
+            let o = w.others (get_or lowers 0 0) (front-counted size lowers (lowers-some some) fits) in
             let l = o.2 in
             let a = front_above o.0 o.1 in
             let s = small o.0 o.1 in

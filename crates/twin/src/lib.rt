@@ -3,14 +3,14 @@
 // larger than the one it leaves behind, which is therefore never the largest again: it stays until the max-heap is full and is filled anew.
 #![tactic(auto)]
 
-ghost use Rattle.std.specs.Prelude.{◌≡◌, ◌*◌, ◌≤◌, ◌<◌, leb, length};
+ghost use Rattle.std.specs.Prelude.{◌≡◌, ◌*◌, ◌≤◌, ◌<◌, leb};
 ghost use Rattle.limits.specs.Limits.{join_max, record_max};
 ghost use Rattle.list.specs.Ginix.{intersection_of};
 ghost use Rattle.merge.specs.Request.{SoundRequest, lists_of};
 ghost use Rattle.list.specs.Sweeps.{HasRoom, Sweeps};
 ghost use Rattle.twin.specs.Twin.{key_of, lack_of, StandingAt, AllLowers};
 
-use heap::{push, replace_least};
+use heap::Heap;
 use limits::JOIN_MAX;
 use list::answer::Tally;
 use list::reading::Interval;
@@ -39,27 +39,18 @@ fn lack_of(_: usize, next: Interval) -> u32
     END - next.lower
 }
 
-// Makes room for one more lower bound, and answers how many there are: a full heap is filled anew, which drops what the lists left behind.
-fn with_room(
-    index: &[u8],
-    entries: &[u32],
-    places: &[Place; JOIN_MAX],
-    lowers: &mut [u32],
-    size: usize,
-) -> usize
+// Makes room for one more lower bound: a full heap is filled anew, which drops what the lists left behind.
+fn with_room(index: &[u8], entries: &[u32], places: &[Place; JOIN_MAX], lowers: &mut Heap<LOWERS>)
     requires sound { SoundRequest index.now entries.now }
     requires stands { StandingAt index.now entries.now places.now }
-    requires long { length lowers.old ≡ 2 * join_max }
-    requires filled { AllLowers index.now entries.now places.now size lowers.old }
-    ensures fills { AllLowers index.now entries.now places.now result lowers.new }
-    ensures keeps { length lowers.new ≡ 2 * join_max }
-    ensures room { result < 2 * join_max }
+    requires filled { AllLowers index.now entries.now places.now lowers.old.size lowers.old.cells }
+    ensures fills { AllLowers index.now entries.now places.now lowers.new.size lowers.new.cells }
+    ensures room { lowers.new.size < 2 * join_max }
 {
-    if size < LOWERS {
-        return size;
+    if lowers.size < LOWERS {
+        return;
     }
     push_each(index, entries, places, lowers, lack_of);
-    entries.len()
 }
 
 // Whether all lists overlap there.
@@ -76,17 +67,16 @@ pub fn sweep_twin(index: &[u8], entries: &[u32], writing: bool, out: &mut [u32])
     ensures { Sweeps (intersection_of (lists_of index.now entries.now)) writing out.old out.new result }
 {
     let mut places = all_at_start();
-    let mut uppers = [0; JOIN_MAX];
+    let mut uppers: Heap<JOIN_MAX> = Heap::new();
     push_each(index, entries, &places, &mut uppers, key_of);
-    let mut lowers = [0; LOWERS];
+    let mut lowers: Heap<LOWERS> = Heap::new();
     push_each(index, entries, &places, &mut lowers, lack_of);
-    let mut size = entries.len();
     let mut tally = Tally::default();
     // no `for`: it ends where the first list is used up, which no range says
     loop {
-        size = with_room(index, entries, &places, &mut lowers, size);
-        let largest = END - lowers[0];
-        let least = uppers[0];
+        with_room(index, entries, &places, &mut lowers);
+        let largest = END - lowers.least();
+        let least = uppers.least();
         let overlap = Interval {
             lower: largest,
             upper: least / LISTS,
@@ -100,8 +90,7 @@ pub fn sweep_twin(index: &[u8], entries: &[u32], writing: bool, out: &mut [u32])
             return tally;
         }
         let next = next_interval(index, entry, at);
-        replace_least(&mut uppers, entries.len(), key_of(j, next));
-        push(&mut lowers, size, lack_of(j, next));
-        size += 1;
+        uppers.replace_least(key_of(j, next));
+        lowers.push(lack_of(j, next));
     }
 }

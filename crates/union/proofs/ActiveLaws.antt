@@ -202,36 +202,36 @@ module _ {index entries : List ℕ} (asked : SoundRequest index entries) {writin
 
   module _ {out keys : List ℕ} {size : ℕ} {places : List Place} {t : Tally} {active : Interval}
       (s : Line index entries writing out₀ out keys size places t active) where
-    module _ (some : 0 < size) where
-      front : Front (length entries) (get_or keys 0 0) (due_at index entries places)
-      front = keys-front asked.few s.queue some (let l = s.long in let m = s.small in omega arith)
+    module _ (some : 0 < size) {key : ℕ} (least : key ≡ get_or keys 0 0) where
+      front : Front (length entries) key (due_at index entries places)
+      front = rw least (keys-front asked.few s.queue some (let l = s.long in let m = s.small in omega arith))
 
       -- whose bound is the least
-      pub line-list : get_or keys 0 0 % 16 < length entries
+      pub line-list : key % 16 < length entries
       line-list = front.list
 
-      pub line-goes : GoesAt index entries places (get_or keys 0 0 % 16)
+      pub line-goes : GoesAt index entries places (key % 16)
       line-goes = front_goes s.state.read front
 
-      pub line-next : {next : Interval} → next.lower ≡ lower_next index entries places (get_or keys 0 0 % 16) →
-          next.upper ≡ upper_next index entries places (get_or keys 0 0 % 16) → Next index entries places (get_or keys 0 0 % 16) next
+      pub line-next : {next : Interval} → next.lower ≡ lower_next index entries places (key % 16) →
+          next.upper ≡ upper_next index entries places (key % 16) → Next index entries places (key % 16) next
       line-next = front-next s.state.read front
 
-      pub line-fits : {next : Interval} → Next index entries places (get_or keys 0 0 % 16) next → HasRoom (union_of (lists_of index entries)) writing out₀ →
+      pub line-fits : {next : Interval} → Next index entries places (key % 16) next → HasRoom (union_of (lists_of index entries)) writing out₀ →
           is_apart active next ≡ true → Fitting writing out t active
       line-fits n = active-fits asked s.state n
 
       pub line_step : {next : Interval} {out' keys' : List ℕ} {size' : ℕ} {places' : List Place} {t' : Tally} {active' : Interval}
-          → Next index entries places (get_or keys 0 0 % 16) next
+          → Next index entries places (key % 16) next
           → PutWhere (is_apart active next) writing out out' t active t'
           → Joined active next active'
-          → places' ≡ places_on index entries places (get_or keys 0 0 % 16)
-          → Refilled (get_or keys 0 0 % 16) (due_at index entries places' (get_or keys 0 0 % 16)) size keys size' keys'
+          → places' ≡ places_on index entries places (key % 16)
+          → Refilled (key % 16) (due_at index entries places' (key % 16)) size keys size' keys'
           → Line index entries writing out₀ out' keys' size' places' t' active'
       line_step n put joined e r = record {
         long = r.room ∙ s.long;
         small = let a = r.fewer in let b = s.small in omega arith;
-        queue = keys-refill asked.few s.queue front r (λ i ne. rw e (due-other index entries places (get_or keys 0 0 % 16) i ne));
+        queue = keys-refill asked.few s.queue least front r (λ i ne. rw e (due-other index entries places (key % 16) i ne));
         state = rw e (active-step asked s.state n put joined);
       }
 

@@ -64,86 +64,86 @@ module _ {index entries : List ℕ} (asked : SoundRequest index entries) {writin
 
   module _ {out keys : List ℕ} {size : ℕ} {places : List Place} {t : Tally} {count lower : ℕ}
       (g : Scan index entries writing out₀ out keys size places t count lower) where
-    module _ (some : 0 < size) where
-      front : Front (length entries) (get_or keys 0 0) (due_scan index entries places g.ins)
-      front = keys-front asked.few g.queue some (let l = g.long in let m = g.small in omega arith)
+    module _ (some : 0 < size) {key : ℕ} (least : key ≡ get_or keys 0 0) where
+      front : Front (length entries) key (due_scan index entries places g.ins)
+      front = rw least (keys-front asked.few g.queue some (let l = g.long in let m = g.small in omega arith))
 
       -- whose bound is the least
-      pub scan-list : get_or keys 0 0 % 16 < length entries
+      pub scan-list : key % 16 < length entries
       scan-list = front.list
 
       -- a lower bound
-      module _ (even : get_or keys 0 0 / 16 % 2 ≡ 0) where
-        pub lower-goes : GoesAt index entries places (get_or keys 0 0 % 16)
+      module _ (even : key / 16 % 2 ≡ 0) where
+        pub lower-goes : GoesAt index entries places (key % 16)
         lower-goes = begun-goes asked g.over front even
 
         pub lower-few : count + 1 ≤ 16
         lower-few = over-few asked (begun-over asked g.over front even refl)
 
-        pub lower-step : {lower' : ℕ} {keys' : List ℕ} → lower' ≡ lower_from count lower (get_or keys 0 0 / 32) →
-            Refilled (get_or keys 0 0 % 16) (upper_mark (upper_next index entries places (get_or keys 0 0 % 16)) ∷ []) size keys size keys' →
+        pub lower-step : {lower' : ℕ} {keys' : List ℕ} → lower' ≡ lower_from count lower (key / 32) →
+            Refilled (key % 16) (upper_mark (upper_next index entries places (key % 16)) ∷ []) size keys size keys' →
             Scan index entries writing out₀ out keys' size places t (count + 1) lower'
         lower-step e r =
-            let j = get_or keys 0 0 % 16 in
+            let j = key % 16 in
             let reach = begun-reach asked g.over front even in
             record {
               long = r.room ∙ g.long;
               small = g.small;
               ins = turned_to true j g.ins;
-              line = get_or keys 0 0 / 32;
-              queue = keys-refill asked.few g.queue front (rw (eq-eqb j j refl) r) (λ i ne. rw (ne_eqb i j ne));
+              line = key / 32;
+              queue = keys-refill asked.few g.queue least front (rw (eq-eqb j j refl) r) (λ i ne. rw (ne_eqb i j ne));
               over = begun-over asked g.over front even e;
               stretch = stretch-begun g.stretch reach.0 reach.1 (begun-shut asked g.over front even) (begun-wide asked g.over front even) e;
             }
 
       -- an upper bound
-      module _ (odd : get_or keys 0 0 / 16 % 2 ≡ 0 → ⊥) where
-        pub upper-goes : GoesAt index entries places (get_or keys 0 0 % 16)
+      module _ (odd : key / 16 % 2 ≡ 0 → ⊥) where
+        pub upper-goes : GoesAt index entries places (key % 16)
         upper-goes = ended-goes asked g.over front odd
 
         pub upper-some : 0 < count
         upper-some = ended_some asked g.over front odd
 
-        reach : (g.line ≤ get_or keys 0 0 / 32) × (get_or keys 0 0 / 32 ≤ record_max + 1) × (lower < get_or keys 0 0 / 32)
+        reach : (g.line ≤ key / 32) × (key / 32 ≤ record_max + 1) × (lower < key / 32)
         reach = ended-reach asked g.over front odd
 
-        in-line : (z : ℕ) → g.line ≤ z → z < get_or keys 0 0 / 32 → in_any index entries z ≡ true
+        in-line : (z : ℕ) → g.line ≤ z → z < key / 32 → in_any index entries z ≡ true
         in-line = ended-wide asked g.over front odd
 
         fewer : count ≡ count - 1 + 1
         fewer = let s = upper-some in omega arith
 
-        stop : count - 1 ≡ 0 → in_any index entries (get_or keys 0 0 / 32) ≡ false
+        stop : count - 1 ≡ 0 → in_any index entries (key / 32) ≡ false
         stop = ended-stop asked g.over front odd fewer
 
         pub upper_fits : HasRoom (union_of (lists_of index entries)) writing out₀ →
-            (1 ≤ get_or keys 0 0 / 32) × (count - 1 ≡ 0 → Fitting writing out t (up_to lower (get_or keys 0 0 / 32)))
+            (1 ≤ key / 32) × (count - 1 ≡ 0 → Fitting writing out t (up_to lower (key / 32)))
         unfolding union_of
         upper_fits r =
             let h = reach in
-            (omega arith, λ c. stretch-fits g.stretch (get_or keys 0 0 / 32) upper-some h.0 h.1 in-line h.2 (stop c) r)
+            (omega arith, λ c. stretch-fits g.stretch (key / 32) upper-some h.0 h.1 in-line h.2 (stop c) r)
 
-        same-due : (i : ℕ) → (i ≡ get_or keys 0 0 % 16 → ⊥) →
+        same-due : (i : ℕ) → (i ≡ key % 16 → ⊥) →
             due_scan index entries places g.ins i
-            ≡ due_scan index entries (places_on index entries places (get_or keys 0 0 % 16)) (turned_to false (get_or keys 0 0 % 16) g.ins) i
-        same-due i ne = rw (ne_eqb i (get_or keys 0 0 % 16) ne, places-other index entries places (get_or keys 0 0 % 16) i ne)
+            ≡ due_scan index entries (places_on index entries places (key % 16)) (turned_to false (key % 16) g.ins) i
+        same-due i ne = rw (ne_eqb i (key % 16) ne, places-other index entries places (key % 16) i ne)
 
         pub upper-step : {out' keys' : List ℕ} {size' : ℕ} {places' : List Place} {t' : Tally}
-            → PutWhere (eqb (count - 1) 0) writing out out' t (up_to lower (get_or keys 0 0 / 32)) t'
-            → places' ≡ places_on index entries places (get_or keys 0 0 % 16)
-            → Refilled (get_or keys 0 0 % 16) (due_at index entries places' (get_or keys 0 0 % 16)) size keys size' keys'
+            → PutWhere (eqb (count - 1) 0) writing out out' t (up_to lower (key / 32)) t'
+            → places' ≡ places_on index entries places (key % 16)
+            → Refilled (key % 16) (due_at index entries places' (key % 16)) size keys size' keys'
             → Scan index entries writing out₀ out' keys' size' places' t' (count - 1) lower
         upper-step put e r =
             let h = reach in
-            let j = get_or keys 0 0 % 16 in
+            let j = key % 16 in
             record {
               long = r.room ∙ g.long;
               small = let a = r.fewer in let b = g.small in omega arith;
               ins = turned_to false j g.ins;
-              line = get_or keys 0 0 / 32;
-              queue = keys-refill asked.few g.queue front (rw (eq-eqb j j refl) r) (λ i ne. rw e (same-due i ne));
+              line = key / 32;
+              queue = keys-refill asked.few g.queue least front (rw (eq-eqb j j refl) r) (λ i ne. rw e (same-due i ne));
               over = rw e (ended-over asked g.over front odd fewer);
-              stretch = stretch-closed g.stretch (get_or keys 0 0 / 32) upper-some h.0 h.1 in-line h.2 stop put;
+              stretch = stretch-closed g.stretch (key / 32) upper-some h.0 h.1 in-line h.2 stop put;
             }
 
     -- no key is left

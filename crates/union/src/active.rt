@@ -6,6 +6,7 @@ ghost use Rattle.merge.specs.Request.{SoundRequest, lists_of};
 ghost use Rattle.list.specs.Sweeps.{HasRoom, Sweeps};
 ghost use Rattle.union.specs.Active.{is_apart, Joined};
 
+use heap::Heap;
 use limits::JOIN_MAX;
 use list::answer::Tally;
 use list::reading::Interval;
@@ -46,26 +47,25 @@ pub fn sweep_active(index: &[u8], entries: &[u32], writing: bool, out: &mut [u32
     requires room { HasRoom (union_of (lists_of index.now entries.now)) writing out.old }
     ensures { Sweeps (union_of (lists_of index.now entries.now)) writing out.old out.new result }
 {
-    let mut keys = [0; JOIN_MAX];
-    fill(index, entries, &mut keys);
-    let mut size = entries.len();
+    let mut keys = fill(index, entries);
     let mut places = all_at_start();
     let mut tally = Tally::default();
     // the least lower bound is in: the first interval joins it
-    let first = keys[0] / BOUND;
+    let first = keys.least() / BOUND;
     let mut active = Interval {
         lower: first,
         upper: first,
     };
     // no `for`: a list that is not used up comes back into the heap, so how many turns there are no range says
-    while 0 < size {
-        let j = (keys[0] % LISTS) as usize;
+    while 0 < keys.size {
+        let key = keys.least();
+        let j = (key % LISTS) as usize;
         let entry = entries[j] as usize;
         let next = next_interval(index, entry, places[j]);
         tally = put_where(apart(active, next), out, writing, tally, active);
         active = joined(active, next);
         places = moved_on(index, entry, places, j);
-        size = refill(index, entry, places[j], j, &mut keys, size);
+        refill(index, entry, places[j], j, &mut keys);
     }
     put(out, writing, tally, active)
 }

@@ -5,6 +5,7 @@ ghost use Rattle.merge.specs.Request.{SoundRequest, lists_of};
 ghost use Rattle.list.specs.Sweeps.{HasRoom, Sweeps};
 ghost use Rattle.union.specs.Scan.{lower_from};
 
+use heap::Heap;
 use limits::JOIN_MAX;
 use list::answer::Tally;
 use list::reading::Interval;
@@ -25,22 +26,20 @@ pub fn sweep_scan(index: &[u8], entries: &[u32], writing: bool, out: &mut [u32])
     requires room { HasRoom (union_of (lists_of index.now entries.now)) writing out.old }
     ensures { Sweeps (union_of (lists_of index.now entries.now)) writing out.old out.new result }
 {
-    let mut keys = [0; JOIN_MAX];
-    fill(index, entries, &mut keys);
-    let mut size = entries.len();
+    let mut keys = fill(index, entries);
     let mut places = all_at_start();
     let mut tally = Tally::default();
     let mut count = 0;
     let mut lower = 0;
     // no `for`: a list that is not used up comes back into the heap, so how many turns there are no range says
-    while 0 < size {
-        let key = keys[0];
+    while 0 < keys.size {
+        let key = keys.least();
         let j = (key % LISTS) as usize;
         let entry = entries[j] as usize;
         if key / LISTS % 2 == 0 {
             lower = begun(count, lower, key / BOUND);
             count += 1;
-            to_upper(index, entry, places[j], j, &mut keys, size);
+            to_upper(index, entry, places[j], j, &mut keys);
         } else {
             count -= 1;
             let stretch = Interval {
@@ -49,7 +48,7 @@ pub fn sweep_scan(index: &[u8], entries: &[u32], writing: bool, out: &mut [u32])
             };
             tally = put_where(count == 0, out, writing, tally, stretch);
             places = moved_on(index, entry, places, j);
-            size = refill(index, entry, places[j], j, &mut keys, size);
+            refill(index, entry, places[j], j, &mut keys);
         }
     }
     tally

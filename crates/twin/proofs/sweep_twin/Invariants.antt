@@ -8,7 +8,7 @@ use Rattle.twin.proofs.sweep_twin.Given as goal
 
 abbrev pub invariant-loop-places : goal.invariant-loop-places
 invariant-loop-places l =
-    Turning l.index l.entries l.writing l.initial.out l.out l.places l.uppers l.tally × AllLowers l.index l.entries l.places l.size l.lowers × (length l.lowers ≡ 32)
+    Turning l.index l.entries l.writing l.initial.out l.out l.places l.uppers.cells l.tally × AllLowers l.index l.entries l.places l.lowers.size l.lowers.cells × (l.uppers.size ≡ length l.entries)
 
 abbrev pub decreases-loop-places : goal.decreases-loop-places
-decreases-loop-places l = 268435456 - get_or l.uppers 0 0
+decreases-loop-places l = 268435456 - get_or l.uppers.cells 0 0

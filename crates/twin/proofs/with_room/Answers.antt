@@ -4,4 +4,4 @@ use Rattle.twin.proofs.LowersLaws.{lowers-filled}
 use Rattle.twin.proofs.with_room.Goals as goal
 
 pub returns-clause-fills : goal.returns-clause-fills
-returns-clause-fills c = lowers-filled c.push_each.ensures.pushes (λ j x h e. search rules)
+returns-clause-fills c = rw c.push_each.ensures.size (lowers-filled c.push_each.ensures.pushes (λ j x h e. search rules))

@@ -3,12 +3,11 @@ use Rattle.merge.proofs.KeysLaws.{keys-filled}
 use Rattle.merge.proofs.DueLaws.{go-start, first_high, due-goes}
 use Rattle.merge.proofs.keys.fill.Goals as goal
 
-pub push_each-requires-clause-goes : goal.push_each-requires-clause-goes
-push_each-requires-clause-goes c = rw c.all_at_start.ensures (go-start c.requires.sound)
-
-pub push_each-requires-clause-may : goal.push_each-requires-clause-may
-push_each-requires-clause-may c = rw c.all_at_start.ensures
-    (λ j h. let few = c.requires.sound.few in ((first_high c.requires.sound j h).0, omega arith))
+pub push_each-requires : goal.push_each-requires
+push_each-requires c =
+    let asked = c.requires.sound in
+    let few = asked.few in
+    (omega arith, (asked, (rw c.all_at_start.ensures (go-start asked), (omega arith, rw c.all_at_start.ensures (λ j h. ((first_high asked j h).0, omega arith))))))
 
 pub returns-clause-fills : goal.returns-clause-fills
 returns-clause-fills c =
