@@ -2,45 +2,26 @@
 -- have no entry.
 use native.Mathlib.Omega.{arith}
 use mathlib.Core.Path.{refl}
+use Rattle.question.specs.Limits.{WithinLimits}
 use Rattle.question.specs.Rules.{rule_of}
 use Rattle.question.proofs.ParsedLaws.{accepted-within, asked-parsed}
 use Rattle.source.specs.Source.{satisfying}
 use Rattle.source.proofs.AskLaws.{listing-answers}
 use Rattle.query.proofs.AskLaws.{compiled-short, compiled-asked, compiled-ready, halves-source}
 use Rattle.query.proofs.ask.answer_accepted.Goals as goal
+use Rattle.query.proofs.ask.answer_accepted.Goals.{Start}
 
-pub compile-compiled-requires-clause-main : goal.compile-compiled-requires-clause-main
-compile-compiled-requires-clause-main c =
-    let over = c.requires.halves in
-    over.main-sound
-
-pub compile-compiled-requires-clause-arrivals : goal.compile-compiled-requires-clause-arrivals
-compile-compiled-requires-clause-arrivals c =
-    let over = c.requires.halves in
-    over.arrivals-sound
-
-pub compile-compiled-requires-clause-both : goal.compile-compiled-requires-clause-both
-compile-compiled-requires-clause-both c =
-    let over = c.requires.halves in
-    over.both
+within : (s : Start) → WithinLimits s.args.question.now
+within s =
+    let a = s.args in
+    let is = s.requires.asked in
+    accepted-within (rule_of a.rule) a.question.now is.tree is.words (asked-parsed a.rule a.question.now is.tree is.words is.is).1
 
 pub compile-compiled-requires-clause-room : goal.compile-compiled-requires-clause-room
-compile-compiled-requires-clause-room c =
-    let a = c.args in
-    let over = c.requires.halves in
-    let is = c.requires.asked in
-    let within = accepted-within (rule_of a.rule) a.question.now is.tree is.words
-    (asked-parsed a.rule a.question.now is.tree is.words is.is).1 in
-    omega arith
+compile-compiled-requires-clause-room c = let limits = within (goal.at.compile-compiled-requires-clause-room c).Start in omega arith
 
 pub compile-compiled-requires-clause-few : goal.compile-compiled-requires-clause-few
-compile-compiled-requires-clause-few c =
-    let a = c.args in
-    let over = c.requires.halves in
-    let is = c.requires.asked in
-    let within = accepted-within (rule_of a.rule) a.question.now is.tree is.words
-    (asked-parsed a.rule a.question.now is.tree is.words is.is).1 in
-    omega arith
+compile-compiled-requires-clause-few c = let limits = within (goal.at.compile-compiled-requires-clause-few c).Start in omega arith
 
 pub answer_codes-requires-clause-asked : goal.answer_codes-requires-clause-asked
 answer_codes-requires-clause-asked c =

@@ -1,12 +1,18 @@
 -- The blank window holds the question's test once it is evaluated; its cells and its records are those of the test.
-use mathlib.Core.Path.{ap, ◌∙◌}
+use mathlib.Core.Path.{◌≡◌, ap, ◌∙◌}
 use Prim.Native.Nat.{ℕ, ◌+◌, ◌*◌}
 use native.Mathlib.Omega.{arith}
+use lib.ListN.{length}
 use Rattle.slots.specs.Having.{having}
 use Rattle.query.specs.Drive.{test_of}
 use Rattle.window.proofs.StepLaws.{stepped-window}
 use Rattle.query.proofs.TestLaws.{tree-holds, blank-length, blank-again, evaluated-length, window-room, members-few}
 use Rattle.query.proofs.drive.take_window.Goals as goal
+use Rattle.query.proofs.drive.take_window.Goals.{After-eval_level}
+
+-- the window is as long as it was lent
+same : (c : After-eval_level) → length c.eval_level.new.ws ≡ length c.args.ws.now
+same c = evaluated-length c.args.ws.now c.eval_level.ensures.long c.clear.ensures
 
 pub eval_level-requires : goal.eval_level-requires
 eval_level-requires c =
@@ -15,70 +21,30 @@ eval_level-requires c =
     let within = c.requires.within in
     record { lent = c.requires.lends; sensed = c.requires.sensed; inside = omega arith; blank = blank-again _ c.args.ws.now blank; size = omega arith; near = omega arith }
 
-pub put_flips-cells-requires-clause-begun : goal.put_flips-cells-requires-clause-begun
-put_flips-cells-requires-clause-begun c =
-    let within = c.requires.within in
-    within.begun
-
 pub put_flips-cells-requires-clause-near : goal.put_flips-cells-requires-clause-near
-put_flips-cells-requires-clause-near c =
-    let a = c.args in
-    let same = evaluated-length a.ws.now c.eval_level.ensures.long c.clear.ensures in
-    let within = c.requires.within in
-    let roomy = c.requires.room in
-    let holds = tree-holds roomy.reads c.eval_level.ensures.reads in
-    omega arith
+put_flips-cells-requires-clause-near c = omega (arith, same (goal.at.put_flips-cells-requires-clause-near c).After-eval_level)
 
 pub put_flips-cells-requires-clause-fits : goal.put_flips-cells-requires-clause-fits
-put_flips-cells-requires-clause-fits c =
-    let a = c.args in
-    let same = evaluated-length a.ws.now c.eval_level.ensures.long c.clear.ensures in
-    let within = c.requires.within in
-    let roomy = c.requires.room in
-    let holds = tree-holds roomy.reads c.eval_level.ensures.reads in
-    omega arith
+put_flips-cells-requires-clause-fits c = omega (arith, same (goal.at.put_flips-cells-requires-clause-fits c).After-eval_level)
 
 pub put_flips-cells-requires-clause-room : goal.put_flips-cells-requires-clause-room
 put_flips-cells-requires-clause-room c =
     let a = c.args in
-    let same = evaluated-length a.ws.now c.eval_level.ensures.long c.clear.ensures in
-    let within = c.requires.within in
+    let long = same (goal.at.put_flips-cells-requires-clause-room c).After-eval_level in
     let roomy = c.requires.room in
-    let holds = tree-holds roomy.reads c.eval_level.ensures.reads in
-    λ w. window-room (test_of (having a.over.main.now a.over.arrivals.now a.row.now) roomy.tree) a.at.x a.at.cells _ a.out.now holds
-    (roomy.room w _ (omega arith))
+    λ w. window-room (test_of (having a.over.main.now a.over.arrivals.now a.row.now) roomy.tree) a.at.x a.at.cells _ a.out.now
+    (tree-holds roomy.reads c.eval_level.ensures.reads) (roomy.room w _ (omega arith))
 
 pub count_members-requires : goal.count_members-requires
-count_members-requires c =
-    let same = evaluated-length c.args.ws.now c.eval_level.ensures.long c.clear.ensures in
-    let within = c.requires.within in
-    omega arith
+count_members-requires c = omega (arith, same (goal.at.count_members-requires c).After-eval_level)
 
 pub overflow_add-result : goal.overflow_add-result
-overflow_add-result c =
-    let same = evaluated-length c.args.ws.now c.eval_level.ensures.long c.clear.ensures in
-    let within = c.requires.within in
-    let few = members-few _ _ c.count_members.ensures in
-    omega arith
-
-pub returns-clause-moved : goal.returns-clause-moved
-returns-clause-moved c =
-    let evaluated = c.eval_level.ensures in
-    evaluated.moved
-
-pub returns-clause-long : goal.returns-clause-long
-returns-clause-long c =
-    let a = c.args in
-    let evaluated = c.eval_level.ensures in
-    let same = evaluated-length a.ws.now evaluated.long c.clear.ensures in
-    same
+overflow_add-result c = omega (arith, same (goal.at.overflow_add-result c).After-eval_level, members-few _ _ c.count_members.ensures)
 
 pub returns-clause-steps : goal.returns-clause-steps
 returns-clause-steps c =
     let a = c.args in
-    let evaluated = c.eval_level.ensures in
-    let same = evaluated-length a.ws.now evaluated.long c.clear.ensures in
-    λ t o. rw (ap (λ (m : ℕ). 64 * m) (same ∙ c.requires.within.wide)) at
+    λ t o. rw (ap (λ (m : ℕ). 64 * m) (same (goal.at.returns-clause-steps c).After-eval_level ∙ c.requires.within.wide)) at
     (stepped-window (test_of (having a.over.main.now a.over.arrivals.now a.row.now) t) a.at.x a.at.cells a.at.records _ a.writing a.out.now _ _ _
-    (tree-holds o evaluated.reads) c.put_flips-cells.ensures
+    (tree-holds o c.eval_level.ensures.reads) c.put_flips-cells.ensures
     (ap (λ (m : ℕ). a.at.records + m) (c.count_members.ensures a.at.x)))
