@@ -2,6 +2,7 @@
 #![tactic(auto)]
 
 ghost use Rattle.std.specs.Prelude.{◌≡◌, cond};
+ghost use Rattle.word.specs.Code.{op_of};
 ghost use Rattle.word.specs.Word.{
   is_word_byte,
   all_word_bytes,
@@ -21,6 +22,20 @@ pub enum Op {
     And,
     Or,
     Not,
+}
+
+// An operator by a number: 0 and 1 are `and`, 2 is `or`, and every other one is `not`.
+impl From<u8> for Op {
+    ghost from_gives = { λ code op. op ≡ op_of code };
+
+    fn from(code: u8) -> Op {
+        match code {
+            0 => Op::And,
+            1 => Op::And,
+            2 => Op::Or,
+            _ => Op::Not,
+        }
+    }
 }
 
 // Whether a byte is a word byte, without a branch.

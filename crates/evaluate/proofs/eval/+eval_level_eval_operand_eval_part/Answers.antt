@@ -71,7 +71,7 @@ eval_level-loop-op-preserved-then-word_out t c =
     let row = c.eval_operand-next.new.row in
     let o = c.in-Some.op in
     let out = c.word_out.ensures.out c.if-word_out.true in
-    let both = c.combine_blank.ensures in
+    let both = rw c.combine_blank.ensures.1 at c.combine_blank.ensures.2 in
     let size-here : length c.eval_operand-next.new.ws ≡ length l.ws = sym l.invariant.3 in
     let moves = moved-both c.eval_operand-next.ensures.moved l.invariant.2 in
     let sensed = sensed-moved a.over.main.now a.over.arrivals.now c.requires.sensed moves in (
@@ -129,7 +129,7 @@ eval_level-loop-op-preserved t c =
     let r = c.eval_operand-next-else-word_out in
     let f = rw (moved-having a.over.main.now a.over.arrivals.now l.invariant.2) at r.ensures.reads in
     let long = right-long t at.After-eval_operand-next-else-word_out in
-    let both = rw (front-back (length first.new.ws - 0) r.new.ws _ long) at c.combine_into.ensures in
+    let both = rw (front-back (length first.new.ws - 0) r.new.ws _ long) at (rw c.combine_into.ensures.1 at c.combine_into.ensures.2) in
     let w = l.invariant.3 in (
       omega (arith, f.ahead, l.invariant.0),
       f.inside,

@@ -59,7 +59,7 @@ look_level-loop-op-preserved t c =
       next.ensures.inside,
       level-step a.codes.now a.d a.k a.i at.at at.slot n.code n.slot _ _ _ o on.0 at.invariant.2 next.ensures.reads
           (λ x y h s u. tells-pair a.row.now.senses a.k r.inside r.until o x y at.slot h at.inside n.inside at.until n.until
-          c.pair_senses-sense.ensures s u),
+          (rw c.pair_senses-sense.ensures.1 at c.pair_senses-sense.ensures.2) s u),
     )
 
 -- ---- an operand
