@@ -21,6 +21,12 @@ use Rattle.layout.specs.Laid.{laid, laid_to, LaidWithin, entered, entered_to}
 use Rattle.layout.proofs.BytesLaws.{cells-length}
 use Rattle.layout.proofs.KeptBytesLaws.{kept-length}
 
+-- what was copied into a lent part, said of the whole
+pub part-sets : (a k : ℕ) (xs vs : List ℕ) {ys : List ℕ} → k ≡ length vs → a + length vs ≤ length xs → ys ≡ vs → put_mid a k xs ys ≡ sets xs a vs
+part-sets a k xs vs e h is =
+    rw (is, e, drop-drop (length vs) a xs)
+    (sym (append_assoc (take a xs) vs (drop (a + length vs) xs)) ∙ sym (sets-eq vs xs a h))
+
 -- ---- cells
 
 one_cell : (out : List ℕ) (at x : ℕ) (xs : List ℕ) → sets out at (cells_bytes (x ∷ xs)) ≡ sets (sets out at (cell_bytes x)) (at + 4) (cells_bytes xs)
