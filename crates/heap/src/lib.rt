@@ -6,7 +6,7 @@ ghost use Rattle.std.specs.Prelude.{◌≡◌, ◌+◌, ◌-◌, ◌*◌, ◌≤
 ghost use Rattle.heap.specs.Heap.{IsHeap, Pushed, Replaced, Dropped, Lesser};
 
 /// A heap of at most `N` numbers.
-#[derive(Drop)]
+#[derive(Clone, Copy)]
 pub struct Heap<const N: usize> {
     pub cells: [u32; N],
     pub size: usize,

@@ -17,7 +17,7 @@ use limits::WORD_MAX;
 use std::cmp::Ordering;
 
 // The operators of a question.
-#[derive(Clone, Copy)]
+#[derive(Clone, Copy, PartialEq, Eq)]
 pub enum Op {
     And,
     Or,
