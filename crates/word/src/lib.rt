@@ -119,6 +119,7 @@ pub fn is_word(s: &[u8], every: bool) -> bool
 }
 
 // The order of two words, byte by byte; the beginning of a word stands before the word.
+#[tactic(auto, using(crate::proofs::WordLaws::order_is_cmp))]
 pub fn compare(a: &[u8], b: &[u8]) -> Ordering
     ensures { result ≡ order_of a.now b.now }
 {
