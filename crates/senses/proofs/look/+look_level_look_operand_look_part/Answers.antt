@@ -14,8 +14,8 @@ use Rattle.senses.proofs.look.+look_level_look_operand_look_part.Goals as goal
 use Rattle.senses.proofs.look.+look_level_look_operand_look_part.Goals.{look_level-In-Some, look_operand-Else-not-word_at, look_part-Else-not-opening_at, look_part-Else-not-closing_at}
 
 -- as many codes are read as stand there
-long : (g : Over) (codes : List g.row.C.Denot) → length (map g.C.AsCode.code codes) ≡ length codes
-long g codes = length-map codes g.C.AsCode.code
+as-many : (g : Over) (codes : List g.row.C.Denot) → length (map g.C.AsCode.code codes) ≡ length codes
+as-many g codes = length-map codes g.C.AsCode.code
 
 -- ---- a level
 
@@ -31,7 +31,7 @@ look_level-loop-op-init g t c =
     let a = c.args in
     let first = c.look_operand-first in
     let r = first.result in
-    (first.ensures.ahead, omega (arith, first.ensures.inside, long g a.codes.now), level-start (map g.C.AsCode.code a.codes.now) a.d a.k a.i r.code r.slot _ first.ensures.reads)
+    (first.ensures.ahead, omega (arith, first.ensures.inside, as-many g a.codes.now), level-start (map g.C.AsCode.code a.codes.now) a.d a.k a.i r.code r.slot _ first.ensures.reads)
 
 pub look_level-returns : goal.look_level-returns
 look_level-returns g t c =
@@ -40,18 +40,18 @@ look_level-returns g t c =
     let none = operator-none _ (sym c.operator_at.ensures ∙ c.in_default.is) in
     record {
       ahead = at.invariant.0;
-      inside = omega (arith, at.invariant.1, long g a.codes.now);
+      inside = omega (arith, at.invariant.1, as-many g a.codes.now);
       reads = level-end (map g.C.AsCode.code a.codes.now) a.d a.k a.i at.at at.slot _ at.invariant.2 none;
     }
 
 pub look_level-look_operand-next-requires : goal.look_level-look_operand-next-requires
 look_level-look_operand-next-requires g t c κs within =
-    (omega arith, (within, omega (arith, (operator g t c).1, long g c.args.codes.now)))
+    (omega arith, (within, omega (arith, (operator g t c).1, as-many g c.args.codes.now)))
 
 pub look_level-loop-op-smaller : goal.look_level-loop-op-smaller
 look_level-loop-op-smaller g t c =
     let next = c.look_operand-next.ensures in
-    omega (arith, long g c.args.codes.now, (operator g t (goal.at.look_level-loop-op-smaller g t c).In-Some).1, next.ahead, next.inside)
+    omega (arith, as-many g c.args.codes.now, (operator g t (goal.at.look_level-loop-op-smaller g t c).In-Some).1, next.ahead, next.inside)
 
 pub look_level-loop-op-preserved : goal.look_level-loop-op-preserved
 look_level-loop-op-preserved g t c =
@@ -63,7 +63,7 @@ look_level-loop-op-preserved g t c =
     let n = next.result in
     let r = c.pair_senses-sense.result in (
       omega (arith, next.ensures.ahead),
-      omega (arith, next.ensures.inside, long g a.codes.now),
+      omega (arith, next.ensures.inside, as-many g a.codes.now),
       level-step (map g.C.AsCode.code a.codes.now) a.d a.k a.i at.at at.slot n.code n.slot _ _ _ o on.0 at.invariant.2 next.ensures.reads
           (λ x y h s u. tells-pair a.row.now.senses a.k r.inside r.until o x y at.slot h at.inside n.inside at.until n.until
           (rw c.pair_senses-sense.ensures.1 at c.pair_senses-sense.ensures.2) s u),
@@ -84,7 +84,7 @@ pub look_operand-returns-then-k-ge-QUESTION_WORDS_MAX :
 look_operand-returns-then-k-ge-QUESTION_WORDS_MAX g t c =
     let a = c.args in
     let here = word-here g t (goal.at.look_operand-returns-then-k-ge-QUESTION_WORDS_MAX g t c).Else-not-word_at in
-    looks-none (omega (arith, c.requires.within, long g a.codes.now)) c.unread.ensures
+    looks-none (omega (arith, c.requires.within, as-many g a.codes.now)) c.unread.ensures
     (λ f. operand-many (map g.C.AsCode.code a.codes.now) f a.d a.k a.i here.0 _ _ _ c.if-k-ge-QUESTION_WORDS_MAX.true)
 
 pub look_operand-returns : goal.look_operand-returns
@@ -111,7 +111,7 @@ close-here g t c = code_here (map g.C.AsCode.code c.args.codes.now) c.look_level
 pub look_part-returns-then-not-opening_at : goal.look_part-returns-then-not-opening_at
 look_part-returns-then-not-opening_at g t c =
     let a = c.args in
-    looks-none (omega (arith, c.requires.within, long g a.codes.now)) c.unread.ensures
+    looks-none (omega (arith, c.requires.within, as-many g a.codes.now)) c.unread.ensures
     (λ f. operand-none (map g.C.AsCode.code a.codes.now) f a.d a.k a.i _ _ _ c.requires.wordless
     (λ e. true-false (sym (c.opening_at.ensures.1 e) ∙ c.if-not-opening_at.true)))
 
@@ -119,13 +119,13 @@ pub look_part-returns-then-d-eq0 : goal.look_part-returns-then-d-eq0
 look_part-returns-then-d-eq0 g t c =
     let a = c.args in
     let here = open-here g t (goal.at.look_part-returns-then-d-eq0 g t c).Else-not-opening_at in
-    looks-none (omega (arith, c.requires.within, long g a.codes.now)) c.unread-then-d-eq0.ensures
+    looks-none (omega (arith, c.requires.within, as-many g a.codes.now)) c.unread-then-d-eq0.ensures
     (λ f. operand-deep (map g.C.AsCode.code a.codes.now) f a.d a.k a.i here.0 _ _ _ c.if-d-eq0.true)
 
 pub look_part-look_level-part-requires : goal.look_part-look_level-part-requires
 look_part-look_level-part-requires g t c κs within =
     let here = open-here g t (goal.at.look_part-look_level-part-requires g t c).Else-not-opening_at in
-    (omega arith, (within, omega (arith, here.1, long g c.args.codes.now)))
+    (omega arith, (within, omega (arith, here.1, as-many g c.args.codes.now)))
 
 pub look_part-returns-then-not-closing_at :
     goal.look_part-returns-then-not-closing_at
