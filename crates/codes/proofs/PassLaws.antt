@@ -138,6 +138,13 @@ wide_word codes i h f toks e =
     let w = code-word s.tok (stands-code s h) in
     rw (s.here, w.2, f) (goes_at toks codes (i + 1) e)
 
+-- the same, as `is_wide` tells them
+pub wide_no : (codes : List Code) (i : ℕ) → (slice_get codes i ≡ Some kind.Word → ⊥) → WideAt codes i true
+wide_no = wide-none
+
+pub wide_told : (codes : List Code) (i : ℕ) (r : Bool) → slice_get codes i ≡ Some kind.Word → r ≡ goes_by (operator_at codes (i + 1)) → WideAt codes i r
+wide_told codes i r h e = rw e (wide_word codes i h refl)
+
 -- ---- from token to token
 
 -- a place at which a code was read

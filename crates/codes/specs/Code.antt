@@ -1,5 +1,5 @@
 -- A question's tokens as codes, which the evaluation reads: it needs no word's bytes, only which word it is.
-use Rattle.std.specs.Prelude.{ℕ, zero, suc, ◌+◌, ◌≡◌, refl, List, [], ◌∷◌, map, Option, Some, None, slice_get}
+use Rattle.std.specs.Prelude.{ℕ, zero, suc, ◌+◌, List, [], ◌∷◌, map, Option, Some, None, slice_get}
 use Rattle.word.specs.declared.Op.{Op}
 use Rattle.word.specs.declared.Op.TheVariants.{And, Or, Not}
 use Rattle.question.specs.declared.token.Token.{Token}
@@ -75,13 +75,3 @@ code_by (suc (suc (suc zero))) = kind.Op Not
 code_by (suc (suc (suc (suc zero)))) = kind.Open
 code_by (suc (suc (suc (suc (suc zero))))) = kind.Close
 code_by (suc (suc (suc (suc (suc (suc n)))))) = kind.Other
-
--- what is written as a number is read as the same code again
-pub number_read : (c : Code) → code_by (number_of c) ≡ c
-number_read kind.Word = refl
-number_read (kind.Op And) = refl
-number_read (kind.Op Or) = refl
-number_read (kind.Op Not) = refl
-number_read kind.Open = refl
-number_read kind.Close = refl
-number_read kind.Other = refl

@@ -1,7 +1,9 @@
 // The code of each kind of token.
 ghost use Rattle.std.specs.Prelude.{◌≡◌, refl};
 ghost use Rattle.codes.specs.declared.code.Code.{Code};
-ghost use Rattle.codes.specs.Code.{token_code, number_of, code_by, number_read};
+ghost use Rattle.codes.specs.declared.code.Code.TheVariants as kind;
+ghost use Rattle.word.specs.declared.Op.TheVariants.{And, Or, Not};
+ghost use Rattle.codes.specs.Code.{token_code, number_of, code_by};
 
 use question::token::{Op, Token};
 
@@ -67,7 +69,15 @@ impl AsCode for u8 {
 
     ghost written = { number_of };
 
-    ghost read_back = { number_read };
+    ghost read_back = { elim [
+      | kind.Word ↦ refl
+      | kind.Op And ↦ refl
+      | kind.Op Or ↦ refl
+      | kind.Op Not ↦ refl
+      | kind.Open ↦ refl
+      | kind.Close ↦ refl
+      | kind.Other ↦ refl
+    ] };
 
     fn to_code(self) -> Code {
         match self {

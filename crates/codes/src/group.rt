@@ -36,6 +36,7 @@ fn binds_first(op: Op) -> bool
 }
 
 // Whether the group that begins at place i is more than one word.
+#[tactic(auto, using(crate::proofs::PassLaws::wide_told, crate::proofs::PassLaws::wide_no))]
 fn is_wide<C: AsCode>(codes: &[C], i: usize) -> bool
     requires { i ≤ length codes.now }
     ensures { WideAt (map C.code codes.now) i result }
@@ -65,7 +66,7 @@ fn ends_group(inside: bool, code: Code) -> bool
     ensures { result ≡ ends_group inside code }
 {
     match code {
-        Code::Op(op) => inside & !binds_first(op),
+        Code::Op(Op::Or) => inside,
         Code::Close => inside,
         _ => false,
     }
