@@ -4,7 +4,7 @@ use native.Mathlib.Nat.{sub-zero}
 use native.Mathlib.Omega.{arith}
 use mathlib.Core.Path.{◌≡◌, refl, sym, ap, ◌∙◌, subst}
 use mathlib.Core.Bool.{Bool, or-false}
-use mathlib.Core.List.{List, [], map-id}
+use mathlib.Core.List.{List, [], map, map-id}
 use lib.ListN.{length, get_or, take}
 use lib.Seq.{length-take-le}
 use Rattle.list.specs.declared.answer.Tally.{Tally}
@@ -118,6 +118,10 @@ module _ {s : Source} {codes : List Code} {v : ℕ → ℕ → Bool} {n most : �
   prepared-length = ap length (test-cells s v t last prepared.same)
 
 -- ---- prepared for the driver
+
+-- the driver is given codes, each of which stands for itself
+pub themselves : {codes : List Code} {t : Tree} → TreeOf codes t → TreeOf (map (λ (code : Code). code) codes) t
+themselves {codes} reads = rw (map-id codes) reads
 
 pub having-ends : {main arrivals : List ℕ} {row : Row} {n : ℕ} → ReadBy main arrivals row → last_of main arrivals ≡ n → Ends (having main arrivals row) n
 having-ends {main} {arrivals} {row} {n} lent e = record {

@@ -3,7 +3,7 @@ use mathlib.Core.Path.{◌≡◌, refl, sym, ap, ◌∙◌, subst}
 use Prim.Native.Nat.{ℕ, ◌+◌, ◌-◌, ◌*◌, ◌/◌, ◌≤◌, ◌<◌}
 use native.Mathlib.Omega.{arith}
 use mathlib.Core.Bool.{Bool, false}
-use mathlib.Core.List.{List, [], append-nil, map, map-id}
+use mathlib.Core.List.{List, [], append-nil}
 use lib.ListN.{length, replicate, length-replicate}
 use borrow.Rule.Slice.PartMut.{mid_of, mid_len}
 use Rattle.list.specs.declared.answer.Tally.{Tally}
@@ -24,7 +24,7 @@ use Rattle.window.proofs.SweepLaws.{window-part, jump-part}
 use Rattle.senses.specs.declared.look.Look.{Look}
 use Rattle.evaluate.specs.declared.eval.Step.{Step}
 use Rattle.codes.specs.declared.code.Code.{Code}
-use Rattle.codes.specs.Code.{codes_of, word_codes}
+use Rattle.codes.specs.Code.{word_codes}
 use Rattle.codes.specs.Reads.{as_level}
 use Rattle.senses.specs.Senses.{Known}
 use Rattle.evaluate.specs.Evaluated.{Evaluated}
@@ -45,18 +45,14 @@ tree-words codes t o =
     sym (ap length (w.0 ∙ append-nil (tree_words t))) ∙ sym (codes-words o.toks) ∙ ap word_codes o.are
 
 module _ {codes : List Code} {t : Tree} (o : TreeOf codes t) where
-  -- each code stands for itself
-  tokens-are : codes_of o.toks ≡ map (λ (c : Code). c) codes
-  tokens-are = o.are ∙ sym (map-id codes)
-
-  pub tree-holds : {v : ℕ → ℕ → Bool} {ws : List ℕ} {x : ℕ} {r : Step} → Evaluated (as_level grouped_brackets) (map (λ (c : Code). c) codes) (record { code = 0; slot = 0 }) v x ws r →
+  pub tree-holds : {v : ℕ → ℕ → Bool} {ws : List ℕ} {x : ℕ} {r : Step} → Evaluated (as_level grouped_brackets) codes (record { code = 0; slot = 0 }) v x ws r →
       Holds (test_of v t) x ws
-  tree-holds e = (e.reads o.fuel o.toks t [] o.words tokens-are o.reads).4
+  tree-holds e = (e.reads o.fuel o.toks t [] o.words o.are o.reads).4
 
   pub tree-steady : (v : ℕ → ℕ → Bool) (slots x : ℕ) {senses : List Sense} {r : Look} → slots ≡ word_codes codes → Known v senses slots x →
-      Looks (as_level grouped_brackets 0) (map (λ (c : Code). c) codes) 0 0 senses r → Steady (test_of v t) x r.inside r.until
+      Looks (as_level grouped_brackets 0) codes 0 0 senses r → Steady (test_of v t) x r.inside r.until
   tree-steady v slots x all known e =
-      (e.reads o.fuel o.toks t [] o.words tokens-are o.reads).4 v slots x (omega (arith, tree-words codes t o)) known
+      (e.reads o.fuel o.toks t [] o.words o.are o.reads).4 v slots x (omega (arith, tree-words codes t o)) known
 
 -- no record behind the last satisfies a question
 pub test-above : {v : ℕ → ℕ → Bool} {n : ℕ} → Ends v n → (t : Tree) (x : ℕ) → n < x → test_of v t x ≡ false
