@@ -8,7 +8,7 @@ ghost use Rattle.codes.specs.Code.{token_code, number_of, code_by};
 use question::token::{Op, Token};
 
 // A token without its place and its bytes.
-#[derive(Clone, Copy)]
+#[derive(Clone, Copy, PartialEq, Eq)]
 pub enum Code {
     Word,
     Op(Op),
