@@ -1,15 +1,17 @@
 -- Laws of codes: reading one, which are operators, and how many are words.
-use mathlib.Core.Path.{◌≡◌, refl}
+use Prim.Native.Nat.{ℕ}
+use mathlib.Core.Path.{◌≡◌, refl, sym, ap, ap₂, ◌∙◌}
 use native.Mathlib.Omega.{arith}
-use mathlib.Core.List.{List, [], ◌∷◌}
+use mathlib.Core.List.{List, [], ◌∷◌, map}
 use lib.ListN.{length}
 use Rattle.std.specs.Prelude.{Option, Some, None}
 use Rattle.word.specs.declared.Op.{Op}
+use Rattle.word.specs.declared.Op.TheVariants.{And, Or, Not}
 use Rattle.question.specs.Token.{Tok, word_t, op_t, open_t, close_t, other_t}
 use Rattle.question.specs.Limits.{token_words}
 use Rattle.codes.specs.declared.code.Code.{Code}
 use Rattle.codes.specs.declared.code.Code.TheVariants as kind
-use Rattle.codes.specs.Code.{operator_of_code, codes_of, word_codes}
+use Rattle.codes.specs.Code.{operator_of_code, codes_of, written_of, word_codes, number_of, code_by}
 
 -- ---- operators
 
@@ -35,3 +37,27 @@ codes-words (op_t o p ∷ r) = codes-words r
 codes-words (open_t p ∷ r) = codes-words r
 codes-words (close_t p ∷ r) = codes-words r
 codes-words (other_t p ∷ r) = codes-words r
+
+-- ---- lists in which something stands for each code
+
+module _ {A : Type 0} (code : A → Code) (written : Code → A) (read_back : (c : Code) → code (written c) ≡ c) where
+  all-read : (cs : List Code) → map code (map written cs) ≡ cs
+  all-read [] = refl
+  all-read (c ∷ cs) = ap₂ (λ (d : Code) (ds : List Code). d ∷ ds) (read_back c) (all-read cs)
+
+  -- a list in which a question's codes are written is read as these
+  pub written-read : (toks : List Tok) (codes : List A) → written_of written toks ≡ codes → codes_of toks ≡ map code codes
+  written-read toks codes e = sym (all-read (codes_of toks)) ∙ ap (map code) e
+
+number-read : (c : Code) → code_by (number_of c) ≡ c
+number-read kind.Word = refl
+number-read (kind.Op And) = refl
+number-read (kind.Op Or) = refl
+number-read (kind.Op Not) = refl
+number-read kind.Open = refl
+number-read kind.Close = refl
+number-read kind.Other = refl
+
+-- and so is one of their numbers: who lends numbers has of them what is promised of codes
+pub numbers-read : (toks : List Tok) (codes : List ℕ) → written_of number_of toks ≡ codes → codes_of toks ≡ map code_by codes
+numbers-read = written-read code_by number_of number-read

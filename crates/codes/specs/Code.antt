@@ -1,6 +1,7 @@
 -- A question's tokens as codes, which the evaluation reads: it needs no word's bytes, only which word it is.
-use Rattle.std.specs.Prelude.{ℕ, ◌+◌, List, [], ◌∷◌, Option, Some, None, slice_get}
+use Rattle.std.specs.Prelude.{ℕ, zero, suc, ◌+◌, List, [], ◌∷◌, map, Option, Some, None, slice_get}
 use Rattle.word.specs.declared.Op.{Op}
+use Rattle.word.specs.declared.Op.TheVariants.{And, Or, Not}
 use Rattle.question.specs.declared.token.Token.{Token}
 use Rattle.question.specs.declared.token.Token.TheVariants as token
 use Rattle.question.specs.Token.{Tok, word_t, op_t, open_t, close_t, other_t}
@@ -27,6 +28,10 @@ unfoldable pub codes_of : List Tok → List Code
 codes_of [] = []
 codes_of (t ∷ ts) = code_of t ∷ codes_of ts
 
+-- the codes of some tokens, in a list where something is written for each
+abbrev pub written_of : {A : Type 0} → (Code → A) → List Tok → List A
+written_of written toks = map written (codes_of toks)
+
 -- the operator that a code is, if it is one
 abbrev pub operator_of_code : Option Code → Option Op
 operator_of_code None = None
@@ -48,3 +53,25 @@ word_codes (kind.Op o ∷ cs) = word_codes cs
 word_codes (kind.Open ∷ cs) = word_codes cs
 word_codes (kind.Close ∷ cs) = word_codes cs
 word_codes (kind.Other ∷ cs) = word_codes cs
+
+-- ---- codes as numbers
+
+-- the number of a code
+abbrev pub number_of : Code → ℕ
+number_of kind.Word = 0
+number_of (kind.Op And) = 1
+number_of (kind.Op Or) = 2
+number_of (kind.Op Not) = 3
+number_of kind.Open = 4
+number_of kind.Close = 5
+number_of kind.Other = 6
+
+-- and the code that a number stands for: each stands for one
+abbrev pub code_by : ℕ → Code
+code_by zero = kind.Word
+code_by (suc zero) = kind.Op And
+code_by (suc (suc zero)) = kind.Op Or
+code_by (suc (suc (suc zero))) = kind.Op Not
+code_by (suc (suc (suc (suc zero)))) = kind.Open
+code_by (suc (suc (suc (suc (suc zero))))) = kind.Close
+code_by (suc (suc (suc (suc (suc (suc n)))))) = kind.Other

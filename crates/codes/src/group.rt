@@ -1,9 +1,9 @@
 // Rule 2 (Reference 6.3): the groups of a question's codes put in brackets, so that from the left they mean what the rule makes of the question.
-ghost use Rattle.std.specs.Prelude.{◌≡◌, ◌+◌, ◌*◌, ◌≤◌, ◌<◌, length};
+ghost use Rattle.std.specs.Prelude.{◌≡◌, ◌+◌, ◌*◌, ◌≤◌, ◌<◌, map, length};
 ghost use Rattle.codes.specs.Group.{binds_first, levels_around, ends_group};
 ghost use Rattle.codes.specs.Grouping.{WideAt, PutsCode, GroupsCode, GroupsCodes};
 
-use crate::code::Code;
+use crate::code::{AsCode, Code};
 use crate::read::{operator_at, word_at};
 use limits::{BRACKETS_MAX, QUESTION_MAX};
 use question::token::Op;
@@ -36,9 +36,10 @@ fn binds_first(op: Op) -> bool
 }
 
 // Whether the group that begins at place i is more than one word.
-fn is_wide(codes: &[Code], i: usize) -> bool
+#[tactic(auto, using(crate::proofs::PassLaws::wide_told, crate::proofs::PassLaws::wide_no))]
+fn is_wide<C: AsCode>(codes: &[C], i: usize) -> bool
     requires { i ≤ length codes.now }
-    ensures { WideAt codes.now i result }
+    ensures { WideAt (map C.code codes.now) i result }
 {
     if !word_at(codes, i) {
         return true;
@@ -65,14 +66,14 @@ fn ends_group(inside: bool, code: Code) -> bool
     ensures { result ≡ ends_group inside code }
 {
     match code {
-        Code::Op(op) => inside & !binds_first(op),
+        Code::Op(Op::Or) => inside,
         Code::Close => inside,
         _ => false,
     }
 }
 
 // Writes a code behind the first n, where it is wanted.
-fn put_code(wanted: bool, code: Code, n: usize, out: &mut [Code]) -> usize
+fn put_code<C: AsCode>(wanted: bool, code: C, n: usize, out: &mut [C]) -> usize
     requires { n < length out.old }
     ensures { PutsCode wanted code n out.old out.new result }
 {
@@ -84,14 +85,16 @@ fn put_code(wanted: bool, code: Code, n: usize, out: &mut [Code]) -> usize
 }
 
 // One code more.
-fn group_code(codes: &[Code], i: usize, at: Grouping, out: &mut [Code]) -> Grouping
+fn group_code<C: AsCode>(codes: &[C], i: usize, at: Grouping, out: &mut [C]) -> Grouping
     requires within { i < length codes.now }
     requires room { at.count + 3 ≤ length out.old }
-    ensures { GroupsCode codes.now i at out.old out.new result }
+    ensures { GroupsCode C.written codes.now i at out.old out.new result }
 {
-    let code = codes[i];
-    let begun = put_code(ends_group(at.inside, code), Code::Close, at.count, out);
-    let count = put_code(true, code, begun, out);
+    let here = codes[i];
+    let code = here.to_code();
+    let ended = ends_group(at.inside, code);
+    let begun = put_code(ended, C::of_code(Code::Close), at.count, out);
+    let count = put_code(true, here, begun, out);
     match code {
         Code::Op(op) => {
             if binds_first(op) {
@@ -101,7 +104,7 @@ fn group_code(codes: &[Code], i: usize, at: Grouping, out: &mut [Code]) -> Group
             Grouping {
                 inside: wide,
                 outer: at.outer,
-                count: put_code(wide, Code::Open, count, out),
+                count: put_code(wide, C::of_code(Code::Open), count, out),
             }
         }
         Code::Open => Grouping {
@@ -119,9 +122,9 @@ fn group_code(codes: &[Code], i: usize, at: Grouping, out: &mut [Code]) -> Group
 }
 
 // Writes the codes with their groups in brackets, and answers how many there are.
-pub fn group_codes(codes: &[Code], out: &mut [Code]) -> usize
+pub fn group_codes<C: AsCode>(codes: &[C], out: &mut [C]) -> usize
     requires { 3 * length codes.now + 1 ≤ length out.old }
-    ensures { GroupsCodes codes.now out.old out.new result }
+    ensures { GroupsCodes C.written codes.now out.old out.new result }
 {
     let mut at = Grouping {
         inside: false,
@@ -131,5 +134,5 @@ pub fn group_codes(codes: &[Code], out: &mut [Code]) -> usize
     for i in 0..codes.len() {
         at = group_code(codes, i, at, out);
     }
-    put_code(at.inside, Code::Close, at.count, out)
+    put_code(at.inside, C::of_code(Code::Close), at.count, out)
 }

@@ -21,7 +21,7 @@ pub record OutFor (senses : List Sense) (k base n : ℕ) : Type 0 where
   pub until : base + 64 * n ≤ until_of senses k
 
 -- what an evaluation is lent: what slots are read by, their senses at record base, codes that reach to where it begins, and a blank window from base on
-pub record Ready (codes : List Code) (at : Step) (main arrivals : List ℕ) (base : ℕ) (row : Row) (ws : List ℕ) : Type 0 where
+pub record Ready {A : Type 0} (codes : List A) (at : Step) (main arrivals : List ℕ) (base : ℕ) (row : Row) (ws : List ℕ) : Type 0 where
   pub lent : ReadBy main arrivals row
   pub sensed : Sensed (having main arrivals row) row.senses base
   pub inside : at.code ≤ length codes

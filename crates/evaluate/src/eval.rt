@@ -1,6 +1,6 @@
 // A question answered for a window, by its codes: a level evaluates its first operand into the window, and each further one into a window of
 // its own, which is then combined with it. The bracket depth left falls at each call.
-ghost use Rattle.std.specs.Prelude.{◌≡◌, true, ◌+◌, ◌≤◌, ◌<◌, length, Some, slice_get};
+ghost use Rattle.std.specs.Prelude.{◌≡◌, true, ◌+◌, ◌≤◌, ◌<◌, map, length, Some, slice_get};
 ghost use Rattle.limits.specs.Limits.{question_words_max, record_max};
 ghost use Rattle.window.specs.Tuning.{window_most};
 ghost use Rattle.codes.specs.declared.code.Code.TheVariants as kind;
@@ -11,7 +11,7 @@ ghost use Rattle.evaluate.specs.Evaluated.{OutFor, Ready, Evaluated};
 
 use crate::combine::{combine_blank, combine_into};
 use crate::slot::{fill_slot, is_out};
-use codes::code::Code;
+use codes::code::AsCode;
 use codes::read::{closing_at, opening_at, operator_at, word_at};
 use limits::QUESTION_WORDS_MAX;
 use slots::row::{Indexes, Row};
@@ -26,8 +26,8 @@ pub struct Step {
 
 // Evaluates the level that begins at a step, where d brackets may still open, for the records from base on.
 #[cycle(eval_level_eval_operand_eval_part)]
-pub fn eval_level(
-    codes: &[Code],
+pub fn eval_level<C: AsCode>(
+    codes: &[C],
     at: Step,
     d: usize,
     over: Indexes<'_>,
@@ -38,7 +38,7 @@ pub fn eval_level(
     requires { Ready codes.now at over.main.now over.arrivals.now base row.old ws.old }
     ensures moved { HintsMoved row.old row.new }
     ensures long { length ws.new ≡ length ws.old }
-    ensures reads { Evaluated (as_level d) codes.now at (having over.entry.main.now over.entry.arrivals.now row.old) base ws.new result }
+    ensures reads { Evaluated (as_level d) (map C.code codes.now) at (having over.entry.main.now over.entry.arrivals.now row.old) base ws.new result }
 {
     let mut next = eval_operand(codes, at, d, over, base, row, ws);
     let n = ws.len();
@@ -64,10 +64,10 @@ pub fn eval_level(
 }
 
 // Whether code i is that of a word, which has slot k, and the slot is out for a window of n numbers from base on.
-fn word_out(codes: &[Code], i: usize, k: usize, row: &Row, base: u32, n: usize) -> bool
+fn word_out<C: AsCode>(codes: &[C], i: usize, k: usize, row: &Row, base: u32, n: usize) -> bool
     requires size { n ≤ window_most }
     requires near { base ≤ record_max + 1 }
-    ensures word { result ≡ true → slice_get codes.now i ≡ Some kind.Word }
+    ensures word { result ≡ true → slice_get (map C.code codes.now) i ≡ Some kind.Word }
     ensures slot { result ≡ true → k < question_words_max }
     ensures out { result ≡ true → OutFor row.now.senses k base n }
 {
@@ -82,8 +82,8 @@ fn word_out(codes: &[Code], i: usize, k: usize, row: &Row, base: u32, n: usize) 
 
 // Evaluates the operand that begins at a step: a word, or a level in brackets.
 #[cycle(eval_level_eval_operand_eval_part)]
-fn eval_operand(
-    codes: &[Code],
+fn eval_operand<C: AsCode>(
+    codes: &[C],
     at: Step,
     d: usize,
     over: Indexes<'_>,
@@ -94,7 +94,7 @@ fn eval_operand(
     requires { Ready codes.now at over.main.now over.arrivals.now base row.old ws.old }
     ensures moved { HintsMoved row.old row.new }
     ensures long { length ws.new ≡ length ws.old }
-    ensures reads { Evaluated (as_operand d) codes.now at (having over.entry.main.now over.entry.arrivals.now row.old) base ws.new result }
+    ensures reads { Evaluated (as_operand d) (map C.code codes.now) at (having over.entry.main.now over.entry.arrivals.now row.old) base ws.new result }
 {
     if !word_at(codes, at.code) {
         return eval_part(codes, at, d, over, base, row, ws);
@@ -111,8 +111,8 @@ fn eval_operand(
 
 // Evaluates a level in brackets. Where none can stand there, the answer says nothing.
 #[cycle(eval_level_eval_operand_eval_part)]
-fn eval_part(
-    codes: &[Code],
+fn eval_part<C: AsCode>(
+    codes: &[C],
     at: Step,
     d: usize,
     over: Indexes<'_>,
@@ -121,10 +121,10 @@ fn eval_part(
     ws: &mut [u64],
 ) -> Step
     requires ready { Ready codes.now at over.main.now over.arrivals.now base row.old ws.old }
-    requires wordless { slice_get codes.now at.code ≡ Some kind.Word → ⊥ }
+    requires wordless { slice_get (map C.code codes.now) at.code ≡ Some kind.Word → ⊥ }
     ensures moved { HintsMoved row.old row.new }
     ensures long { length ws.new ≡ length ws.old }
-    ensures reads { Evaluated (as_operand d) codes.now at (having over.entry.main.now over.entry.arrivals.now row.old) base ws.new result }
+    ensures reads { Evaluated (as_operand d) (map C.code codes.now) at (having over.entry.main.now over.entry.arrivals.now row.old) base ws.new result }
 {
     if !opening_at(codes, at.code) {
         return at;

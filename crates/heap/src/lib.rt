@@ -1,12 +1,12 @@
-// A heap of at most N numbers, the first `size` cells of an array: the least is cell 0, and below cell i stand the cells 2i + 1 and 2i + 2. It is no
-// BinaryHeap, since nothing here allocates.
+// A heap of numbers, the first `size` of some cells: the least is cell 0, and below cell i stand the cells 2i + 1 and 2i + 2. The functions are over
+// lent cells, and `Heap` over an array of its own. It is no BinaryHeap, since nothing here allocates.
 #![tactic(auto)]
 
 ghost use Rattle.std.specs.Prelude.{◌≡◌, ◌+◌, ◌-◌, ◌*◌, ◌≤◌, ◌<◌, length, get_or, take};
 ghost use Rattle.heap.specs.Heap.{IsHeap, Pushed, Replaced, Dropped, Lesser};
 
 /// A heap of at most `N` numbers.
-#[derive(Drop)]
+#[derive(Clone, Copy)]
 pub struct Heap<const N: usize> {
     pub cells: [u32; N],
     pub size: usize,
@@ -44,7 +44,7 @@ impl<const N: usize> Heap<N> {
         ensures more { self.new.size ≡ self.old.size + 1 }
         ensures pushes { Pushed self.old.size x self.old.cells self.new.cells }
     {
-        put_in(&mut self.cells, self.size, x);
+        push(&mut self.cells, self.size, x);
         self.size += 1;
     }
 
@@ -54,7 +54,7 @@ impl<const N: usize> Heap<N> {
         ensures keeps { self.new.size ≡ self.old.size }
         ensures replaces { Replaced self.old.size x self.old.cells self.new.cells }
     {
-        put_for_least(&mut self.cells, self.size, x);
+        replace_least(&mut self.cells, self.size, x);
     }
 
     // Takes the least away: the last number comes in its place.
@@ -63,17 +63,13 @@ impl<const N: usize> Heap<N> {
         ensures fewer { self.new.size ≡ self.old.size - 1 }
         ensures drops { Dropped self.old.size self.old.cells self.new.cells }
     {
-        let left = self.size - 1;
-        if 0 < left {
-            let last = self.cells[left];
-            put_for_least(&mut self.cells, left, last);
-        }
-        self.size = left;
+        drop_least(&mut self.cells, self.size);
+        self.size -= 1;
     }
 }
 
 // Puts x in, from the end: what is greater on the way to the front moves down a cell.
-fn put_in(cells: &mut [u32], size: usize, x: u32)
+pub fn push(cells: &mut [u32], size: usize, x: u32)
     requires room { size < length cells.old }
     requires ordered { IsHeap (take size cells.old) }
     ensures { Pushed size x cells.old cells.new }
@@ -110,7 +106,7 @@ fn lesser_below(cells: &[u32], size: usize, i: usize) -> usize
 }
 
 // Puts x in the place of the least, from the front: what is less on the way to the end moves up a cell.
-fn put_for_least(cells: &mut [u32], size: usize, x: u32)
+pub fn replace_least(cells: &mut [u32], size: usize, x: u32)
     requires some { 0 < size }
     requires within { size ≤ length cells.old }
     requires ordered { IsHeap (take size cells.old) }
@@ -129,4 +125,18 @@ fn put_for_least(cells: &mut [u32], size: usize, x: u32)
         i = below;
     }
     cells[i] = x;
+}
+
+// Takes the least away: the last number comes in its place.
+pub fn drop_least(cells: &mut [u32], size: usize)
+    requires some { 0 < size }
+    requires within { size ≤ length cells.old }
+    requires ordered { IsHeap (take size cells.old) }
+    ensures { Dropped size cells.old cells.new }
+{
+    let left = size - 1;
+    if 0 < left {
+        let last = cells[left];
+        replace_least(cells, left, last);
+    }
 }

@@ -47,7 +47,7 @@ fn sense_of(
     k: usize,
     x: u32,
     b: u32,
-    hint: &mut Place,
+    hints: &mut [Place; JOIN_MAX],
 ) -> Sense
     requires within { StandsIn index.now entries.now j x b }
     requires order { x ≤ b }
@@ -60,7 +60,7 @@ fn sense_of(
             until: b + 1,
         };
     }
-    sense_in(index, entries[k] as usize, x, hint)
+    sense_in(index, entries[k] as usize, x, k, hints)
 }
 
 // Probes [x, b], which stands in list j, in every list: whether x is in all of them, and up to where that stays so, within the probe.
@@ -80,7 +80,7 @@ fn probe(
 {
     let mut until = b + 1;
     for k in 0..entries.len() {
-        let sense = sense_of(index, entries, j, k, x, b, &mut hints[k]);
+        let sense = sense_of(index, entries, j, k, x, b, hints);
         if !sense.inside {
             return Sense {
                 inside: false,

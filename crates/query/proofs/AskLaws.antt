@@ -4,7 +4,7 @@ use native.Mathlib.Nat.{sub-zero}
 use native.Mathlib.Omega.{arith}
 use mathlib.Core.Path.{◌≡◌, refl, sym, ap, ◌∙◌, subst}
 use mathlib.Core.Bool.{Bool, or-false}
-use mathlib.Core.List.{List, []}
+use mathlib.Core.List.{List, [], map, map-id}
 use lib.ListN.{length, get_or, take}
 use lib.Seq.{length-take-le}
 use Rattle.list.specs.declared.answer.Tally.{Tally}
@@ -44,11 +44,11 @@ use Rattle.index.proofs.SoundLaws.{sound-trailer}
 -- ---- an accepted question made ready
 
 module _ {halves : ℕ} {main arrivals s : List ℕ} {codes codes' : List Code} {row row' : Row} {n slots : ℕ}
-    (c : WritesCodes s codes codes' n × FillsSlots halves main arrivals s row row' slots) (over : Halves halves main arrivals)
+    (c : WritesCodes (λ (code : Code). code) s codes codes' n × FillsSlots halves main arrivals s row row' slots) (over : Halves halves main arrivals)
     (rule : ℕ) (t : Tree) (k : ℕ) (is : asked rule s ≡ parses t k) where
   -- they are lent from the first on
   compiled-codes : take (n - 0) codes' ≡ codes_of (tokens s)
-  compiled-codes = rw (sub-zero n) c.0.coded
+  compiled-codes = rw (sub-zero n) (c.0.coded ∙ map-id (codes_of (tokens s)))
 
   pub compiled-short : length codes ≡ 256 → length (take (n - 0) codes') ≤ 256
   compiled-short long = let w = c.0.within in let l = c.0.long in omega (arith, sub-zero n, length-take-le (n - 0) codes' (omega arith))
@@ -119,6 +119,10 @@ module _ {s : Source} {codes : List Code} {v : ℕ → ℕ → Bool} {n most : �
 
 -- ---- prepared for the driver
 
+-- the driver is given codes, each of which stands for itself
+pub themselves : {codes : List Code} {t : Tree} → TreeOf codes t → TreeOf (map (λ (code : Code). code) codes) t
+themselves {codes} reads = rw (map-id codes) reads
+
 pub having-ends : {main arrivals : List ℕ} {row : Row} {n : ℕ} → ReadBy main arrivals row → last_of main arrivals ≡ n → Ends (having main arrivals row) n
 having-ends {main} {arrivals} {row} {n} lent e = record {
   near = omega (arith, (sound-trailer main lent.main-sound).highest-bound, (sound-trailer arrivals lent.arrivals-sound).highest-bound);
@@ -157,12 +161,13 @@ module _ {s : Source} {main arrivals : List ℕ} {row : Row} {slots : ℕ} {t : 
 
 -- by the second rule, with their groups in brackets
 module _ {s : Source} {codes lent grouped' : List Code} {v : ℕ → ℕ → Bool} {slots n : ℕ} {t : Tree} (m : MadeReady s and_first codes v slots t)
-    (g : GroupsCodes codes lent grouped' n) where
+    (g : GroupsCodes (λ (code : Code). code) codes lent grouped' n) where
   pub regrouped : GroupedAs m.reads.toks t m.reads.words
   regrouped = grouped-reads m.reads.fuel m.reads.toks t m.reads.words m.reads.reads
 
   grouped-codes : take (n - 0) grouped' ≡ codes_of (grouped m.reads.toks)
-  grouped-codes = rw (sub-zero n) (g.coded m.reads.toks m.reads.are)
+  grouped-codes =
+      rw (sub-zero n) (g.coded m.reads.toks (map-id (codes_of m.reads.toks) ∙ m.reads.are) ∙ map-id (codes_of (grouped m.reads.toks)))
 
   pub grouped-asked : {main arrivals : List ℕ} {row : Row} → AskedBy codes main arrivals row slots → AskedBy (take (n - 0) grouped') main arrivals row slots
   grouped-asked a = record {
@@ -179,7 +184,7 @@ module _ {s : Source} {codes lent grouped' : List Code} {v : ℕ → ℕ → Boo
   grouped-listing l = rw (satisfying-same s regrouped.tree t (λ x h u. grouped-same regrouped s.has x)) at l
 
 pub grouped-prepared : {s : Source} {codes : List Code} {main arrivals : List ℕ} {row : Row} {lent grouped' : List Code} {slots n : ℕ} {t : Tree} → ReadBy main arrivals row →
-    s.highest ≡ last_of main arrivals → (m : MadeReady s and_first codes (having main arrivals row) slots t) (g : GroupsCodes codes lent grouped' n) →
+    s.highest ≡ last_of main arrivals → (m : MadeReady s and_first codes (having main arrivals row) slots t) (g : GroupsCodes (λ (code : Code). code) codes lent grouped' n) →
     Prepared s (take (n - 0) grouped') (having main arrivals row) (slots_intervals main arrivals row.ranges 0 slots) (regrouped m g).tree
 grouped-prepared read last m g =
     let by = regrouped m g in

@@ -1,5 +1,5 @@
 // The driver: from record 1 to the highest it jumps where the answer stays as it is for long, and else works on a window.
-ghost use Rattle.std.specs.Prelude.{◌≡◌, ◌≤◌, length};
+ghost use Rattle.std.specs.Prelude.{◌≡◌, ◌≤◌, map, length};
 ghost use Rattle.limits.specs.Limits.{record_max};
 ghost use Rattle.slots.specs.Row.{SlotsStay, HintsMoved};
 ghost use Rattle.slots.specs.Having.{having, ReadBy};
@@ -19,7 +19,7 @@ ghost use Rattle.query.specs.Drive.{
   Tallies,
 };
 
-use codes::code::Code;
+use codes::code::AsCode;
 use codes::group::GROUPED_BRACKETS;
 use evaluate::eval::{Step, eval_level};
 use list::answer::Tally;
@@ -63,8 +63,8 @@ fn doubled(width: usize) -> usize
 }
 
 // Passes the records of a window: the question is evaluated for them, and the window's cells are put.
-fn take_window(
-    codes: &[Code],
+fn take_window<C: AsCode>(
+    codes: &[C],
     over: Indexes<'_>,
     row: &mut Row,
     at: At,
@@ -75,10 +75,10 @@ fn take_window(
     requires lends { ReadBy over.main.now over.arrivals.now row.old }
     requires sensed { Sensed (having over.main.now over.arrivals.now row.old) row.old.senses at.x }
     requires within { WindowAt ws.old at }
-    requires room { Roomy codes.now (having over.main.now over.arrivals.now row.old) at.x writing at.cells out.old }
+    requires room { Roomy (map C.code codes.now) (having over.main.now over.arrivals.now row.old) at.x writing at.cells out.old }
     ensures moved { HintsMoved row.old row.new }
     ensures long { length ws.new ≡ length ws.old }
-    ensures steps { TakesWindow codes.now (having over.entry.main.now over.entry.arrivals.now row.old) writing at out.old out.new result }
+    ensures steps { TakesWindow (map C.code codes.now) (having over.entry.main.now over.entry.arrivals.now row.old) writing at out.old out.new result }
 {
     let x = at.x;
     clear(ws);
@@ -92,21 +92,21 @@ fn take_window(
 }
 
 // What the question says of record x, by the senses of its words, which have the first slots.
-fn look_at(codes: &[Code], over: Indexes<'_>, row: &mut Row, slots: usize, x: u32) -> Look
+fn look_at<C: AsCode>(codes: &[C], over: Indexes<'_>, row: &mut Row, slots: usize, x: u32) -> Look
     requires lends { ReadBy over.main.now over.arrivals.now row.old }
     requires near { x ≤ record_max }
-    requires slotted { Slotted codes.now (having over.main.now over.arrivals.now row.old) row.old.senses slots x }
+    requires slotted { Slotted (map C.code codes.now) (having over.main.now over.arrivals.now row.old) row.old.senses slots x }
     ensures slots { SlotsStay row.old row.new }
     ensures sensed { Sensed (having over.entry.main.now over.entry.arrivals.now row.old) row.new.senses x }
-    ensures steady { LooksAt codes.now (having over.entry.main.now over.entry.arrivals.now row.old) x result }
+    ensures steady { LooksAt (map C.code codes.now) (having over.entry.main.now over.entry.arrivals.now row.old) x result }
 {
     renew_senses(over, row, slots, x);
     look_level(codes, 0, 0, GROUPED_BRACKETS, row)
 }
 
 // One step from where the driver stands.
-fn step(
-    codes: &[Code],
+fn step<C: AsCode>(
+    codes: &[C],
     over: Indexes<'_>,
     row: &mut Row,
     pass: Pass,
@@ -116,15 +116,15 @@ fn step(
 ) -> At
     requires lends { ReadBy over.main.now over.arrivals.now row.old }
     requires window { length ws.old ≡ window_most }
-    requires slotted { Slotted codes.now (having over.main.now over.arrivals.now row.old) row.old.senses pass.slots at.x }
+    requires slotted { Slotted (map C.code codes.now) (having over.main.now over.arrivals.now row.old) row.old.senses pass.slots at.x }
     requires stands { Stands pass.n at }
-    requires room { Roomy codes.now (having over.main.now over.arrivals.now row.old) at.x pass.writing at.cells out.old }
+    requires room { Roomy (map C.code codes.now) (having over.main.now over.arrivals.now row.old) at.x pass.writing at.cells out.old }
     ensures slots { SlotsStay row.old row.new }
     ensures long { length ws.new ≡ length ws.old }
     ensures sensed { Sensed (having over.entry.main.now over.entry.arrivals.now row.old) row.new.senses result.x }
     ensures some { 1 ≤ result.width }
     ensures most { result.width ≤ window_most }
-    ensures moves { Moves codes.now (having over.entry.main.now over.entry.arrivals.now row.old) pass at out.old out.new result }
+    ensures moves { Moves (map C.code codes.now) (having over.entry.main.now over.entry.arrivals.now row.old) pass at out.old out.new result }
 {
     let Pass { n, slots, writing } = pass;
     let x = at.x;
@@ -151,8 +151,8 @@ fn step(
 }
 
 // Passes the records from 1 to n, and closes the stretch that is still open there.
-fn sweep(
-    codes: &[Code],
+fn sweep<C: AsCode>(
+    codes: &[C],
     over: Indexes<'_>,
     row: &mut Row,
     pass: Pass,
@@ -162,10 +162,10 @@ fn sweep(
     requires lends { ReadBy over.main.now over.arrivals.now row.old }
     requires window { length ws.old ≡ window_most }
     requires ends { Ends (having over.main.now over.arrivals.now row.old) pass.n }
-    requires slotted { Slotted codes.now (having over.main.now over.arrivals.now row.old) row.old.senses pass.slots 1 }
-    requires room { Fits codes.now (having over.main.now over.arrivals.now row.old) pass out.old }
+    requires slotted { Slotted (map C.code codes.now) (having over.main.now over.arrivals.now row.old) row.old.senses pass.slots 1 }
+    requires room { Fits (map C.code codes.now) (having over.main.now over.arrivals.now row.old) pass out.old }
     ensures slots { SlotsStay row.old row.new }
-    ensures tallies { Tallies codes.now (having over.entry.main.now over.entry.arrivals.now row.old) pass out.old out.new result }
+    ensures tallies { Tallies (map C.code codes.now) (having over.entry.main.now over.entry.arrivals.now row.old) pass out.old out.new result }
 {
     let mut at = At {
         x: 1,
@@ -185,18 +185,18 @@ fn sweep(
 }
 
 // Counts the intervals and the records of a question's answer, and writes the intervals where the pass is to write.
-pub fn sweep_question(
-    codes: &[Code],
+pub fn sweep_question<C: AsCode>(
+    codes: &[C],
     over: Indexes<'_>,
     row: &mut Row,
     pass: Pass,
     out: &mut [u32],
 ) -> Tally
-    requires asked { AskedBy codes.now over.main.now over.arrivals.now row.old pass.slots }
+    requires asked { AskedBy (map C.code codes.now) over.main.now over.arrivals.now row.old pass.slots }
     requires ends { Ends (having over.main.now over.arrivals.now row.old) pass.n }
-    requires room { Fits codes.now (having over.main.now over.arrivals.now row.old) pass out.old }
+    requires room { Fits (map C.code codes.now) (having over.main.now over.arrivals.now row.old) pass out.old }
     ensures slots { SlotsStay row.old row.new }
-    ensures tallies { Tallies codes.now (having over.entry.main.now over.entry.arrivals.now row.old) pass out.old out.new result }
+    ensures tallies { Tallies (map C.code codes.now) (having over.entry.main.now over.entry.arrivals.now row.old) pass out.old out.new result }
 {
     row.forget_senses();
     let mut ws: [u64; MOST] = [0; MOST];

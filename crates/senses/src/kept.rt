@@ -25,9 +25,9 @@ fn sense_entries(index: &[u8], j: usize, x: u32, row: &mut Row) -> Sense
     let mut out = END;
     for m in 0..count {
         let regions = row.ranges[j].regions_in(index, m);
-        let hint = &mut row.hints[hint_number(j, m)];
+        let hint = hint_number(j, m);
         // By its fields: handed on whole, a sense is packed into one number and taken apart again, at each look.
-        let Sense { inside, until } = sense_by(index, regions, x, hint);
+        let Sense { inside, until } = sense_by(index, regions, x, hint, &mut row.hints);
         if inside {
             return Sense {
                 inside: true,

@@ -1,11 +1,11 @@
 // Whether a record satisfies a question, by its codes and the senses of its slots there, and until which number that stays so.
-ghost use Rattle.std.specs.Prelude.{◌≡◌, ◌≤◌, Some, length, slice_get};
+ghost use Rattle.std.specs.Prelude.{◌≡◌, ◌≤◌, Some, map, length, slice_get};
 ghost use Rattle.codes.specs.declared.code.Code.TheVariants as kind;
 ghost use Rattle.codes.specs.Reads.{as_level, as_operand};
 ghost use Rattle.senses.specs.Look.{Looks};
 
 use crate::pair::pair_senses;
-use codes::code::Code;
+use codes::code::AsCode;
 use codes::read::{closing_at, opening_at, operator_at, word_at};
 use limits::QUESTION_WORDS_MAX;
 use list::sense::Sense;
@@ -34,9 +34,9 @@ fn unread(code: usize) -> Look
 
 // The operands of a level, from the left.
 #[cycle(look_level_look_operand_look_part)]
-pub fn look_level(codes: &[Code], i: usize, k: usize, d: usize, row: &Row) -> Look
+pub fn look_level<C: AsCode>(codes: &[C], i: usize, k: usize, d: usize, row: &Row) -> Look
     requires within { i ≤ length codes.now }
-    ensures { Looks (as_level d k) codes.now i k row.now.senses result }
+    ensures { Looks (as_level d k) (map C.code codes.now) i k row.now.senses result }
 {
     let first = look_operand(codes, i, k, d, row);
     let mut at = first.code;
@@ -69,9 +69,9 @@ pub fn look_level(codes: &[Code], i: usize, k: usize, d: usize, row: &Row) -> Lo
 
 // A word, or a level in brackets, of which d may still open. It is small, so that the words of a level are looked at without a call.
 #[cycle(look_level_look_operand_look_part)]
-fn look_operand(codes: &[Code], i: usize, k: usize, d: usize, row: &Row) -> Look
+fn look_operand<C: AsCode>(codes: &[C], i: usize, k: usize, d: usize, row: &Row) -> Look
     requires within { i ≤ length codes.now }
-    ensures { Looks (as_operand d k) codes.now i k row.now.senses result }
+    ensures { Looks (as_operand d k) (map C.code codes.now) i k row.now.senses result }
 {
     if !word_at(codes, i) {
         return look_part(codes, i, k, d, row);
@@ -90,10 +90,10 @@ fn look_operand(codes: &[Code], i: usize, k: usize, d: usize, row: &Row) -> Look
 
 // A level in brackets.
 #[cycle(look_level_look_operand_look_part)]
-fn look_part(codes: &[Code], i: usize, k: usize, d: usize, row: &Row) -> Look
+fn look_part<C: AsCode>(codes: &[C], i: usize, k: usize, d: usize, row: &Row) -> Look
     requires within { i ≤ length codes.now }
-    requires wordless { slice_get codes.now i ≡ Some kind.Word → ⊥ }
-    ensures { Looks (as_operand d k) codes.now i k row.now.senses result }
+    requires wordless { slice_get (map C.code codes.now) i ≡ Some kind.Word → ⊥ }
+    ensures { Looks (as_operand d k) (map C.code codes.now) i k row.now.senses result }
 {
     if !opening_at(codes, i) {
         return unread(i);

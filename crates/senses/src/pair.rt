@@ -1,4 +1,5 @@
 // Two senses under an operator: what they say together, and how long that stays so.
+ghost use Rattle.word.specs.declared.Op.{Op};
 ghost use Rattle.senses.specs.Look.{Opposite, Both, Paired};
 
 use list::sense::Sense;
@@ -35,7 +36,7 @@ fn both(a: Sense, b: Sense) -> Sense
     a
 }
 
-pub fn pair_senses(op: Op, a: Sense, b: Sense) -> Sense
+fn pair_by(op: Op, a: Sense, b: Sense) -> Sense
     ensures { Paired op a b result }
 {
     match op {
@@ -43,4 +44,11 @@ pub fn pair_senses(op: Op, a: Sense, b: Sense) -> Sense
         Op::Or => opposite(both(opposite(a), opposite(b))),
         Op::Not => both(a, opposite(b)),
     }
+}
+
+// By an operator, or by what stands for one, as a number does.
+pub fn pair_senses<O: Into<Op>>(op: O, a: Sense, b: Sense) -> Sense
+    ensures { (o : Op) × O.converts op o × Paired o a b result }
+{
+    pair_by(op.into(), a, b)
 }

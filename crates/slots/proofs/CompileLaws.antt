@@ -4,7 +4,7 @@ use native.Mathlib.Omega.{arith}
 use native.Mathlib.Numerals.{add-one}
 use native.Mathlib.Decide.{ℕ_discrete}
 use mathlib.Core.Path.{◌≡◌, refl, sym, ap, ◌∙◌, subst}
-use mathlib.Core.List.{List, [], ◌∷◌, ◌++◌, append_assoc, append-nil}
+use mathlib.Core.List.{List, [], ◌∷◌, ◌++◌, map, append_assoc, append-nil}
 use lib.ListN.{length, get_or, take, drop, set, length-set, length-drop}
 use lib.Seq.{take-suc-set}
 use Rattle.laws.proofs.Tests.{leb-cases}
@@ -22,7 +22,7 @@ use Rattle.question.specs.Next.{headed, TokenWithin, NextToken, end_of}
 use Rattle.question.specs.Limits.{token_words}
 use Rattle.codes.specs.declared.code.Code.{Code}
 use Rattle.codes.specs.declared.code.Code.TheVariants as kind
-use Rattle.codes.specs.Code.{codes_of, token_code}
+use Rattle.codes.specs.Code.{codes_of, written_of, token_code}
 use Rattle.slots.specs.declared.row.Entries.{Entries}
 use Rattle.slots.specs.declared.row.Row.{Row}
 use Rattle.slots.specs.Row.{no_entries, entries_at}
@@ -89,10 +89,10 @@ module _ {s : List ℕ} {at : ℕ} where
 
 -- ---- codes and slots, one after the other
 
-write-next : (codes left more all : List Code) (n : ℕ) (v : Code) → n < length codes → left ≡ v ∷ more → take n codes ++ left ≡ all →
+write-next : {A : Type 0} (codes left more all : List A) (n : ℕ) (v : A) → n < length codes → left ≡ v ∷ more → take n codes ++ left ≡ all →
     take (n + 1) (set codes n v) ++ more ≡ all
-write-next codes left more all n v h e w =
-    rw (add-one n, take-suc-set codes n v h) (append_assoc (take n codes) (v ∷ []) more ∙ ap (λ (r : List Code). take n codes ++ r) (sym e) ∙ w)
+write-next {A} codes left more all n v h e w =
+    rw (add-one n, take-suc-set codes n v h) (append_assoc (take n codes) (v ∷ []) more ∙ ap (λ (r : List A). take n codes ++ r) (sym e) ∙ w)
 
 drop_head : (l : List (List ℕ)) (k : ℕ) (w : List ℕ) (r : List (List ℕ)) → drop k l ≡ w ∷ r → (k < length l) × (get_or l k [] ≡ w) × (drop (k + 1) l ≡ r)
 drop_head [] zero w r e = absurd (let z : ◌≡◌ {A = ℕ} 0 1 = cc in omega arith)
@@ -145,19 +145,19 @@ module _ (halves n : ℕ) (both : halves ≤ 2) (slots slots' : List Entries) (o
 -- ---- the pass
 
 -- before the token at `at`
-pub record Compiling (halves : ℕ) (main arrivals s : List ℕ) (codes₀ : List Code) (row₀ : Row) (codes : List Code) (row : Row) (count slots at : ℕ) : Type 0 where
+pub record Compiling {A : Type 0} (written : Code → A) (halves : ℕ) (main arrivals s : List ℕ) (codes₀ : List A) (row₀ : Row) (codes : List A) (row : Row) (count slots at : ℕ) : Type 0 where
   pub near : count ≤ at
   pub inside : at ≤ length s
   pub codes-long : length codes ≡ length codes₀
-  pub coded : take count codes ++ codes_of (tokens_at s at) ≡ codes_of (tokens s)
+  pub coded : take count codes ++ written_of written (tokens_at s at) ≡ written_of written (tokens s)
   pub some : slots ≤ length (token_words (tokens s))
   pub left : drop slots (token_words (tokens s)) ≡ token_words (tokens_at s at)
   pub filled : Filled halves main arrivals (token_words (tokens s)) row.ranges slots
   pub others : OthersStay halves row₀.ranges row.ranges slots
 
-pub compile-start : (halves : ℕ) (main arrivals s : List ℕ) (codes : List Code) (row : Row) → Compiling halves main arrivals s codes row codes row 0 0 0
+pub compile-start : {A : Type 0} (written : Code → A) (halves : ℕ) (main arrivals s : List ℕ) (codes : List A) (row : Row) → Compiling written halves main arrivals s codes row codes row 0 0 0
 unfolding tokens
-compile-start halves main arrivals s codes row = record {
+compile-start written halves main arrivals s codes row = record {
   near = omega arith;
   inside = omega arith;
   codes-long = refl;
@@ -168,18 +168,20 @@ compile-start halves main arrivals s codes row = record {
   others = λ j free. refl;
 }
 
-module _ {halves : ℕ} {main arrivals s : List ℕ} {codes₀ : List Code} {row₀ : Row} {codes : List Code} {row : Row} {count slots at : ℕ}
-    (c : Compiling halves main arrivals s codes₀ row₀ codes row count slots at) where
-  module _ {n : ℕ} {v : Code} (room : length s ≤ length codes₀) (next : Coded s at n v) where
-    code-written : take (count + 1) (set codes count v) ++ codes_of (tokens_at s n) ≡ codes_of (tokens s)
-    code-written = write-next codes (codes_of (tokens_at s at)) (codes_of (tokens_at s n)) (codes_of (tokens s)) count v (omega arith) next.codes c.coded
+module _ {A : Type 0} {written : Code → A} {halves : ℕ} {main arrivals s : List ℕ} {codes₀ : List A} {row₀ : Row} {codes : List A} {row : Row} {count slots at : ℕ}
+    (c : Compiling written halves main arrivals s codes₀ row₀ codes row count slots at) where
+  module _ {n : ℕ} {v : Code} {w : A} (room : length s ≤ length codes₀) (next : Coded s at n v) (is : w ≡ written v) where
+    code-written : take (count + 1) (set codes count w) ++ written_of written (tokens_at s n) ≡ written_of written (tokens s)
+    code-written =
+        write-next codes (written_of written (tokens_at s at)) (written_of written (tokens_at s n)) (written_of written (tokens s)) count w (omega arith)
+        (ap (map written) next.codes ∙ ap (λ (x : A). x ∷ written_of written (tokens_at s n)) (sym is)) c.coded
 
     pub compile-other : token_words (tokens_at s at) ≡ token_words (tokens_at s n) →
-        Compiling halves main arrivals s codes₀ row₀ (set codes count v) row (count + 1) slots n
+        Compiling written halves main arrivals s codes₀ row₀ (set codes count w) row (count + 1) slots n
     compile-other e = record {
       near = omega arith;
       inside = next.inside;
-      codes-long = length-set codes count v ∙ c.codes-long;
+      codes-long = length-set codes count w ∙ c.codes-long;
       coded = code-written;
       some = c.some;
       left = c.left ∙ e;
@@ -188,15 +190,15 @@ module _ {halves : ℕ} {main arrivals s : List ℕ} {codes₀ : List Code} {row
     }
 
     -- the slot's halves are filled, and the row is row'
-    pub compile-word : {w : List ℕ} {row' : Row} → halves ≤ 2 → token_words (tokens_at s at) ≡ w ∷ token_words (tokens_at s n) →
-        HalvesStand halves main arrivals w slots row'.ranges → HalvesAlone halves slots row.ranges row'.ranges →
-        Compiling halves main arrivals s codes₀ row₀ (set codes count v) row' (count + 1) (slots + 1) n
-    compile-word {w} {row'} both is stand others =
-        let head = drop_head (token_words (tokens s)) slots w (token_words (tokens_at s n)) (c.left ∙ is) in
+    pub compile-word : {bytes : List ℕ} {row' : Row} → halves ≤ 2 → token_words (tokens_at s at) ≡ bytes ∷ token_words (tokens_at s n) →
+        HalvesStand halves main arrivals bytes slots row'.ranges → HalvesAlone halves slots row.ranges row'.ranges →
+        Compiling written halves main arrivals s codes₀ row₀ (set codes count w) row' (count + 1) (slots + 1) n
+    compile-word {bytes} {row'} both e stand others =
+        let head = drop_head (token_words (tokens s)) slots bytes (token_words (tokens_at s n)) (c.left ∙ e) in
         record {
           near = omega arith;
           inside = next.inside;
-          codes-long = length-set codes count v ∙ c.codes-long;
+          codes-long = length-set codes count w ∙ c.codes-long;
           coded = code-written;
           some = omega (arith, head.0);
           left = head.2;
@@ -209,12 +211,12 @@ module _ {halves : ℕ} {main arrivals s : List ℕ} {codes₀ : List Code} {row
   slot-left {w} {more} is = (drop_head (token_words (tokens s)) slots w more (c.left ∙ is)).0
 
   module _ (e : tokens_at s at ≡ []) where
-    pub codes-written : length s ≤ length codes₀ → WritesCodes s codes₀ codes count
+    pub codes-written : length s ≤ length codes₀ → WritesCodes written s codes₀ codes count
     unfolding codes_of
     codes-written room = record {
       long = c.codes-long;
       within = omega arith;
-      coded = sym (append-nil (take count codes)) ∙ ap (λ (r : List Code). take count codes ++ r) (sym (ap codes_of e)) ∙ c.coded;
+      coded = sym (append-nil (take count codes)) ∙ ap (λ (r : List A). take count codes ++ r) (sym (ap (written_of written) e)) ∙ c.coded;
     }
 
     pub slots_filled : FillsSlots halves main arrivals s row₀ row slots

@@ -5,7 +5,7 @@ use Rattle.question.specs.Token.{tokens}
 use Rattle.question.specs.Limits.{token_words}
 use Rattle.question.specs.Grammar.{Tree, tree_words}
 use Rattle.codes.specs.declared.code.Code.{Code}
-use Rattle.codes.specs.Code.{codes_of}
+use Rattle.codes.specs.Code.{written_of}
 use Rattle.slots.specs.declared.row.Entries.{Entries}
 use Rattle.slots.specs.declared.row.Row.{Row}
 use Rattle.slots.specs.Row.{entries_at}
@@ -16,11 +16,11 @@ pub record StandsFor (index word : List ℕ) (e : Entries) : Type 0 where
   pub among : EntriesIn index e
   pub have : (x : ℕ) → entries_have index e x ≡ has index word x
 
--- the first n cells are the question's codes
-pub record WritesCodes (question : List ℕ) (codes codes' : List Code) (n : ℕ) : Type 0 where
+-- the first n cells are the question's codes, as they are written
+pub record WritesCodes {A : Type 0} (written : Code → A) (question : List ℕ) (codes codes' : List A) (n : ℕ) : Type 0 where
   pub long : length codes' ≡ length codes
   pub within : n ≤ length codes
-  pub coded : take n codes' ≡ codes_of (tokens question)
+  pub coded : take n codes' ≡ written_of written (tokens question)
 
 -- the first `halves` halves of slot k, of which 0 is of the main index and 1 of the arrivals, stand for a word
 abbrev pub HalvesStand : ℕ → List ℕ → List ℕ → List ℕ → ℕ → List Entries → Type 0

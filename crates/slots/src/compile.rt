@@ -7,7 +7,7 @@ ghost use Rattle.question.specs.Limits.{token_words};
 ghost use Rattle.slots.specs.Compile.{StandsFor, HalvesStand, HalvesAlone, WritesCodes, FillsSlots};
 
 use crate::row::{Entries, Indexes, Row};
-use codes::code::{Code, token_code};
+use codes::code::{AsCode, Code, token_code};
 use directory::find::find_word;
 use directory::parts::regions_of;
 use question::token::{Token, next_token, token_end};
@@ -50,11 +50,11 @@ fn fill_halves(over: Indexes<'_>, halves: usize, word: &[u8], k: usize, row: &mu
 }
 
 // Where one index is asked, the arrivals' halves are left as they are, and any index may be lent for them.
-pub fn compile(
+pub fn compile<C: AsCode>(
     over: Indexes<'_>,
     halves: usize,
     question: &[u8],
-    codes: &mut [Code],
+    codes: &mut [C],
     row: &mut Row,
 ) -> Compiled
     requires main { Sound over.main.now }
@@ -62,7 +62,7 @@ pub fn compile(
     requires both { halves ≤ 2 }
     requires room { length question.now ≤ length codes.old }
     requires few { length (token_words (tokens question.now)) ≤ question_words_max }
-    ensures codes { WritesCodes question.now codes.old codes.new result.codes }
+    ensures codes { WritesCodes C.written question.now codes.old codes.new result.codes }
     ensures slots { FillsSlots halves over.entry.main.now over.entry.arrivals.now question.now row.old row.new result.slots }
 {
     let mut count = 0;
@@ -81,12 +81,12 @@ pub fn compile(
             Token::Word(start, end) => {
                 fill_halves(over, halves, &question[start..end], slots, row);
                 slots += 1;
-                codes[count] = Code::Word;
+                codes[count] = C::of_code(Code::Word);
                 count += 1;
                 at = end;
             }
             _ => {
-                codes[count] = token_code(token);
+                codes[count] = C::of_code(token_code(token));
                 count += 1;
                 at = token_end(token);
             }

@@ -53,7 +53,7 @@ impl Entries {
 }
 
 // It is made once for a question, and lent from call to call.
-#[derive(Drop)]
+#[derive(Clone, Copy)]
 pub struct Row {
     // range 2 * k of slot k is in the main index, range 2 * k + 1 in the arrivals
     pub ranges: [Entries; RANGES],

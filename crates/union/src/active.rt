@@ -10,7 +10,7 @@ use heap::Heap;
 use limits::JOIN_MAX;
 use list::answer::Tally;
 use list::reading::Interval;
-use merge::keys::{BOUND, LISTS, fill, refill};
+use merge::keys::{BOUND, LISTS, fill, refill_heap};
 use merge::places::{all_at_start, moved_on, next_interval};
 use merge::put::{put, put_where};
 
@@ -65,7 +65,7 @@ pub fn sweep_active(index: &[u8], entries: &[u32], writing: bool, out: &mut [u32
         tally = put_where(apart(active, next), out, writing, tally, active);
         active = joined(active, next);
         places = moved_on(index, entry, places, j);
-        refill(index, entry, places[j], j, &mut keys);
+        refill_heap(index, entry, places[j], j, &mut keys);
     }
     put(out, writing, tally, active)
 }

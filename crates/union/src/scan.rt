@@ -9,7 +9,7 @@ use heap::Heap;
 use limits::JOIN_MAX;
 use list::answer::Tally;
 use list::reading::Interval;
-use merge::keys::{BOUND, LISTS, fill, refill, to_upper};
+use merge::keys::{BOUND, LISTS, fill, refill_heap, to_upper_heap};
 use merge::places::{all_at_start, moved_on};
 use merge::put::put_where;
 
@@ -39,7 +39,7 @@ pub fn sweep_scan(index: &[u8], entries: &[u32], writing: bool, out: &mut [u32])
         if key / LISTS % 2 == 0 {
             lower = begun(count, lower, key / BOUND);
             count += 1;
-            to_upper(index, entry, places[j], j, &mut keys);
+            to_upper_heap(index, entry, places[j], j, &mut keys);
         } else {
             count -= 1;
             let stretch = Interval {
@@ -48,7 +48,7 @@ pub fn sweep_scan(index: &[u8], entries: &[u32], writing: bool, out: &mut [u32])
             };
             tally = put_where(count == 0, out, writing, tally, stretch);
             places = moved_on(index, entry, places, j);
-            refill(index, entry, places[j], j, &mut keys);
+            refill_heap(index, entry, places[j], j, &mut keys);
         }
     }
     tally

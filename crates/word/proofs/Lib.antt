@@ -1,2 +1,3 @@
 pub mod WordLaws
 pub mod SpellingLaws
+pub mod OperatorLaws

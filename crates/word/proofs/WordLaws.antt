@@ -137,12 +137,12 @@ order-step x y xs ys true false p q ih = refl
 order-step x y xs ys false true p q ih = ih
 order-step x y xs ys false false p q ih = refl
 
-pub order-is-cmp : (a b : List ℕ) → order_of a b ≡ slice_cmp nat_cmp a b
+pub order_is_cmp : (a b : List ℕ) → order_of a b ≡ slice_cmp nat_cmp a b
 unfolding order_of same before
-order-is-cmp [] [] = refl
-order-is-cmp [] (y ∷ ys) = refl
-order-is-cmp (x ∷ xs) [] = refl
-order-is-cmp (x ∷ xs) (y ∷ ys) = order-step x y xs ys (ltb x y) (eqb x y) refl refl (order-is-cmp xs ys)
+order_is_cmp [] [] = refl
+order_is_cmp [] (y ∷ ys) = refl
+order_is_cmp (x ∷ xs) [] = refl
+order_is_cmp (x ∷ xs) (y ∷ ys) = order-step x y xs ys (ltb x y) (eqb x y) refl refl (order_is_cmp xs ys)
 
 -- what an answer says
 pub order-is-same : (a b : List ℕ) → order_of a b ≡ Equal → a ≡ b

@@ -2,6 +2,7 @@
 #![tactic(auto)]
 
 ghost use Rattle.std.specs.Prelude.{◌≡◌, cond};
+ghost use Rattle.word.specs.Code.{op_of};
 ghost use Rattle.word.specs.Word.{
   is_word_byte,
   all_word_bytes,
@@ -16,11 +17,25 @@ use limits::WORD_MAX;
 use std::cmp::Ordering;
 
 // The operators of a question.
-#[derive(Clone, Copy)]
+#[derive(Clone, Copy, PartialEq, Eq)]
 pub enum Op {
     And,
     Or,
     Not,
+}
+
+// An operator by a number: 0 and 1 are `and`, 2 is `or`, and every other one is `not`.
+impl From<u8> for Op {
+    ghost from_gives = { λ code op. op ≡ op_of code };
+
+    fn from(code: u8) -> Op {
+        match code {
+            0 => Op::And,
+            1 => Op::And,
+            2 => Op::Or,
+            _ => Op::Not,
+        }
+    }
 }
 
 // Whether a byte is a word byte, without a branch.
@@ -104,6 +119,7 @@ pub fn is_word(s: &[u8], every: bool) -> bool
 }
 
 // The order of two words, byte by byte; the beginning of a word stands before the word.
+#[tactic(auto, using(crate::proofs::WordLaws::order_is_cmp))]
 pub fn compare(a: &[u8], b: &[u8]) -> Ordering
     ensures { result ≡ order_of a.now b.now }
 {

@@ -3,4 +3,4 @@ use Rattle.codes.proofs.PassLaws.{Passing}
 use Rattle.codes.proofs.group.group_codes.Given as goal
 
 abbrev pub invariant-loop-i : goal.invariant-loop-i
-invariant-loop-i l = Passing l.codes l.initial.out l.out l.i l.at
+invariant-loop-i g l = Passing g.C.AsCode.written l.codes l.initial.out l.out l.i l.at

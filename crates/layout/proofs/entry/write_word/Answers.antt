@@ -7,7 +7,7 @@ use borrow.Rule.Slice.PartMut.{put_mid}
 use Rattle.convert.specs.Convert.{intervals_of}
 use Rattle.layout.specs.Layout.{kept_bytes}
 use Rattle.layout.proofs.KeptBytesLaws.{kept-length}
-use Rattle.layout.proofs.WriteLaws.{part-sets, tail-sets, word-entered, tail-length}
+use Rattle.layout.proofs.WriteLaws.{tail-sets, word-entered, tail-length}
 use Rattle.layout.proofs.entry.write_word.Goals as goal
 use Rattle.layout.proofs.entry.write_word.Goals.{After-count_kept-kept}
 
@@ -29,7 +29,7 @@ returns-clause-enters c =
     let with-list = put_mid at.list (length out - at.list) out list.new.out in
     let e = tail-sets at.list out (kept_bytes cells) (omega (arith, room.list, room.bytes, room.entry)) list.ensures in
     let same = tail-length at.list out list.new.out (kept_bytes cells) e in
-    let f = part-sets at.word (at.word + length word - at.word) with-list word (omega arith) (omega (arith, same, room.bytes, room.entry)) c.copy_from_slice.ensures.after in
+    let f = tail-sets at.word with-list word (omega (arith, same, room.bytes, room.entry)) c.write_bytes.ensures in
     let put = c.put_five.ensures in
     word-entered out at word cells kept.ensures.singles kept.ensures.pairs e f put
 

@@ -24,8 +24,8 @@ says c =
 pub loop-m-init : goal.loop-m-init
 loop-m-init c = (moved_none c.args.row.now, range-begun c.args.index.now c.args.x (entries_at c.args.row.now.ranges c.args.j).first c.requires.near)
 
-pub hint_number-requires-clause-few : goal.hint_number-requires-clause-few
-hint_number-requires-clause-few c =
+pub hint_number-hint-requires-clause-few : goal.hint_number-hint-requires-clause-few
+hint_number-hint-requires-clause-few c =
     omega (arith, c.loop-m-test.true, c.requires.among.within, (sound-trailer c.args.index.now c.requires.sound).count-bound)
 
 pub returns-then-inside-clause-steady : goal.returns-then-inside-clause-steady

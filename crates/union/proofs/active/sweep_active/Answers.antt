@@ -32,16 +32,16 @@ put_where-tally-requires c =
     let a = c.requires.sound in
     rw c.apart.ensures (line-fits a inv some least (line-next a inv some least read.lower read.upper) c.requires.room)
 
-pub refill-requires-clause-entry : goal.refill-requires-clause-entry
-refill-requires-clause-entry c =
+pub refill_heap-requires-clause-entry : goal.refill_heap-requires-clause-entry
+refill_heap-requires-clause-entry c =
     let a = c.requires.sound in
-    asked_entry a (j (goal.at.refill-requires-clause-entry c).After-least-key) (list (goal.at.refill-requires-clause-entry c).After-least-key)
+    asked_entry a (j (goal.at.refill_heap-requires-clause-entry c).After-least-key) (list (goal.at.refill_heap-requires-clause-entry c).After-least-key)
 
-pub refill-requires-clause-place : goal.refill-requires-clause-place
-refill-requires-clause-place c =
+pub refill_heap-requires-clause-place : goal.refill_heap-requires-clause-place
+refill_heap-requires-clause-place c =
     let a = c.requires.sound in
     let inv = c.loop-keys.invariant in
-    let on = on_fits a inv.state.read (j (goal.at.refill-requires-clause-place c).After-least-key) (list (goal.at.refill-requires-clause-place c).After-least-key) (goes (goal.at.refill-requires-clause-place c).After-least-key) c.moved_on-places.ensures in
+    let on = on_fits a inv.state.read (j (goal.at.refill_heap-requires-clause-place c).After-least-key) (list (goal.at.refill_heap-requires-clause-place c).After-least-key) (goes (goal.at.refill_heap-requires-clause-place c).After-least-key) c.moved_on-places.ensures in
     on
 
 pub loop-keys-smaller : goal.loop-keys-smaller
@@ -55,7 +55,7 @@ loop-keys-preserved c =
     let a = c.requires.sound in
     let read = c.next_interval-next.ensures in
     line_step a inv some least (line-next a inv some least read.lower read.upper) (rw c.apart.ensures at c.put_where-tally.ensures)
-    c.joined-active.ensures c.moved_on-places.ensures c.refill.ensures
+    c.joined-active.ensures c.moved_on-places.ensures c.refill_heap.ensures
 
 pub put-requires : goal.put-requires
 put-requires c = line-last c.requires.sound c.loop-keys.invariant c.loop-keys-test.false c.requires.room

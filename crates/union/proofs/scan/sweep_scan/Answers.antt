@@ -30,13 +30,13 @@ loop-keys-init c =
     let filled = c.fill-keys.ensures in
     scan-start c.requires.sound c.fill-keys.result.long filled.fills (search rules) c.all_at_start-places.ensures (search rules) (search rules) refl
 
-pub to_upper-requires-clause-entry : goal.to_upper-requires-clause-entry
-to_upper-requires-clause-entry c =
+pub to_upper_heap-requires-clause-entry : goal.to_upper_heap-requires-clause-entry
+to_upper_heap-requires-clause-entry c =
     let a = c.requires.sound in
-    asked_entry a (j (goal.at.to_upper-requires-clause-entry c).After-least-key) (list (goal.at.to_upper-requires-clause-entry c).After-least-key)
+    asked_entry a (j (goal.at.to_upper_heap-requires-clause-entry c).After-least-key) (list (goal.at.to_upper_heap-requires-clause-entry c).After-least-key)
 
-pub to_upper-requires-clause-goes : goal.to_upper-requires-clause-goes
-to_upper-requires-clause-goes c =
+pub to_upper_heap-requires-clause-goes : goal.to_upper_heap-requires-clause-goes
+to_upper_heap-requires-clause-goes c =
     let a = c.requires.sound in
     let inv = c.loop-keys.invariant in
     let some = c.loop-keys-test.true in
@@ -44,8 +44,8 @@ to_upper-requires-clause-goes c =
     lower-goes a inv some least c.if-key-eq0.true
 
 pub loop-keys-preserved-then-key-eq0 : goal.loop-keys-preserved-then-key-eq0
-loop-keys-preserved-then-key-eq0 c = rw c.to_upper.ensures.keeps (lower-step c.requires.sound c.loop-keys.invariant c.loop-keys-test.true c.least-key.ensures c.if-key-eq0.true
-    c.begun-lower.ensures c.to_upper.ensures.refills)
+loop-keys-preserved-then-key-eq0 c = rw c.to_upper_heap.ensures.keeps (lower-step c.requires.sound c.loop-keys.invariant c.loop-keys-test.true c.least-key.ensures c.if-key-eq0.true
+    c.begun-lower.ensures c.to_upper_heap.ensures.refills)
 
 pub overflow_sub-count : goal.overflow_sub-count
 overflow_sub-count c = omega (arith, upper-some c.requires.sound c.loop-keys.invariant c.loop-keys-test.true c.least-key.ensures c.if-key-eq0.false)
@@ -56,16 +56,16 @@ overflow_sub-stretch c = (upper_fits c.requires.sound c.loop-keys.invariant c.lo
 pub put_where-tally-requires : goal.put_where-tally-requires
 put_where-tally-requires c = λ e. (upper_fits c.requires.sound c.loop-keys.invariant c.loop-keys-test.true c.least-key.ensures c.if-key-eq0.false c.requires.room).1 (eqb-true _ 0 e)
 
-pub refill-requires-clause-entry : goal.refill-requires-clause-entry
-refill-requires-clause-entry c =
+pub refill_heap-requires-clause-entry : goal.refill_heap-requires-clause-entry
+refill_heap-requires-clause-entry c =
     let a = c.requires.sound in
-    asked_entry a (j (goal.at.refill-requires-clause-entry c).After-least-key) (list (goal.at.refill-requires-clause-entry c).After-least-key)
+    asked_entry a (j (goal.at.refill_heap-requires-clause-entry c).After-least-key) (list (goal.at.refill_heap-requires-clause-entry c).After-least-key)
 
-pub refill-requires-clause-place : goal.refill-requires-clause-place
-refill-requires-clause-place c =
+pub refill_heap-requires-clause-place : goal.refill_heap-requires-clause-place
+refill_heap-requires-clause-place c =
     let a = c.requires.sound in
     let inv = c.loop-keys.invariant in
-    let on = on_fits a inv.over.read (j (goal.at.refill-requires-clause-place c).After-least-key) (list (goal.at.refill-requires-clause-place c).After-least-key) (goes (goal.at.refill-requires-clause-place c).Else-key-eq0) c.moved_on-places.ensures in
+    let on = on_fits a inv.over.read (j (goal.at.refill_heap-requires-clause-place c).After-least-key) (list (goal.at.refill_heap-requires-clause-place c).After-least-key) (goes (goal.at.refill_heap-requires-clause-place c).Else-key-eq0) c.moved_on-places.ensures in
     on
 
 pub loop-keys-smaller : goal.loop-keys-smaller
@@ -78,7 +78,7 @@ pub loop-keys-preserved : goal.loop-keys-preserved
 loop-keys-preserved c = upper-step c.requires.sound c.loop-keys.invariant c.loop-keys-test.true c.least-key.ensures
     c.if-key-eq0.false
     c.put_where-tally.ensures c.moved_on-places.ensures
-    c.refill.ensures
+    c.refill_heap.ensures
 
 pub returns : goal.returns
 returns c = scan-end c.requires.sound c.loop-keys.invariant c.loop-keys-test.false c.requires.room

@@ -2,7 +2,7 @@ use mathlib.Core.Path.{◌≡◌}
 use native.Mathlib.Omega.{arith}
 use lib.ListN.{length}
 use Rattle.window.proofs.CombineLaws.{upto-combined}
-use Rattle.evaluate.proofs.combine.combine_into.Goals as goal
+use Rattle.evaluate.proofs.combine.combine_by.Goals as goal
 
 pub returns : goal.returns
 returns c =

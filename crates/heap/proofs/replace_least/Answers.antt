@@ -1,5 +1,5 @@
 use Rattle.heap.proofs.SiftLaws.{down-start, down_step, down-stop, down-end}
-use Rattle.heap.proofs.put_for_least.Goals as goal
+use Rattle.heap.proofs.replace_least.Goals as goal
 
 pub returns-then-x-moved : goal.returns-then-x-moved
 returns-then-x-moved c = down-stop c.loop-i.invariant c.lesser_below-below.ensures c.if-x-moved.true

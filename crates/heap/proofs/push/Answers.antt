@@ -1,6 +1,6 @@
 use native.Mathlib.Omega.{arith}
 use Rattle.heap.proofs.SiftLaws.{up_start, up_step, up-end}
-use Rattle.heap.proofs.put_in.Goals as goal
+use Rattle.heap.proofs.push.Goals as goal
 
 pub loop-i-init : goal.loop-i-init
 loop-i-init c = up_start c.requires.room c.requires.ordered

@@ -1,7 +1,7 @@
 -- `or` by `and` of the opposites, `not` by `and` with the opposite of the right side.
 use mathlib.Core.Bool.{not, ◌&&◌}
 use Rattle.senses.proofs.PairedSenses.{paired-or}
-use Rattle.senses.proofs.pair.pair_senses.Goals as goal
+use Rattle.senses.proofs.pair.pair_by.Goals as goal
 
 pub returns-in-And : goal.returns-in-And
 returns-in-And c p q x s t = rw c.in-And.is (c.both.ensures p q x s t)
