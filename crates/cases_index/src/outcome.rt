@@ -15,14 +15,14 @@ fn print_kept(out: &mut impl Write, bytes: &[u8], from: usize) -> Printed {
     }
 }
 
-// The bytes of an index that was written follow in hexadecimal.
+// The bytes of an index that was written follow in hexadecimal, straight to standard output, as `out` is: `{:02x}` writes a byte below 16 in two pieces.
 fn print_wrote(out: &mut impl Write, bytes: &[u8], size: usize) -> Printed {
     write!(out, "wrote {size}")?;
     print_kept(out, bytes, size)?;
     if size <= bytes.len() {
         write!(out, ": ")?;
-        for b in &bytes[..size] {
-            write!(out, "{b:02x}")?;
+        for &b in &bytes[..size] {
+            io::print_hex(1, b as u64, 2);
         }
     }
     Ok(())

@@ -1,5 +1,5 @@
 // The check of an index: refusals 1 to 5. Reference 5.
-ghost use Rattle.std.specs.Prelude.{◌≡◌, not, false, ◌&&◌, ℕ, ◌+◌, ◌*◌, ◌≤◌, ◌<◌, length};
+ghost use Rattle.std.specs.Prelude.{◌≡◌, not, false, Some, ◌&&◌, ℕ, ◌+◌, ◌*◌, ◌≤◌, ◌<◌, length};
 ghost use Rattle.limits.specs.Limits.{index_max, record_max};
 ghost use Rattle.word.specs.Word.{is_word, before};
 ghost use Rattle.index.specs.Format.{word_count};
@@ -113,7 +113,17 @@ fn list_good(index: &[u8], entry: Entry, limit: u32) -> bool
     kept.is_kept(limit)
 }
 
-// The first bad list, where every entry is good.
+// What is found at a place: cold, so that a loop which looks there keeps no answer ready.
+#[cold]
+#[inline(never)]
+fn found(i: usize) -> Option<usize>
+    ensures { result ≡ Some i }
+{
+    Some(i)
+}
+
+// The first bad list, where every entry is good. Its code is its own, whatever stands around the check.
+#[inline(never)]
 fn first_bad_list(index: &[u8], trailer: Trailer) -> Option<usize>
     requires framed { Framed index.now trailer }
     requires entries { (i : ℕ) → i < word_count index.now → bad_entry index.now i ≡ false }
@@ -122,7 +132,7 @@ fn first_bad_list(index: &[u8], trailer: Trailer) -> Option<usize>
     for k in 0..trailer.count {
         let entry = read_entry(index, trailer, k);
         if !list_good(index, entry, trailer.highest) {
-            return Some(k);
+            return found(k);
         }
     }
     None

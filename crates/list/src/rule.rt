@@ -1,5 +1,5 @@
 // The list rule, in one pass over a kept list. Reference 3.4.
-ghost use Rattle.std.specs.Prelude.{◌≡◌, ◌+◌, ◌/◌, ◌≤◌, length, drop};
+ghost use Rattle.std.specs.Prelude.{◌≡◌, ◌+◌, ◌/◌, ◌≤◌, length, drop, eqb};
 ghost use Rattle.limits.specs.Limits.{record_max};
 ghost use Rattle.list.specs.Cell.{numbers_in};
 ghost use Rattle.list.specs.Kept.{is_kept};
@@ -45,6 +45,18 @@ fn pass_singles(singles: &[u8], from: SingleAt, bound: u32, least0: u32) -> Pass
     }
 }
 
+// Whether all the singles from a place on are passed. A function of its own, whose loop is the same code wherever the check is called, and short.
+#[inline(never)]
+fn passes_all(singles: &[u8], from: SingleAt, bound: u32, least: u32) -> bool
+    requires bound { bound ≤ record_max + 1 }
+    requires from { from.0 ≤ length singles.now / 4 }
+    ensures { result ≡ eqb ((passed bound least from.0 (drop from.0 (numbers_in singles.now))).p.0) (length singles.now / 4) }
+{
+    let rest = pass_singles(singles, from, bound, least);
+    let end = rest.p;
+    end.0 == singles.len() / 4
+}
+
 impl Kept<'_> {
     // Whether the three regions are a list within 1 to n that keeps the list rule: by the pairs, with the singles before each passed on the way.
     pub fn is_kept(self, n: u32) -> bool
@@ -55,12 +67,13 @@ impl Kept<'_> {
         let mut p = SingleAt(0);
         let mut least: u32 = 1;
         for q in 0..self.lower.len() / 4 {
-            let l = number_at(self.lower, q);
+            // U is tested before L is read, so that the jumps of a turn lie apart
             let u = number_at(self.upper, q);
-            if u <= l {
+            if n < u {
                 return false;
             }
-            if n < u {
+            let l = number_at(self.lower, q);
+            if u <= l {
                 return false;
             }
             let pass = pass_singles(self.singles, p, l, least);
@@ -70,8 +83,6 @@ impl Kept<'_> {
             p = pass.p;
             least = u + 2;
         }
-        let rest = pass_singles(self.singles, p, n + 1, least);
-        let end = rest.p;
-        end.0 == self.singles.len() / 4
+        passes_all(self.singles, p, n + 1, least)
     }
 }

@@ -23,7 +23,7 @@ returns-then-not-list_good c =
     let at = c.loop-k in
     let index = c.args.index.now in
     let rule = c.list_good.ensures at.k c.read_entry-entry.ensures c.requires.framed.is.highest in
-    sym (at.invariant.1 ∙ first-hit (bad_list index) at.k (word_count index) (omega arith) (told-bad _ _ rule c.if-not-list_good.true))
+    c.found.ensures ∙ sym (at.invariant.1 ∙ first-hit (bad_list index) at.k (word_count index) (omega arith) (told-bad _ _ rule c.if-not-list_good.true))
 
 pub loop-k-preserved : goal.loop-k-preserved
 loop-k-preserved c =

@@ -1,9 +1,11 @@
 -- A pair breaks the rule, by itself or by the singles before it, or the rule is left to what follows it.
-use Prim.Native.Nat.{ℕ, ◌<◌}
-use mathlib.Core.Path.{◌≡◌, sym, ◌∙◌}
+use Prim.Native.Nat.{ℕ, ◌+◌, ◌<◌}
+use mathlib.Core.Path.{◌≡◌, refl, sym, ap, ◌∙◌}
 use native.Mathlib.Omega.{arith}
 use mathlib.Core.List.{List}
-use lib.ListN.{length}
+use lib.Dec.{eqb}
+use lib.ListN.{length, drop}
+use Rattle.list.specs.Passed.{passed}
 use Rattle.list.specs.Cell.{numbers_in}
 use Rattle.list.proofs.CellLaws.{numbers_in-length}
 use Rattle.list.proofs.PassedLaws.{kept-start, kept-pair-short, kept-pair-over, turn_near, turn_on, end-decides}
@@ -65,17 +67,15 @@ loop-q-preserved c =
     c.if-l-pass.false in
     record { single = t.0; rule = l.invariant.rule ∙ t.1 }
 
-pub pass_singles-rest-requires-clause-from : goal.pass_singles-rest-requires-clause-from
-pass_singles-rest-requires-clause-from c = omega (arith, numbers_in-length c.args.self.singles.now, c.loop-q.invariant.single)
+pub passes_all-requires-clause-from : goal.passes_all-requires-clause-from
+passes_all-requires-clause-from c = omega (arith, numbers_in-length c.args.self.singles.now, c.loop-q.invariant.single)
 
 pub returns : goal.returns
 returns c =
-    let rest = c.pass_singles-rest in
     let l = c.loop-q in
     let s = (goal.at.returns c).Start in
-    let ns = numbers_in-length c.args.self.singles.now in
-    sym
-    (l.invariant.rule
-    ∙ end-decides c.args.n (S s) (L s) (U s) c.requires.limit (long s) l.least l.p.0 l.q l.invariant.single rest.result
-    (omega (arith, numbers_in-length c.args.self.lower.now, l.auto.q-end, c.loop-q-test.false)) rest.ensures
-    ∙ rw ns)
+    let rest = passed (c.args.n + 1) l.least l.p.0 (drop l.p.0 (S s)) in
+    let decides =
+    end-decides c.args.n (S s) (L s) (U s) c.requires.limit (long s) l.least l.p.0 l.q l.invariant.single rest
+    (omega (arith, numbers_in-length c.args.self.lower.now, l.auto.q-end, c.loop-q-test.false)) refl in
+    c.passes_all.ensures ∙ sym (l.invariant.rule ∙ decides ∙ ap (λ (v : ℕ). eqb rest.p.0 v) (numbers_in-length c.args.self.singles.now))
